@@ -1,2 +1,9 @@
 pub mod Value
 pub mod Rules
+pub mod Circuit
+pub mod Sheet
+pub mod Table
+pub mod Machine
+pub mod Calls
+pub mod Fresh
+pub mod Words

@@ -1,0 +1,59 @@
+-- Two worked cases, computed by the definitions: a chain of two figures that is caught up in part, and the example day.
+-- Assumes nothing.
+use Prim.Native.Nat.{ℕ}
+use mathlib.Core.Path.{_≡_, refl}
+use mathlib.Core.Bool.{true, false}
+use mathlib.Core.List.{List, [], _∷_}
+use mathlib.Core.Option.{Option, none, some}
+use lib.IntN.{ℤ, pos, negsuc}
+use Rattle.circuit.specs.Value.{Value, null, num, inRange, limit}
+use Rattle.circuit.specs.Rules.{sum, difference, apply, numbers, total, anyOut}
+use Rattle.circuit.specs.Sheet.{Sheet, entry, figure, defer, member}
+use Rattle.circuit.specs.Table.{Table, Cell, held, unk, unmarked, notice, openBare}
+use Rattle.circuit.specs.Machine.{gather, workOut, lookFor, lookUp, work, storePosting, keepFigure, dropFigure, tellChild, tellBelow, tell, clearMark, stepItem, lowestMarked, catchUpIn, catchUp}
+use Rattle.circuit.specs.Calls.{Call, post, keep, drop, step, ask, Outcome, perform, run, tests, firstCause, effect, postedValue}
+
+-- entry 0, figure 1 = sum of item 0, figure 2 = sum of item 1; keep and spread 0
+unfoldable pub chain : Sheet
+chain = entry ∷ figure sum false defer (0 ∷ []) ∷ figure sum false defer (1 ∷ []) ∷ []
+
+unfoldable pub chainCalls : List Call
+chainCalls = post 0 3 (pos 1) ∷ keep 2 ∷ post 0 3 (pos 6) ∷ step 0 ∷ keep 1 ∷ []
+
+unfoldable pub chainTable : Table
+chainTable = run chain (openBare chain) chainCalls
+
+-- Figure 1 is 6 and carries notice still, so that the next ask for figure 2 gives 6 and not 1.
+pub chain-kept : chainTable 1 ≡ held (num (pos 6)) notice
+unfolding chain chainCalls chainTable run perform tests firstCause effect postedValue keepFigure storePosting stepItem tell tellBelow tellChild clearMark lookUp lookFor work workOut gather apply numbers total anyOut inRange limit member
+chain-kept = refl
+
+pub chain-read : perform chain chainTable (ask 2) .reading ≡ some (num (pos 6))
+unfolding chain chainCalls chainTable run perform tests firstCause effect postedValue keepFigure storePosting stepItem tell tellBelow tellChild clearMark lookUp lookFor work workOut gather apply numbers total anyOut inRange limit member catchUp catchUpIn lowestMarked
+chain-read = refl
+
+-- the example sheet: entries 0, 1, 2; figure 3 = sum of items 0 and 2, kept; figure 4 = item 3 minus item 1
+unfoldable pub daySheet : Sheet
+daySheet =
+    entry ∷ entry ∷ entry ∷ figure sum true defer (0 ∷ 2 ∷ []) ∷ figure difference false defer (3 ∷ 1 ∷ []) ∷ []
+
+unfoldable pub dayCalls : List Call
+dayCalls =
+    post 0 3 (pos 1000) ∷ post 1 3 (pos 300) ∷ ask 4 ∷ post 2 3 (negsuc 199) ∷ ask 4 ∷ drop 0 ∷ ask 9 ∷ []
+
+-- the numbers and readings of a list of calls
+pub record Line : Type 0 where
+  pub number : ℕ
+  pub reading : Option Value
+
+abbrev pub line : ℕ → Option Value → Line
+line k v = record { number = k; reading = v }
+
+unfoldable pub lines : Sheet → Table → List Call → List Line
+lines S T [] = []
+lines S T (c ∷ cs) = line (perform S T c .number) (perform S T c .reading) ∷ lines S (perform S T c .table) cs
+
+pub day-lines : lines daySheet (openBare daySheet) dayCalls
+    ≡ line 0 none ∷ line 0 none ∷ line 0 (some (num (pos 700))) ∷ line 0 none ∷ line 0 (some (num (pos 500))) ∷ line 12 none ∷ line 11 none ∷ []
+unfolding daySheet dayCalls lines perform tests firstCause effect postedValue keepFigure dropFigure storePosting stepItem tell tellBelow tellChild clearMark lookUp lookFor work workOut gather apply numbers total anyOut inRange limit member catchUp catchUpIn lowestMarked
+day-lines = refl

@@ -1,0 +1,138 @@
+-- The five calls with their refusals, on a sheet and a table that were accepted, and lists of calls. The refusals of
+-- sheets, indexes and tables need bytes, and join above. Assumes nothing.
+use Prim.Native.Nat.{ℕ, zero, suc}
+use mathlib.Core.Bool.{Bool, true, false, cond, not}
+use mathlib.Core.List.{List, [], _∷_, _++_}
+use mathlib.Core.Option.{Option, none, some}
+use lib.Dec.{eqb}
+use lib.IntN.{ℤ, pos}
+use Rattle.circuit.specs.Value.{Value, null, num, inRange, sameNumber}
+use Rattle.circuit.specs.Sheet.{Sheet, itemAt, isFigure, beyond}
+use Rattle.circuit.specs.Table.{Table, isMarked}
+use Rattle.circuit.specs.Machine.{Looked, storePosting, keepFigure, dropFigure, stepItem, catchUp, lookUp}
+
+-- A call with its arguments as given: the item, and of a post the kind and the number.
+pub data Call : Type 0 where
+  post : ℕ → ℕ → ℤ → Call
+  keep drop step ask : ℕ → Call
+
+-- The value of a posted kind and number: NULL is kind 1 with 0, a number is kind 3 within the range; none is refused (13).
+unfoldable pub postedValue : ℕ → ℤ → Option Value
+postedValue kind z =
+    cond (eqb kind 1) (cond (sameNumber z (pos 0)) (some null) none)
+    (cond (eqb kind 3) (cond (inRange z) (some (num z)) none) none)
+
+abbrev pub isNone : {A : Type 0} → Option A → Bool
+isNone none = true
+isNone (some a) = false
+
+-- the causes, by their numbers
+abbrev pub noItem : Sheet → ℕ → Bool
+noItem S i = beyond S i
+
+abbrev pub notEntry : Sheet → ℕ → Bool
+notEntry S i = isFigure (itemAt S i)
+
+abbrev pub notFigure : Sheet → ℕ → Bool
+notFigure S i = not (isFigure (itemAt S i))
+
+abbrev pub notPostable : ℕ → ℤ → Bool
+notPostable kind z = isNone (postedValue kind z)
+
+abbrev pub noMark : Table → ℕ → Bool
+noMark T i = not (isMarked (T i))
+
+-- a refusal's number with its test
+pub record Test : Type 0 where
+  pub number : ℕ
+  pub holds : Bool
+
+abbrev pub test : ℕ → Bool → Test
+test k b = record { number = k; holds = b }
+
+-- the number of the first test that holds, or 0
+unfoldable pub firstCause : List Test → ℕ
+firstCause [] = 0
+firstCause (t ∷ ts) = cond (t .holds) (t .number) (firstCause ts)
+
+-- the tests of a call, in their order
+unfoldable pub tests : Sheet → Table → Call → List Test
+tests S T (post i kind z) = test 11 (noItem S i) ∷ test 12 (notEntry S i) ∷ test 13 (notPostable kind z) ∷ []
+tests S T (keep i) = test 11 (noItem S i) ∷ test 12 (notFigure S i) ∷ []
+tests S T (drop i) = test 11 (noItem S i) ∷ test 12 (notFigure S i) ∷ []
+tests S T (step i) = test 11 (noItem S i) ∷ test 14 (noMark T i) ∷ []
+tests S T (ask i) = test 11 (noItem S i) ∷ []
+
+-- what a call gives: its number, the value of an accepted ask, and the table afterwards
+pub record Outcome : Type 0 where
+  pub number : ℕ
+  pub reading : Option Value
+  pub table : Table
+
+abbrev pub outcome : ℕ → Option Value → Table → Outcome
+outcome k v T = record { number = k; reading = v; table = T }
+
+abbrev pub postIt : Table → ℕ → Option Value → Table
+postIt T i none = T
+postIt T i (some v) = storePosting T i v
+
+abbrev pub readingOf : Looked → Outcome
+readingOf r = outcome 0 (some (r .value)) (r .table)
+
+-- the call itself, where no cause holds
+unfoldable pub effect : Sheet → Table → Call → Outcome
+effect S T (post i kind z) = outcome 0 none (postIt T i (postedValue kind z))
+effect S T (keep i) = outcome 0 none (keepFigure S T i)
+effect S T (drop i) = outcome 0 none (dropFigure T i)
+effect S T (step i) = outcome 0 none (stepItem S T i)
+effect S T (ask i) = readingOf (lookUp S (catchUp S T) i)
+
+abbrev pub unless : ℕ → Sheet → Table → Call → Outcome
+unless zero S T c = effect S T c
+unless (suc k) S T c = outcome (suc k) none T
+
+-- a call: refused by its first cause, or accepted with number 0
+unfoldable pub perform : Sheet → Table → Call → Outcome
+perform S T c = unless (firstCause (tests S T c)) S T c
+
+-- the table after a list of calls
+unfoldable pub run : Sheet → Table → List Call → Table
+run S T [] = T
+run S T (c ∷ cs) = run S (perform S T c .table) cs
+
+-- an entry and what was stored in it
+pub record Posting : Type 0 where
+  pub entry : ℕ
+  pub value : Value
+
+abbrev pub postingOf : ℕ → Option Value → List Posting
+postingOf i none = []
+postingOf i (some v) = record { entry = i; value = v } ∷ []
+
+-- The postings that a call makes: 01's "accepted" post makes one, the other calls and a refused post none.
+abbrev pub madeBy : Call → List Posting
+madeBy (post i kind z) = postingOf i (postedValue kind z)
+madeBy (keep i) = []
+madeBy (drop i) = []
+madeBy (step i) = []
+madeBy (ask i) = []
+
+abbrev pub ifAccepted : ℕ → List Posting → List Posting
+ifAccepted zero ps = ps
+ifAccepted (suc k) ps = []
+
+unfoldable pub made : Sheet → Table → Call → List Posting
+made S T c = ifAccepted (perform S T c .number) (madeBy c)
+
+-- the postings that a list of calls makes, in order
+unfoldable pub postings : Sheet → Table → List Call → List Posting
+postings S T [] = []
+postings S T (c ∷ cs) = made S T c ++ postings S (perform S T c .table) cs
+
+-- the figure k is named by a call that drops
+abbrev pub drops : Call → ℕ → Bool
+drops (post i kind z) k = false
+drops (keep i) k = false
+drops (drop i) k = eqb k i
+drops (step i) k = false
+drops (ask i) k = false

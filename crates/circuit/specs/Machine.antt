@@ -1,0 +1,210 @@
+-- The machine: looking up, working out, storing a posting, keeping, dropping, telling, stepping and catching up, on a
+-- table that is well formed. The refusals stand in Calls. Assumes nothing.
+use Prim.Native.Nat.{ℕ, zero, suc, _*_}
+use mathlib.Core.Bool.{Bool, true, false, cond, _||_}
+use mathlib.Core.List.{List, [], _∷_}
+use mathlib.Core.Option.{Option, none, some}
+use Rattle.circuit.specs.Value.{Value, null, same}
+use Rattle.circuit.specs.Sheet.{Sheet, Item, Spread, defer, renew, forget, size, itemAt, parents, keptOf, spreadOf, isChild, evaluate}
+use Rattle.circuit.specs.Table.{Table, Cell, Mark, unmarked, refresh, notice, unk, held, upd, isNotice, noticeIf, isMarked}
+
+-- what looking up or working out an item gives: the table afterwards, the value, and whether it is flagged
+pub record Looked : Type 0 where
+  pub table : Table
+  pub value : Value
+  pub flag : Bool
+
+abbrev pub looked : Table → Value → Bool → Looked
+looked T v f = record { table = T; value = v; flag = f }
+
+-- several items looked up one after the other: the values in order, flagged if any item was
+pub record Gathered : Type 0 where
+  pub table : Table
+  pub values : List Value
+  pub flag : Bool
+
+abbrev pub gathered : Table → List Value → Bool → Gathered
+gathered T vs f = record { table = T; values = vs; flag = f }
+
+abbrev pub before : Looked → Gathered → Gathered
+before r g = gathered (g .table) (r .value ∷ g .values) (r .flag || g .flag)
+
+-- the items ps looked up in their listed order, each on the table that the one before it left
+unfoldable pub gather : (Table → ℕ → Looked) → Table → List ℕ → Gathered
+gather look T [] = gathered T [] false
+gather look T (p ∷ ps) = before (look T p) (gather look (look T p .table) ps)
+
+abbrev pub ruleOn : Item → Gathered → Looked
+ruleOn it g = looked (g .table) (evaluate it null (g .values)) (g .flag)
+
+-- Working out figure i: its parents are looked up and its rule applied. It is flagged if any parent was.
+unfoldable pub workOut : (Table → ℕ → Looked) → Sheet → Table → ℕ → Looked
+workOut look S T i = ruleOn (itemAt S i) (gather look T (parents S i))
+
+-- the result is stored at i, with mark notice if it is flagged
+abbrev pub storeResult : ℕ → Looked → Table
+storeResult i r = upd (r .table) i (held (r .value) (noticeIf (r .flag)))
+
+abbrev pub storeIf : Bool → ℕ → Looked → Looked
+storeIf true i r = looked (storeResult i r) (r .value) (r .flag)
+storeIf false i r = r
+
+-- flagged also where f is true
+abbrev pub flagged : Bool → Looked → Looked
+flagged f r = looked (r .table) (r .value) (r .flag || f)
+
+-- Looking up an item, by its cell. A stored item gives its value, flagged if its mark is notice. An UNK figure is worked
+-- out, and flagged too if its own mark is notice; where it is kept, the result is stored.
+abbrev pub lookCell : (Table → ℕ → Looked) → Sheet → Table → ℕ → Cell → Looked
+lookCell look S T i (held v m) = looked T v (isNotice m)
+lookCell look S T i (unk f) = storeIf (keptOf (itemAt S i)) i (flagged f (workOut look S T i))
+
+-- Looking up and working out call each other up the circuit; the first argument bounds how far. As parents have lower
+-- numbers, i + 1 is enough for item i.
+unfoldable pub lookFor : ℕ → Sheet → Table → ℕ → Looked
+lookFor zero S T i = looked T null false
+lookFor (suc fuel) S T i = lookCell (lookFor fuel S) S T i (T i)
+
+-- 01's "looking up"
+unfoldable pub lookUp : Sheet → Table → ℕ → Looked
+lookUp S T i = lookFor (suc i) S T i
+
+-- 01's "working out"
+unfoldable pub work : Sheet → Table → ℕ → Looked
+work S T i = workOut (lookUp S) S T i
+
+-- The storing of a posting: an equal value changes nothing, any other is stored with mark notice.
+abbrev pub postCell : Cell → Value → Cell
+postCell (unk f) v = held v notice
+postCell (held w m) v = cond (same w v) (held w m) (held v notice)
+
+unfoldable pub storePosting : Table → ℕ → Value → Table
+storePosting T e v = upd T e (postCell (T e) v)
+
+-- Keep: a figure that is not stored is looked up and stored, whatever its keep byte.
+abbrev pub keepCell : Sheet → Table → ℕ → Cell → Table
+keepCell S T i (unk f) = storeResult i (lookUp S T i)
+keepCell S T i (held v m) = T
+
+unfoldable pub keepFigure : Sheet → Table → ℕ → Table
+keepFigure S T i = keepCell S T i (T i)
+
+-- Drop: UNK; mark refresh becomes notice, other marks remain.
+abbrev pub droppedMark : Mark → Bool
+droppedMark unmarked = false
+droppedMark refresh = true
+droppedMark notice = true
+
+abbrev pub dropCell : Cell → Cell
+dropCell (unk f) = unk f
+dropCell (held v m) = unk (droppedMark m)
+
+unfoldable pub dropFigure : Table → ℕ → Table
+dropFigure T i = upd T i (dropCell (T i))
+
+-- A figure that holds v, with mark m, is worked out anew. If the result differs it is stored with mark notice; if it is
+-- equal, v stays with mark m.
+abbrev pub renewed : ℕ → Value → Mark → Looked → Table
+renewed i v m r = upd (r .table) i (cond (same v (r .value)) (held v m) (held (r .value) notice))
+
+-- a refresh is cleared, a notice stays
+abbrev pub refreshCleared : Mark → Mark
+refreshCleared unmarked = unmarked
+refreshCleared refresh = unmarked
+refreshCleared notice = notice
+
+abbrev pub renewChild : Sheet → Table → ℕ → Value → Mark → Table
+renewChild S T c v m = renewed c v (refreshCleared m) (work S T c)
+
+-- a stored child that defers: refresh is set, unless its mark is notice, when it acts as renew
+abbrev pub deferChild : Sheet → Table → ℕ → Value → Mark → Table
+deferChild S T c v unmarked = upd T c (held v refresh)
+deferChild S T c v refresh = upd T c (held v refresh)
+deferChild S T c v notice = renewChild S T c v notice
+
+abbrev pub tellStored : Spread → Sheet → Table → ℕ → Value → Mark → Table
+tellStored defer S T c v m = deferChild S T c v m
+tellStored renew S T c v m = renewChild S T c v m
+tellStored forget S T c v m = upd T c (unk true)
+
+-- Telling one child: an UNK child gets notice, a stored one goes by its spread.
+abbrev pub tellCell : Sheet → Table → ℕ → Cell → Table
+tellCell S T c (unk f) = upd T c (unk true)
+tellCell S T c (held v m) = tellStored (spreadOf (itemAt S c)) S T c v m
+
+unfoldable pub tellChild : Sheet → Table → ℕ → Table
+tellChild S T c = tellCell S T c (T c)
+
+abbrev pub tellIf : Bool → Sheet → Table → ℕ → Table
+tellIf true S T c = tellChild S T c
+tellIf false S T c = T
+
+-- the children of i below k are told, lowest first, once each
+unfoldable pub tellBelow : Sheet → ℕ → Table → ℕ → Table
+tellBelow S i T zero = T
+tellBelow S i T (suc k) = tellIf (isChild S i k) S (tellBelow S i T k) k
+
+-- 01's "telling": all the children of i
+unfoldable pub tell : Sheet → Table → ℕ → Table
+tell S T i = tellBelow S i T (size S)
+
+abbrev pub clearCell : Cell → Cell
+clearCell (unk f) = unk false
+clearCell (held v m) = held v unmarked
+
+unfoldable pub clearMark : Table → ℕ → Table
+clearMark T i = upd T i (clearCell (T i))
+
+-- Step, by the cell of the item. Refresh: worked out anew from its parents, and the mark is cleared, or a new value is
+-- stored with notice. Notice: the children are told, and then the mark is cleared. No mark: nothing.
+abbrev pub stepMark : Sheet → Table → ℕ → Value → Mark → Table
+stepMark S T i v unmarked = T
+stepMark S T i v refresh = renewed i v unmarked (work S T i)
+stepMark S T i v notice = clearMark (tell S T i) i
+
+abbrev pub stepCell : Sheet → Table → ℕ → Cell → Table
+stepCell S T i (unk true) = clearMark (tell S T i) i
+stepCell S T i (unk false) = T
+stepCell S T i (held v m) = stepMark S T i v m
+
+unfoldable pub stepItem : Sheet → Table → ℕ → Table
+stepItem S T i = stepCell S T i (T i)
+
+-- the lowest marked item below k, if there is one
+abbrev pub orNext : Option ℕ → Bool → ℕ → Option ℕ
+orNext (some i) m k = some i
+orNext none true k = some k
+orNext none false k = none
+
+unfoldable pub lowestMarked : Table → ℕ → Option ℕ
+lowestMarked T zero = none
+lowestMarked T (suc k) = orNext (lowestMarked T k) (isMarked (T k)) k
+
+-- 01's "catching up" within an ask: the lowest marked item is stepped until none is marked. The number bounds how often;
+-- that no item is marked afterwards shows that it never is the reason to stop.
+abbrev pub stepLowest : (Table → Table) → Sheet → Table → Option ℕ → Table
+stepLowest next S T none = T
+stepLowest next S T (some i) = next (stepItem S T i)
+
+unfoldable pub catchUpIn : ℕ → Sheet → Table → Table
+catchUpIn zero S T = T
+catchUpIn (suc fuel) S T = stepLowest (catchUpIn fuel S) S T (lowestMarked T (size S))
+
+unfoldable pub catchUp : Sheet → Table → Table
+catchUp S T = catchUpIn (2 * size S) S T
+
+-- The ascending sweep, which is what the code runs: each item in turn is stepped while it is marked, which is twice at
+-- most (a refresh may become a notice).
+abbrev pub stepIf : Bool → Sheet → Table → ℕ → Table
+stepIf true S T i = stepItem S T i
+stepIf false S T i = T
+
+unfoldable pub stepMarked : Sheet → Table → ℕ → Table
+stepMarked S T i = stepIf (isMarked (T i)) S T i
+
+unfoldable pub sweepBelow : Sheet → Table → ℕ → Table
+sweepBelow S T zero = T
+sweepBelow S T (suc k) = stepMarked S (stepMarked S (sweepBelow S T k) k) k
+
+unfoldable pub sweep : Sheet → Table → Table
+sweep S T = sweepBelow S T (size S)

@@ -1,0 +1,36 @@
+-- The words of the agreement of two offices and of what stays stored. Assumes nothing.
+use Prim.Native.Nat.{ℕ, _<_}
+use mathlib.Core.Path.{_≡_}
+use mathlib.Core.Bool.{Bool, true, false, _||_}
+use mathlib.Core.List.{List, [], _∷_}
+use Rattle.circuit.specs.Value.{Value}
+use Rattle.circuit.specs.Circuit.{Listed}
+use Rattle.circuit.specs.Sheet.{Sheet, Entries, size, itemAt, isFigure, parents}
+use Rattle.circuit.specs.Table.{Table, isStored, isMarked, cellForm, valueIn}
+use Rattle.circuit.specs.Calls.{Call, drops}
+
+-- the table is well formed for the sheet: each entry is stored, without refresh
+abbrev pub Formed : Sheet → Table → Type 0
+Formed S T = (i : ℕ) → i < size S → cellForm (itemAt S i) (T i) ≡ true
+
+-- 01's "no mark stands"
+abbrev pub Quiet : Sheet → Table → Type 0
+Quiet S T = (i : ℕ) → i < size S → isMarked (T i) ≡ false
+
+-- the entries of the table hold E
+abbrev pub Holds : Sheet → Table → Entries → Type 0
+Holds S T E = (i : ℕ) → i < size S → isFigure (itemAt S i) ≡ false → valueIn (T i) ≡ E i
+
+-- no figure is stored
+abbrev pub Bare : Sheet → Table → Type 0
+Bare S T = (i : ℕ) → i < size S → isFigure (itemAt S i) ≡ true → isStored (T i) ≡ false
+
+-- 01's "leads to": e leads to each figure that lists it as a parent, and to each that lists a figure it leads to
+pub data LeadsTo (S : Sheet) (e : ℕ) : ℕ → Type 0 where
+  direct : {k : ℕ} → Listed e (parents S k) → LeadsTo S e k
+  further : {j k : ℕ} → LeadsTo S e j → Listed j (parents S k) → LeadsTo S e k
+
+-- 01's "dropped": some drop of the list names k
+unfoldable pub droppedIn : List Call → ℕ → Bool
+droppedIn [] k = false
+droppedIn (c ∷ cs) k = drops c k || droppedIn cs k
