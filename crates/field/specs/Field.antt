@@ -1,7 +1,7 @@
 -- What stands at an offset of a list of bytes: a whole field, a field that runs past the end, or nothing. The bytes that a field is.
 use Prim.Native.Nat.{ℕ, _+_, _*_, _/_, _%_, _<_}
 use mathlib.Core.List.{List, _∷_}
-use mathlib.Core.Bool.{Bool, true, false}
+use mathlib.Core.Bool.{cond}
 use lib.ListN.{length, getD}
 use lib.Dec.{ltb, leb}
 use Rattle.field.specs.declared.Cut.{Cut}
@@ -23,16 +23,12 @@ Bytes s = (i : ℕ) → getD s i 0 < 256
 abbrev pub lenAt : List ℕ → ℕ → ℕ
 lenAt s at = le16At s (at + 1)
 
-abbrev pub when : Bool → Cut → Cut → Cut
-when true a b = a
-when false a b = b
-
 -- absent: no byte at the offset; short: the header of 3 bytes or the content runs past the end; else the field
 unfoldable pub cutAt : List ℕ → ℕ → Cut
 cutAt s at =
-    when (leb (length s) at) Absent
-    (when (ltb (length s) (at + 3)) Short
-    (when (ltb (length s) (at + 3 + lenAt s at)) Short
+    cond (leb (length s) at) Absent
+    (cond (ltb (length s) (at + 3)) Short
+    (cond (ltb (length s) (at + 3 + lenAt s at)) Short
     (Field (getD s at 0) (at + 3) (lenAt s at) (at + 3 + lenAt s at))))
 
 -- the bytes of a field: its tag, its length in two bytes, its content
