@@ -154,12 +154,12 @@ cut-written pre content post tag low high e =
     let h : getD s (length pre + 1 + 1) 0 ≡ high = ap (λ n. getD s n 0) two ∙ getD-append-add pre ys 2 0 in
     field-iff s (length pre) tag (length pre + 3) (length content) (length pre + 3 + length content) .1
     (record {
-       tag-is = sym (getD-append-seam pre tag (low ∷ high ∷ content ++ post) 0);
-       len-is = omega arith;
-       start-is = refl;
-       next-is = refl;
-       next-in = omega (arith, length-append pre ys, length-append content post)
-     })
+      tag-is = sym (getD-append-seam pre tag (low ∷ high ∷ content ++ post) 0);
+      len-is = omega arith;
+      start-is = refl;
+      next-is = refl;
+      next-in = omega (arith, length-append pre ys, length-append content post);
+    })
 
 pub cut-fieldBytes : (pre content post : List ℕ) (tag : ℕ)
     → cutAt (pre ++ (fieldBytes tag content ++ post)) (length pre) ≡ Field tag (length pre + 3) (length content) (length pre + 3 + length content)
