@@ -192,3 +192,12 @@ module _ (s : List ℕ) (at tag start len next : ℕ) (f : FieldAt s at tag star
       let l : length (take len (drop start s)) % 256 ≡ getD s (at + 1) 0 = cc (le16-low (getD s (at + 1) 0) (getD s (at + 2) 0) (b (at + 1))) in
       let h : length (take len (drop start s)) / 256 ≡ getD s (at + 2) 0 = cc (le16-high (getD s (at + 1) 0) (getD s (at + 2) 0) (b (at + 1))) in
       cc (cut-back)
+
+-- The first field of a sheet of 5 items, cut out of its 7 bytes; a header and a content that run past the end; the end.
+
+abbrev first : List ℕ
+first = 1 ∷ 4 ∷ 0 ∷ 1 ∷ 0 ∷ 5 ∷ 0 ∷ []
+
+first-cuts : (cutAt first 0 ≡ Field 1 3 4 7) × (cutAt first 4 ≡ Short) × (cutAt first 5 ≡ Short) × (cutAt first 7 ≡ Absent)
+unfolding cutAt
+first-cuts = (refl, refl, refl, refl)

@@ -69,7 +69,7 @@ impl<'a> Reader<'a> {
 
     // The field at the reader's offset.
     pub fn next(self) -> Cut
-        ensures { λ r. ⌜ r ≡ cutAt (now (self .entry .src)) (self .entry .at) ⌝ }
+        ensures { λ c. ⌜ c ≡ cutAt (now (self .entry .src)) (self .entry .at) ⌝ }
     {
         cut_at(self.src, self.at)
     }
@@ -77,7 +77,7 @@ impl<'a> Reader<'a> {
 
 // The field at an offset, by a reader.
 pub fn field_at(s: &[u8], at: usize) -> Cut
-    ensures { λ r. ⌜ r ≡ cutAt (now (s .entry)) at ⌝ }
+    ensures { λ c. ⌜ c ≡ cutAt (now (s .entry)) at ⌝ }
 {
     Reader::new(s, at).next()
 }

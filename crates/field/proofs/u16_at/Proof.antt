@@ -20,10 +20,14 @@ shared-slice-read-high : tie.Need-shared-slice-read-high
 shared-slice-read-high c = search needs
 
 cast-high : tie.Need-cast-high
-cast-high c = omega (arith, c .shared-slice-known2 .given (c .before .before .args .at + 1))
+cast-high c =
+    let at = c .before .before .args .at in
+    omega (arith, c .shared-slice-known2 .given at, c .shared-slice-known2 .given (at + 1))
 
 mul-result : tie.Need-mul-result
-mul-result c = omega (arith, c .shared-slice-known2 .given (c .before .before .args .at + 1))
+mul-result c =
+    let at = c .before .before .args .at in
+    omega (arith, c .shared-slice-known2 .given at, c .shared-slice-known2 .given (at + 1))
 
 add-result : tie.Need-add-result
 add-result c =
