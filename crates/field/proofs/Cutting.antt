@@ -1,9 +1,9 @@
 -- Laws of cutting bytes into fields. What `cutAt` gives is told by three equivalences, one for each variant, so that nobody else opens it;
 -- and a field that was written is cut out as it was, whatever stands before and after it. Assumes nothing.
 use mathlib.Core.Path.{_≡_, refl, sym, ap, _∙_}
-use mathlib.Core.List.{List, [], _∷_, _++_, append-assoc}
+use mathlib.Core.List.{List, [], _∷_, _++_}
 use mathlib.Core.Logic.{_⊎_, inl, inr, ⊎-elim, _↔_}
-use Prim.Native.Nat.{ℕ, zero, suc, _+_, _*_, _/_, _%_, _≤_, _<_}
+use Prim.Native.Nat.{ℕ, zero, suc, _+_, _/_, _%_, _≤_, _<_}
 use native.Mathlib.Omega.{arith}
 use native.Mathlib.Decide.{decLe, decLt}
 use native.Mathlib.Numerals.{add-one, add-two, add-three}
@@ -140,6 +140,17 @@ module _ (s : List ℕ) (at : ℕ) where
     -- its content is as long as it says
     pub content-length : FieldAt s at tag start len next → length (take len (drop start s)) ≡ len
     content-length f = simp (length-take, length-drop) (omega arith)
+
+-- What a caller of `field_at` that matched on its result c knows in each arm.
+module _ (s : List ℕ) (at : ℕ) {c : Cut} (e : c ≡ cutAt s at) where
+  pub matched-field : {tag start len next : ℕ} → c ≡ Field tag start len next → FieldAt s at tag start len next
+  matched-field {tag} {start} {len} {next} k = field-iff s at tag start len next .0 (sym e ∙ k)
+
+  pub matched-short : c ≡ Short → (at < length s) × (length s < at + 3 ⊎ length s < at + 3 + lenAt s at)
+  matched-short k = short-iff s at .0 (sym e ∙ k)
+
+  pub matched-absent : c ≡ Absent → length s ≤ at
+  matched-absent k = absent-iff s at .0 (sym e ∙ k)
 
 -- A field that was written is cut out as it was.
 

@@ -6,9 +6,6 @@ use mathlib.Core.Path.{sym}
 use Rattle.field.proofs.Cutting.{cut-absent, cut-no-header, cut-no-content, cut-whole-at}
 use Rattle.field.proofs.cut_at.Statement.{statement}
 use Rattle.field.proofs.cut_at.Tie as tie
-use Rattle.field.proofs.cut_at.Reads as reads
-use Rattle.field.proofs.cut_at.Lts as lts
-use Rattle.field.proofs.u16_at.Reads as u16-at-reads
 
 returns : tie.Need-returns
 returns c = sym (cut-absent _ _ (c .if1 .taken))
