@@ -1,0 +1,16 @@
+-- The index: for each item the offset of its field, in 4 bytes. Assumes nothing.
+use Prim.Native.Nat.{ℕ, _/_, _%_}
+use mathlib.Core.List.{List, [], _∷_, _++_, map}
+use Rattle.sheet.specs.Read.{Placed}
+use Rattle.sheet.specs.Write.{concat}
+
+-- the bytes of an index entry
+unfoldable pub indexWidth : ℕ
+indexWidth = 4
+
+abbrev pub bytes32 : ℕ → List ℕ
+bytes32 n = n % 256 ∷ n / 256 % 256 ∷ n / 65_536 % 256 ∷ n / 16_777_216 % 256 ∷ []
+
+-- what opening writes
+unfoldable pub indexBytes : List Placed → List ℕ
+indexBytes ps = concat (map (λ p. bytes32 (p .offset)) ps)

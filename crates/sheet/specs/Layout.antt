@@ -1,0 +1,97 @@
+-- The layout of a sheet: its items as they are written, and the limits of each part. Assumes nothing.
+use Prim.Native.Nat.{ℕ, max}
+use mathlib.Core.Bool.{Bool, true, false, cond, not, _&&_, _||_}
+use mathlib.Core.List.{List, [], _∷_, map}
+use mathlib.Core.Option.{Option, none, some}
+use lib.Dec.{eqb, leb, ltb}
+use lib.ListN.{length}
+use Rattle.circuit.specs.Rules.{Operation, sum, operationOf}
+use Rattle.circuit.specs.Sheet.{Item, entry, figure, Sheet, Spread, defer, renew, forget}
+
+-- an item as it is written: the bytes of its name, and of a figure its rule, keep and spread bytes and its parents
+pub data LayoutItem : Type 0 where
+  entryField : (name : List ℕ) → LayoutItem
+  figureField : (rule keep spread : ℕ) (parents name : List ℕ) → LayoutItem
+
+pub record Layout : Type 0 where
+  pub edition : ℕ
+  pub items : List LayoutItem
+
+-- the tags of the fields
+abbrev pub headTag : ℕ
+headTag = 1
+
+abbrev pub entryTag : ℕ
+entryTag = 2
+
+abbrev pub figureTag : ℕ
+figureTag = 3
+
+abbrev pub lastTag : ℕ
+lastTag = 4
+
+-- the editions that are known
+unfoldable pub editionKnown : ℕ → Bool
+editionKnown edition = eqb edition 1
+
+-- the most items of a sheet of an edition
+unfoldable pub itemLimit : ℕ → ℕ
+itemLimit edition = 1024
+
+unfoldable pub countAllowed : ℕ → ℕ → Bool
+countAllowed edition n = leb 1 n && leb n (itemLimit edition)
+
+-- the highest level
+unfoldable pub levelLimit : ℕ
+levelLimit = 64
+
+unfoldable pub keepAllowed : ℕ → Bool
+keepAllowed keep = leb keep 1
+
+-- the spread bytes of an edition: 0 defer, 1 renew, 2 forget
+unfoldable pub spreadAllowed : ℕ → ℕ → Bool
+spreadAllowed edition spread = leb spread 2
+
+abbrev pub isSome : {A : Type 0} → Option A → Bool
+isSome none = false
+isSome (some a) = true
+
+-- a rule code that allows this many parents
+abbrev pub ruleAllowed : ℕ → ℕ → Bool
+ruleAllowed rule p = isSome (operationOf rule p)
+
+-- the longest name
+unfoldable pub nameLimit : ℕ
+nameLimit = 16
+
+abbrev pub nameByte : ℕ → Bool
+nameByte b = leb 33 b && leb b 126
+
+unfoldable pub all : (ℕ → Bool) → List ℕ → Bool
+all p [] = true
+all p (b ∷ bs) = p b && all p bs
+
+-- a name: 1 to 16 bytes, each 33 to 126
+unfoldable pub nameAllowed : List ℕ → Bool
+nameAllowed name = leb 1 (length name) && leb (length name) nameLimit && all nameByte name
+
+-- the highest of some levels
+unfoldable pub highest : List ℕ → ℕ
+highest [] = 0
+highest (level ∷ levels) = max level (highest levels)
+
+-- The machine's item. (An opened sheet has no rule without an operation.)
+abbrev pub operationOr : Option Operation → Operation
+operationOr none = sum
+operationOr (some op) = op
+
+unfoldable pub spreadMeant : ℕ → Spread
+spreadMeant spread = cond (eqb spread 0) defer (cond (eqb spread 1) renew forget)
+
+unfoldable pub machineItem : LayoutItem → Item
+machineItem (entryField name) = entry
+machineItem (figureField rule keep spread ps name) =
+    figure (operationOr (operationOf rule (length ps))) (eqb keep 1) (spreadMeant spread) ps
+
+abbrev pub machineSheet : Layout → Sheet
+machineSheet l = map machineItem (l .items)

@@ -1,0 +1,4 @@
+pub mod Layout
+pub mod Read
+pub mod Write
+pub mod Index
