@@ -9,7 +9,7 @@ use lib.Dec.{eqb}
 use lib.IntN.{ℤ, pos, negsuc}
 use lib.ListN.{getD}
 use native.Mathlib.Omega.{arith}
-use Rattle.circuit.specs.Value.{Value, null, out, num, isNull, isOut, same, sameNumber}
+use Rattle.circuit.specs.Value.{Value, null, out, num, isNull, isOut, wellFormed, same, sameNumber}
 use Rattle.circuit.specs.Rules.{Operation, sum, difference, smallest, largest, share, choice, count, atLeast, apply, anyOut, numbers, nth}
 
 -- ---- equal values
@@ -86,3 +86,9 @@ all-null share vs e = rw (allNull-anyOut vs e, allNull-nth vs 0 e)
 all-null choice vs e = rw (allNull-anyOut vs e, allNull-nth vs 0 e)
 all-null count vs e = rw (allNull-anyOut vs e, allNull-numbers vs e)
 all-null atLeast vs e = rw (allNull-anyOut vs e, allNull-nth vs 0 e)
+
+-- ---- well-formed values
+
+unfoldable pub allWellFormed : List Value → Bool
+allWellFormed [] = true
+allWellFormed (v ∷ vs) = wellFormed v && allWellFormed vs
