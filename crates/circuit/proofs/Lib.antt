@@ -1,3 +1,4 @@
 pub mod Figures
 pub mod Examples
 pub mod View
+pub mod Fill
