@@ -1,4 +1,5 @@
 pub mod Figures
+pub mod RuleLaws
 pub mod Examples
 pub mod View
 pub mod Fill
