@@ -6,3 +6,4 @@ pub mod View
 pub mod Fill
 pub mod Closure
 pub mod Accepted
+pub mod Invariant
