@@ -1,3 +1,9 @@
 pub mod Figures
 pub mod Examples
 pub mod RuleLaws
+pub mod Solution
+pub mod View
+pub mod Fill
+pub mod Closure
+pub mod Accepted
+pub mod Invariant

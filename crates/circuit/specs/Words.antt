@@ -7,7 +7,7 @@ use Rattle.circuit.specs.Value.{Value}
 use Rattle.circuit.specs.Circuit.{Listed}
 use Rattle.circuit.specs.Sheet.{Sheet, Entries, size, itemAt, isFigure, parents}
 use Rattle.circuit.specs.Table.{Table, isStored, isMarked, cellForm, valueIn}
-use Rattle.circuit.specs.Calls.{Call, drops}
+use Rattle.circuit.specs.Calls.{Call, perform, drops}
 
 -- the table is well formed for the sheet: each entry is stored, without refresh
 abbrev pub Formed : Sheet → Table → Type 0
@@ -34,3 +34,8 @@ pub data LeadsTo (S : Sheet) (e : ℕ) : ℕ → Type 0 where
 unfoldable pub droppedIn : List Call → ℕ → Bool
 droppedIn [] k = false
 droppedIn (c ∷ cs) k = drops c k || droppedIn cs k
+
+-- each call of the list is accepted: it gives number 0
+abbrev pub AllAccepted : Sheet → Table → List Call → Type 0
+AllAccepted S T [] = Unit {0}
+AllAccepted S T (c ∷ cs) = (perform S T c .number ≡ 0) × AllAccepted S (perform S T c .table) cs

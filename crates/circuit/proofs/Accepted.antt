@@ -1,0 +1,61 @@
+-- What an accepted call has passed, and what it does. Assumes nothing.
+use Prim.Native.Nat.{ℕ, zero, suc, _<_}
+use mathlib.Core.Path.{_≡_, refl, sym, ap, subst, _∙_}
+use mathlib.Core.Bool.{Bool, true, false, cond, not}
+use mathlib.Core.List.{List, [], _∷_}
+use native.Mathlib.Omega.{arith}
+use borrow.Author.Tests.{leb-false, not-false}
+use Rattle.circuit.specs.Sheet.{Sheet, size, itemAt, isFigure}
+use Rattle.circuit.specs.Table.{Table, isMarked}
+use Rattle.circuit.specs.Machine.{keepFigure, dropFigure, stepItem, catchUp, lookUp}
+use Rattle.circuit.specs.Calls.{Call, post, keep, drop, step, ask, Test, test, tests, firstCause, effect, unless, perform, Outcome}
+
+-- no cause holds: the first does not, and none of the others
+pub no-cause : (k : ℕ) (b : Bool) (ts : List Test) → firstCause (test (suc k) b ∷ ts) ≡ 0 → (b ≡ false) × (firstCause ts ≡ 0)
+unfolding firstCause
+no-cause k true ts e = absurd (omega arith)
+no-cause k false ts e = (refl, e)
+
+-- a call whose number is 0 met no cause
+pub number-cause : (S : Sheet) (T : Table) (c : Call) → perform S T c .number ≡ 0 → firstCause (tests S T c) ≡ 0
+unfolding perform effect
+number-cause S T c e = go (firstCause (tests S T c)) e
+  where
+    go : (k : ℕ) → unless k S T c .number ≡ 0 → k ≡ 0
+    go zero e′ = refl
+    go (suc k) e′ = e′
+
+-- a call that met no cause has its effect
+pub accepted-effect : (S : Sheet) (T : Table) (c : Call) → firstCause (tests S T c) ≡ 0 → perform S T c ≡ effect S T c
+unfolding perform
+accepted-effect S T c e = ap (λ k. unless k S T c) e
+
+-- a call that met a cause leaves the table
+pub refused-table : (S : Sheet) (T : Table) (c : Call) (k : ℕ) → firstCause (tests S T c) ≡ suc k → perform S T c .table ≡ T
+unfolding perform
+refused-table S T c k e = ap (λ n. unless n S T c .table) e
+
+abbrev Passed : Sheet → Table → Call → Type 0
+Passed S T c = firstCause (tests S T c) ≡ 0
+
+pub keep-passed : (S : Sheet) (T : Table) (i : ℕ) → Passed S T (keep i) → (i < size S) × (isFigure (itemAt S i) ≡ true)
+unfolding tests
+keep-passed S T i e =
+    let first = no-cause 10 _ _ e in
+    (leb-false (size S) i (first .0), not-false (isFigure (itemAt S i)) (no-cause 11 _ _ (first .1) .0))
+
+pub drop-passed : (S : Sheet) (T : Table) (i : ℕ) → Passed S T (drop i) → (i < size S) × (isFigure (itemAt S i) ≡ true)
+unfolding tests
+drop-passed S T i e =
+    let first = no-cause 10 _ _ e in
+    (leb-false (size S) i (first .0), not-false (isFigure (itemAt S i)) (no-cause 11 _ _ (first .1) .0))
+
+pub step-passed : (S : Sheet) (T : Table) (i : ℕ) → Passed S T (step i) → (i < size S) × (isMarked (T i) ≡ true)
+unfolding tests
+step-passed S T i e =
+    let first = no-cause 10 _ _ e in
+    (leb-false (size S) i (first .0), not-false (isMarked (T i)) (no-cause 13 _ _ (first .1) .0))
+
+pub ask-passed : (S : Sheet) (T : Table) (i : ℕ) → Passed S T (ask i) → i < size S
+unfolding tests
+ask-passed S T i e = leb-false (size S) i (no-cause 10 _ _ e .0)

@@ -1,0 +1,187 @@
+-- What telling, stepping and catching up keep: a property of tables that looking up, working out and storing at some items
+-- keep. Assumes nothing.
+use Prim.Native.Nat.{ℕ, zero, suc, _<_, _*_}
+use mathlib.Core.Path.{_≡_, refl, sym, ap, subst, _∙_}
+use mathlib.Core.Bool.{Bool, true, false, cond, _||_}
+use mathlib.Core.Logic.{_⊎_, inl, inr}
+use mathlib.Core.List.{List, [], _∷_}
+use mathlib.Core.Option.{Option, none, some}
+use native.Mathlib.Omega.{arith}
+use lib.Dec.{eqb}
+use borrow.Author.Tests.{eqb-true, eqb-false, eq-eqb}
+use Rattle.circuit.specs.Value.{Value, null, same}
+use Rattle.circuit.specs.Circuit.{Listed}
+use Rattle.circuit.specs.Sheet.{Sheet, Item, Spread, defer, renew, forget, size, itemAt, parents, keptOf, spreadOf, isChild, member}
+use Rattle.circuit.specs.Table.{Table, Cell, Mark, unmarked, refresh, notice, unk, held, upd, noticeIf, isMarked}
+use Rattle.circuit.specs.Machine.{Looked, looked, gather, workOut, lookCell, lookFor, lookUp, work, flagged, storeIf, storeResult, tellChild, tellCell, tellStored, tellIf, tellBelow, tell, clearMark, clearCell, stepItem, stepCell, stepMark, renewed, orNext, lowestMarked, stepLowest, catchUpIn, catchUp}
+
+-- a property of the cell at j after a store at i: of the stored cell where j is i, and of the old one elsewhere
+pub upd-elim : (Q : Cell → Type 0) (T : Table) (i j : ℕ) (c : Cell) → (j ≡ i → Q c) → ((j ≡ i → ⊥) → Q (T j)) → Q (upd T i c j)
+upd-elim Q T i j c here there = go (eqb j i) refl
+  where
+    go : (b : Bool) → eqb j i ≡ b → Q (cond b c (T j))
+    go true e = here (eqb-true j i e)
+    go false e = there (eqb-false j i e)
+
+-- a member of the list is listed
+pub member-listed : (i : ℕ) (ps : List ℕ) → member i ps ≡ true → Listed i ps
+unfolding member
+member-listed i [] e = absurd (omega (arith, bad))
+  where
+    bad : _≡_ {A = ℕ} 0 1
+    bad = cc e
+member-listed i (p ∷ ps) e = go (eqb i p) refl e (member-listed i ps)
+  where
+    go : (b : Bool) → eqb i p ≡ b → b || member i ps ≡ true → (member i ps ≡ true → Listed i ps) → (i ≡ p) ⊎ Listed i ps
+    go true q e′ rest = inl (eqb-true i p q)
+    go false q e′ rest = inr (rest e′)
+
+-- the item that is found lowest is below the bound, and marked
+pub lowest-marked : (T : Table) (k i : ℕ) → lowestMarked T k ≡ some i → (i < k) × (isMarked (T i) ≡ true)
+unfolding lowestMarked
+lowest-marked T zero i e = absurd (omega (arith, bad))
+  where
+    bad : _≡_ {A = ℕ} 0 1
+    bad = cc e
+lowest-marked T (suc k) i e = go (lowestMarked T k) (isMarked (T k)) refl e (λ q. lowest-marked T k i q)
+  where
+    go : (o : Option ℕ) (m : Bool) → isMarked (T k) ≡ m → orNext o m k ≡ some i
+        → (o ≡ some i → (i < k) × (isMarked (T i) ≡ true)) → (i < suc k) × (isMarked (T i) ≡ true)
+    go (some j) m q e′ rest = (omega (arith, rest e′ .0), rest e′ .1)
+    go none true q e′ rest =
+        let same : k ≡ i = cc in
+        (omega arith, rw same at q)
+    go none false q e′ rest =
+        let bad : _≡_ {A = ℕ} 0 1 = cc in
+        absurd (omega arith)
+
+-- Stores are allowed at the items of a class; looking up and working out keep the property.
+pub record Closed (S : Sheet) (Here : ℕ → Type 0) (P : Table → Type 0) : Type 0 where
+  pub works : (T : Table) (i : ℕ) → i < size S → P T → P (work S T i .table)
+  pub stores : (T : Table) (i : ℕ) (c : Cell) → Here i → P T → P (upd T i c)
+
+module _ (S : Sheet) (Here : ℕ → Type 0) (P : Table → Type 0) (closed : Closed S Here P) where
+  renewed-closed : (T : Table) (c : ℕ) (v : Value) (m : Mark) → c < size S → Here c → P T → P (renewed c v m (work S T c))
+  renewed-closed T c v m low here h = closed .stores (work S T c .table) c _ here (closed .works T c low h)
+
+  tellStored-closed : (spread : Spread) (T : Table) (c : ℕ) (v : Value) (m : Mark) → c < size S → Here c → P T
+      → P (tellStored spread S T c v m)
+  tellStored-closed defer T c v unmarked low here h = closed .stores T c _ here h
+  tellStored-closed defer T c v refresh low here h = closed .stores T c _ here h
+  tellStored-closed defer T c v notice low here h = renewed-closed T c v notice low here h
+  tellStored-closed renew T c v m low here h = renewed-closed T c v _ low here h
+  tellStored-closed forget T c v m low here h = closed .stores T c _ here h
+
+  pub tellChild-closed : (T : Table) (c : ℕ) → c < size S → Here c → P T → P (tellChild S T c)
+  unfolding tellChild
+  tellChild-closed T c low here h = go (T c)
+    where
+      go : (x : Cell) → P (tellCell S T c x)
+      go (unk f) = closed .stores T c _ here h
+      go (held v m) = tellStored-closed (spreadOf (itemAt S c)) T c v m low here h
+
+  tellBelow-closed : (i : ℕ) → ((c : ℕ) → Listed i (parents S c) → Here c) → (T : Table) (k : ℕ) → suc k < suc (suc (size S)) → P T
+      → P (tellBelow S i T k)
+  unfolding tellBelow
+  tellBelow-closed i children T zero low h = h
+  tellBelow-closed i children T (suc k) low h =
+      go (isChild S i k) refl (tellBelow-closed i children T k (omega arith) h)
+    where
+      go : (b : Bool) → isChild S i k ≡ b → P (tellBelow S i T k) → P (tellIf b S (tellBelow S i T k) k)
+      go true e r =
+          tellChild-closed (tellBelow S i T k) k (omega arith) (children k (member-listed i (parents S k) e)) r
+      go false e r = r
+
+  pub tell-closed : (i : ℕ) → ((c : ℕ) → Listed i (parents S c) → Here c) → (T : Table) → P T → P (tell S T i)
+  unfolding tell
+  tell-closed i children T h = tellBelow-closed i children T (size S) (omega arith) h
+
+  -- a step of an item of the class, with its children in the class
+  pub step-closed : (i : ℕ) → i < size S → Here i → ((c : ℕ) → Listed i (parents S c) → Here c) → (T : Table) → P T
+      → P (stepItem S T i)
+  unfolding stepItem clearMark
+  step-closed i low here children T h = go (T i)
+    where
+      told : P (clearMark (tell S T i) i)
+      told = closed .stores (tell S T i) i _ here (tell-closed i children T h)
+
+      go : (x : Cell) → P (stepCell S T i x)
+      go (unk true) = told
+      go (unk false) = h
+      go (held v unmarked) = h
+      go (held v refresh) = renewed-closed T i v unmarked low here h
+      go (held v notice) = told
+
+-- what each step of a marked item keeps, catching up keeps
+pub catchUp-closed : (S : Sheet) (P : Table → Type 0)
+    → ((T : Table) (i : ℕ) → i < size S → isMarked (T i) ≡ true → P T → P (stepItem S T i))
+    → (T : Table) → P T → P (catchUp S T)
+unfolding catchUp catchUpIn
+catchUp-closed S P steps T h = within (2 * size S) T h
+  where
+    byLowest : (fuel : ℕ) → ((U : Table) → P U → P (catchUpIn fuel S U)) → (U : Table) → P U
+        → (o : Option ℕ) → lowestMarked U (size S) ≡ o → P (stepLowest (catchUpIn fuel S) S U o)
+    byLowest fuel rest U hU none e = hU
+    byLowest fuel rest U hU (some i) e =
+        rest (stepItem S U i) (steps U i (lowest-marked U (size S) i e .0) (lowest-marked U (size S) i e .1) hU)
+
+    within : (fuel : ℕ) (U : Table) → P U → P (catchUpIn fuel S U)
+    within zero U hU = hU
+    within (suc fuel) U hU = byLowest fuel (λ W hW. within fuel W hW) U hU (lowestMarked U (size S)) refl
+
+-- Filling: each cell stays as it is, or was UNK and is stored, without refresh.
+pub data Filling : Cell → Cell → Type 0 where
+  stays : {c : Cell} → Filling c c
+  plain : {b : Bool} {v : Value} → Filling (unk b) (held v unmarked)
+  noticed : {b : Bool} {v : Value} → Filling (unk b) (held v notice)
+
+stored : (b f : Bool) (v : Value) → Filling (unk b) (held v (noticeIf f))
+stored b true v = noticed
+stored b false v = plain
+
+abbrev pub Filled : Table → Table → Type 0
+Filled T U = (j : ℕ) → Filling (T j) (U j)
+
+filling-trans : {a b c : Cell} → Filling a b → Filling b c → Filling a c
+filling-trans stays q = q
+filling-trans plain stays = plain
+filling-trans noticed stays = noticed
+
+pub filled-trans : {T U W : Table} → Filled T U → Filled U W → Filled T W
+filled-trans p q j = filling-trans (p j) (q j)
+
+filled-store : (T U : Table) (i : ℕ) (b f : Bool) (v : Value) → Filled T U → T i ≡ unk b → Filled T (upd U i (held v (noticeIf f)))
+filled-store T U i b f v filled e j =
+    upd-elim (λ c. Filling (T j) c) U i j _ (λ q. subst (λ c. Filling c (held v (noticeIf f))) (sym (ap T q ∙ e)) (stored b f v)) (λ q. filled j)
+
+gather-filled : (look : Table → ℕ → Looked) → ((T : Table) (p : ℕ) → Filled T (look T p .table))
+    → (T : Table) (ps : List ℕ) → Filled T (gather look T ps .table)
+unfolding gather
+gather-filled look fills T [] = λ j. stays
+gather-filled look fills T (p ∷ ps) =
+    filled-trans {U = look T p .table} (fills T p) (gather-filled look fills (look T p .table) ps)
+
+filled-storeIf : (T : Table) (i : ℕ) (f kept : Bool) (r : Looked) → T i ≡ unk f → Filled T (r .table)
+    → Filled T (storeIf kept i (flagged f r) .table)
+filled-storeIf T i f true r e worked = filled-store T (r .table) i f (r .flag || f) (r .value) worked e
+filled-storeIf T i f false r e worked = worked
+
+lookFor-filled : (S : Sheet) (fuel : ℕ) (T : Table) (i : ℕ) → Filled T (lookFor fuel S T i .table)
+unfolding lookFor workOut
+lookFor-filled S zero T i = λ j. stays
+lookFor-filled S (suc fuel) T i =
+    go (T i) refl (gather-filled (lookFor fuel S) (λ U p. lookFor-filled S fuel U p) T (parents S i))
+  where
+    go : (c : Cell) → T i ≡ c → Filled T (workOut (lookFor fuel S) S T i .table)
+        → Filled T (lookCell (lookFor fuel S) S T i c .table)
+    go (held v m) e worked = λ j. stays
+    go (unk f) e worked = filled-storeIf T i f (keptOf (itemAt S i)) (workOut (lookFor fuel S) S T i) e worked
+
+-- looking up and working out fill the table
+pub lookUp-filled : (S : Sheet) (T : Table) (i : ℕ) → Filled T (lookUp S T i .table)
+unfolding lookUp
+lookUp-filled S T i = lookFor-filled S (suc i) T i
+
+pub work-filled : (S : Sheet) (T : Table) (i : ℕ) → Filled T (work S T i .table)
+unfolding work workOut
+work-filled S T i = gather-filled (lookUp S) (λ U p. lookUp-filled S U p) T (parents S i)
