@@ -19,7 +19,7 @@ use Rattle.value.specs.declared.Value.{Value}
 use Rattle.value.specs.declared.Tally.{Tally}
 use Rattle.value.specs.Meaning.{amountMeaning, meaning, partsOf}
 use Rattle.value.specs.Tally.{Room, counted, taken}
-use Rattle.value.proofs.Signed.{back, above-low, below-low, same-bits, sum-fits}
+use Rattle.value.proofs.Signed.{back, above-low, below-low, same-bits, sum-fits, difference-fits}
 
 -- what is read back from the bits of z, in the arguments of a test
 abbrev read : ℤ → ℤ
@@ -109,3 +109,11 @@ take-out t v p f g h = rw (back (t .total) f, back (t .least) g, back (t .greate
 
 pub take-number : (t : Tally) (v : Value) (z : ℤ) (r : Tally) → v .amount ≡ Number z → SFits w64 z → r ≡ counted t (toZ w64 (ofZ w64 z)) → r ≡ taken t (meaning v)
 take-number t v z r p f e = e ∙ rw (back z f, p)
+
+-- ---- a difference
+
+pub minus-fits : (x y : ℤ) → SFits w64 x → SFits w64 y → circuit.inRange x ≡ true → circuit.inRange y ≡ true → SFits w64 (toZ w64 (ofZ w64 x) -ℤ toZ w64 (ofZ w64 y))
+minus-fits x y f g a b = rw (back x f, back y g) (difference-fits x y a b)
+
+pub minus-is : (x y : ℤ) → SFits w64 x → SFits w64 y → circuit.inRange x ≡ true → circuit.inRange y ≡ true → toZ w64 (ofZ w64 (toZ w64 (ofZ w64 x) -ℤ toZ w64 (ofZ w64 y))) ≡ (x -ℤ y)
+minus-is x y f g a b = rw (back x f, back y g) (back (x -ℤ y) (difference-fits x y a b))
