@@ -5,7 +5,7 @@ use mathlib.Core.Path.{_≡_, refl, sym, ap, subst, _∙_}
 use mathlib.Core.Bool.{Bool, true, false, cond, _&&_}
 use native.Mathlib.Omega.{arith}
 use native.Mathlib.Nat.{zero-add, mul-comm, mul-assoc, add-mul, add-assoc, mul-le-mul-left, mul-le-mul, le-of-lt, le-trans, div-add-mod', div-mul-le-self, mod-lt, mul-add-div-right, div-lt-iff-lt-mul, suc-mul, lt-of-lt-of-le}
-use borrow.Author.Tests.{leb-true, leb-false, ltb-true, ltb-false}
+use borrow.Author.Tests.{leb-true, ltb-true, ltb-false, le-leb, lt-leb}
 use lib.Dec.{T, lit<, leb·zero}
 use lib.IntN.{ℤ, pos, negsuc, natAbs, negℤ, _-ℤ_, _*ℤ_, +ℤ-idl}
 use lib.Signed.{leZ, ltZ, nonNeg}
@@ -166,3 +166,52 @@ module _ (x p : ℤ) (e : circuit.inRange x ≡ true) (fx : SFits w64 x) (fp : S
         go (pos m) (negsuc k) a b = cc
         go (negsuc m) (pos k) a b = cc
         go (negsuc m) (negsuc k) a b = cc
+
+-- ---- the parts of a share
+
+share-by : (x p : ℤ) (s t : Bool) → leZ (pos 0) p ≡ s → leZ p (pos whole) ≡ t → cond (s && t) (circuit.ranged (floorDiv (x *ℤ p) whole)) circuit.out ≡ shareOf x p
+share-by x p s t e f = rw (e, f)
+
+less-not : (p : ℤ) → ltZ p (pos 0) ≡ true → leZ (pos 0) p ≡ false
+less-not (pos n) e = absurd (below-none n (ltb-true n 0 e))
+  where
+    below-none : (n : ℕ) → n < 0 → ⊥
+    below-none n h = omega arith
+less-not (negsuc n) e = refl
+
+above-not : (k : ℕ) (p : ℤ) → ltZ (pos k) p ≡ true → (leZ p (pos k) ≡ false) × (leZ (pos 0) p ≡ true)
+above-not k (pos n) e = (lt-leb n k (ltb-true k n e), leb·zero n)
+above-not k (negsuc n) e = absurd (false-true e)
+  where
+    false-true : false ≡ true → ⊥
+    false-true q = let z : _≡_ {A = ℕ} 0 1 = cc in omega arith
+
+not-above : (k : ℕ) (p : ℤ) → ltZ (pos k) p ≡ false → leZ p (pos k) ≡ true
+not-above k (pos n) e = le-leb n k (ltb-false k n e)
+not-above k (negsuc n) e = refl
+
+module _ (x p : ℤ) (f : SFits w64 p) where
+  pub parts-below : ltZ (toZ w64 (ofZ w64 p)) (pos 0) ≡ true → circuit.out ≡ shareOf x p
+  parts-below e =
+      let k : leZ (pos 0) p ≡ false = less-not p (rw (back p f) at e) in
+      rw k
+
+  pub parts-above : ltZ (pos whole) (toZ w64 (ofZ w64 p)) ≡ true → circuit.out ≡ shareOf x p
+  parts-above e =
+      let k = above-not whole p (rw (back p f) at e) in
+      share-by x p true false (k .1) (k .0)
+
+  module _ (e : circuit.inRange x ≡ true) (g : SFits w64 x) (low : ltZ (toZ w64 (ofZ w64 p)) (pos 0) ≡ false) (high : ltZ (pos whole) (toZ w64 (ofZ w64 p)) ≡ false) where
+    from-zero-parts : leZ (pos 0) p ≡ true
+    from-zero-parts = not-less p f low
+
+    up-to-whole : leZ p (pos whole) ≡ true
+    up-to-whole = not-above whole p (rw (back p f) at high)
+
+    pub part-asks : (circuit.inRange (toZ w64 (ofZ w64 x)) ≡ true) × ((leZ (pos 0) (toZ w64 (ofZ w64 p)) ≡ true) × (leZ (toZ w64 (ofZ w64 p)) (pos whole) ≡ true))
+    part-asks = rw (back x g, back p f) (e, (from-zero-parts, up-to-whole))
+
+    pub part-gives : (d : ℤ) (r : circuit.Value) → SFits w64 d → d ≡ floorDiv (toZ w64 (ofZ w64 x) *ℤ toZ w64 (ofZ w64 p)) whole → r ≡ circuit.ranged (toZ w64 (ofZ w64 d)) → r ≡ shareOf x p
+    part-gives d r h ed er =
+        let k : toZ w64 (ofZ w64 d) ≡ floorDiv (x *ℤ p) whole = rw (back d h, ed, back x g, back p f) in
+        er ∙ ap circuit.ranged k ∙ share-by x p true true from-zero-parts up-to-whole
