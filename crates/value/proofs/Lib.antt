@@ -1,0 +1,5 @@
+pub mod Signed
+pub mod Tallies
+pub mod Parents
+pub mod Cases
+pub mod Shares
