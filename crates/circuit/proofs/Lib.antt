@@ -7,3 +7,4 @@ pub mod Fill
 pub mod Closure
 pub mod Accepted
 pub mod Invariant
+pub mod Tell
