@@ -8,3 +8,4 @@ pub mod Closure
 pub mod Accepted
 pub mod Invariant
 pub mod Tell
+pub mod CatchUp
