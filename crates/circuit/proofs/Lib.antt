@@ -9,3 +9,4 @@ pub mod Accepted
 pub mod Invariant
 pub mod Tell
 pub mod CatchUp
+pub mod Memo
