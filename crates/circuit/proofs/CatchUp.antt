@@ -5,25 +5,23 @@
 -- Assumes that the sheet is ordered, where it says so, and nothing about the table.
 use Prim.Native.Nat.{ℕ, zero, suc, _<_, _≤_, _+_, _*_}
 use native.Mathlib.Omega.{arith}
-use mathlib.Core.Path.{_≡_, refl, sym, ap, subst, _∙_}
+use mathlib.Core.Path.{_≡_, refl, sym, ap, _∙_}
 use mathlib.Core.Logic.{_⊎_, inl, inr, _≢_}
-use mathlib.Core.Bool.{Bool, true, false, cond, _||_}
-use mathlib.Core.List.{List, [], _∷_}
+use mathlib.Core.Bool.{Bool, true, false, cond}
 use mathlib.Core.Option.{Option, none, some}
 use lib.Dec.{eqb}
 use borrow.Author.Tests.{eqb-true, eqb-false}
 use Rattle.circuit.specs.Value.{Value, same}
-use Rattle.circuit.specs.Circuit.{Listed}
-use Rattle.circuit.specs.Sheet.{Sheet, size, itemAt, parents, Ordered}
-use Rattle.circuit.specs.Table.{Table, Cell, Mark, unmarked, refresh, notice, unk, held, upd, isNotice, noticeIf, isMark, isMarked, markOf}
-use Rattle.circuit.specs.Machine.{work, lookUp, renewed, tell, clearCell, clearMark, stepCell, stepItem, orNext, lowestMarked, stepLowest, catchUpIn, catchUp, stepIf, stepMarked, sweepBelow, sweep}
+use Rattle.circuit.specs.Sheet.{Sheet, size, parents, Ordered}
+use Rattle.circuit.specs.Table.{Table, Cell, Mark, unmarked, refresh, notice, unk, held, isNotice, noticeIf, isMark, isMarked, markOf}
+use Rattle.circuit.specs.Machine.{work, lookUp, tell, clearCell, clearMark, stepCell, stepItem, orNext, lowestMarked, stepLowest, catchUpIn, catchUp, stepIf, stepMarked, sweepBelow, sweep}
 use Rattle.circuit.specs.Calls.{ask, perform, effect}
 use Rattle.circuit.specs.Words.{Quiet, CaughtUp, still, stepped}
 use Rattle.circuit.proofs.View.{view, result, strong, any-none, view-at}
-use Rattle.circuit.proofs.Fill.{upd-same, upd-other, upd-cases, Filling, stays, fills, Fill, look-right, work-right}
+use Rattle.circuit.proofs.Fill.{upd-same, upd-other, Filling, stays, fills, Fill, look-right, work-right}
 use Rattle.circuit.proofs.Invariant.{Invariant}
 use Rattle.circuit.proofs.Tell.{step-kept}
-use Rattle.circuit.proofs.Closure.{Closed, step-closed, catchUp-closed}
+use Rattle.circuit.proofs.Closure.{step-closed, catchUp-closed}
 use Rattle.circuit.proofs.Accepted.{number-cause, accepted-effect}
 
 -- no item below k is marked

@@ -6,17 +6,17 @@
 use Prim.Native.Nat.{ℕ, zero, suc, _<_, _≤_}
 use native.Mathlib.Omega.{arith}
 use mathlib.Core.Path.{_≡_, refl, sym, ap, _∙_, fun-ext}
-use mathlib.Core.Logic.{_⊎_, inl, inr, _≢_}
-use mathlib.Core.Bool.{Bool, true, false, cond, _||_}
+use mathlib.Core.Logic.{inl, inr}
+use mathlib.Core.Bool.{Bool, true, false, cond}
 use mathlib.Core.List.{List, [], _∷_}
 use lib.Dec.{eqb}
-use borrow.Author.Tests.{eqb-true, eqb-false, ne-eqb}
+use borrow.Author.Tests.{eqb-true}
 use Rattle.circuit.specs.Value.{Value}
 use Rattle.circuit.specs.Circuit.{Listed}
 use Rattle.circuit.specs.Sheet.{Sheet, itemAt, keptOf, parents, Ordered}
 use Rattle.circuit.specs.Table.{Table, Cell, Mark, unk, held, upd, noticeIf}
-use Rattle.circuit.specs.Machine.{Looked, looked, Gathered, gathered, gather, workOut, storeIf, flagged, lookCell, lookFor, lookUp, work, catchUp}
-use Rattle.circuit.specs.Calls.{Call, ask, readingOf, tests, firstCause, effect, perform}
+use Rattle.circuit.specs.Machine.{Looked, looked, gathered, gather, workOut, storeIf, flagged, lookCell, lookFor, lookUp, work, catchUp}
+use Rattle.circuit.specs.Calls.{ask, readingOf, tests, effect, perform}
 use Rattle.circuit.proofs.View.{view, strong, view-below}
 use Rattle.circuit.proofs.Fill.{upd-same, upd-other, Filling, stays, fills, Fill, fill-view, fill-trans, Looks, look-right, work-right, lookUp-is}
 use Rattle.circuit.proofs.CatchUp.{catchUp-quiet, catchUp-still, look-quiet}
