@@ -5,3 +5,4 @@ pub mod Fill
 pub mod Solution
 pub mod Closure
 pub mod Accepted
+pub mod Steps
