@@ -25,6 +25,15 @@ number-cause S T c e = go (firstCause (tests S T c)) e
     go zero e′ = refl
     go (suc k) e′ = e′
 
+-- an accepted call gives number 0
+pub effect-number : (S : Sheet) (T : Table) (c : Call) → effect S T c .number ≡ 0
+unfolding effect
+effect-number S T (post i kind z) = refl
+effect-number S T (keep i) = refl
+effect-number S T (drop i) = refl
+effect-number S T (step i) = refl
+effect-number S T (ask i) = refl
+
 -- a call that met no cause has its effect
 pub accepted-effect : (S : Sheet) (T : Table) (c : Call) → firstCause (tests S T c) ≡ 0 → perform S T c ≡ effect S T c
 unfolding perform

@@ -6,3 +6,4 @@ pub mod Solution
 pub mod Closure
 pub mod Accepted
 pub mod Steps
+pub mod Retention
