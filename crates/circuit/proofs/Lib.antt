@@ -1,9 +1,12 @@
 pub mod Figures
+pub mod RuleLaws
 pub mod Examples
+pub mod Solution
 pub mod View
 pub mod Fill
-pub mod Solution
 pub mod Closure
 pub mod Accepted
+pub mod Invariant
+pub mod Quiet
 pub mod Steps
 pub mod Retention

@@ -17,9 +17,10 @@ use Rattle.circuit.specs.Table.{Table, Cell, Mark, unmarked, refresh, no
 use Rattle.circuit.specs.Machine.{lookUp, work, keepFigure, dropFigure, dropCell, stepItem, catchUp}
 use Rattle.circuit.specs.Calls.{Call, post, keep, drop, step, ask, postedValue, postIt, postingOf, tests, firstCause, effect, unless, perform, run, made, madeBy, ifAccepted, postings, drops}
 use Rattle.circuit.specs.Words.{Holds, Quiet, LeadsTo, direct, further, droppedIn}
-use Rattle.circuit.proofs.View.{Seen, seen, anyFlag, worked, seenCell, view, strong, any-none, values-ext, view-at}
+use Rattle.circuit.proofs.View.{Seen, seen, view, result, strong, view-at}
 use Rattle.circuit.proofs.Fill.{Filling, stays, fills, Fill, Looks, upd-cases, look-right, work-right, keep-fill}
 use Rattle.circuit.proofs.Solution.{map-listed}
+use Rattle.circuit.proofs.Quiet.{result-solved}
 use Rattle.circuit.proofs.Closure.{Closed, step-closed, catchUp-closed}
 use Rattle.circuit.proofs.Accepted.{effect-number, keep-passed, drop-passed, step-passed, ask-passed}
 
@@ -123,23 +124,14 @@ module _ (S : Sheet) (ordered : Ordered S) (e : ℕ) (E : Entries) (m : ℕ → 
           → view S T k ≡ seen (m k) false
       rise k lower low outside = go (T k) refl (confined k low outside)
         where
-          parent : (p : ℕ) → Listed p (parents S k) → view S T p ≡ seen (m p) false
-          parent p l = let o : p < k = ordered k p l in lower p o (omega arith) (parent-outside S e k p outside l)
-
-          values : map (λ p. view S T p .value) (parents S k) ≡ map m (parents S k)
-          values = map-listed (parents S k) (λ p l. ap (λ s. s .value) (parent p l))
-
-          flags : anyFlag (view S T) (parents S k) ≡ false
-          flags = any-none (view S T) (parents S k) (λ p l. ap (λ s. s .flag) (parent p l))
-
-          byItem : (it : Item) (vs : List Value) → isFigure it ≡ true → evaluate it null vs ≡ evaluate it (E k) vs
-          byItem entry vs h = let bad : _≡_ {A = ℕ} 0 1 = cc in absurd (omega arith)
-          byItem (figure op kept spread ps) vs h = refl
+          known : isFigure (itemAt S k) ≡ true → result S T k ≡ seen (m k) false
+          known fig =
+              result-solved S ordered E m solves T k fig
+              (λ p l. let o : p < k = ordered k p l in lower p o (omega arith) (parent-outside S e k p outside l))
 
           go : (c : Cell) → T k ≡ c → Calm (itemAt S k) (m k) c → view S T k ≡ seen (m k) false
           go (unk false) h (away f) =
-              view-at S ordered T k h
-              ∙ rw (values, flags) (ap (λ v. seen v false) (byItem (itemAt S k) (map m (parents S k)) f ∙ sym (solves k)))
+              view-at S ordered T k h ∙ ap (λ r. seen (r .value) (r .flag || false)) (known f)
           go (held v unmarked) h there = view-at S ordered T k h
 
   fill-further : (T U : Table) → Confined T → Fill S T U → Further T U
