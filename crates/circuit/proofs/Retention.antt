@@ -9,18 +9,21 @@ use mathlib.Core.List.{List, [], _∷_, _++_, map}
 use mathlib.Core.Option.{Option, none, some}
 use native.Mathlib.Omega.{arith}
 use lib.Dec.{eqb}
+use lib.IntN.{ℤ}
 use borrow.Author.Tests.{eqb-false}
 use Rattle.circuit.specs.Value.{Value, null}
 use Rattle.circuit.specs.Circuit.{Circuit, IsSolution, Listed}
 use Rattle.circuit.specs.Sheet.{Sheet, Item, entry, figure, itemAt, isFigure, size, parents, parentsOf, Ordered, Entries, circuitOf, evaluate}
-use Rattle.circuit.specs.Table.{Table, Cell, Mark, unmarked, refresh, notice, unk, held, upd, isStored, valueIn, isMarked, noticeIf}
-use Rattle.circuit.specs.Machine.{lookUp, work, keepFigure, dropFigure, dropCell, stepItem, catchUp}
+use Rattle.circuit.specs.Table.{Table, Cell, Mark, unmarked, refresh, notice, unk, held, upd, isStored, valueIn, isMarked, cellForm}
+use Rattle.circuit.specs.Machine.{lookUp, work, keepFigure, dropFigure, dropCell, stepItem, catchUp, storePosting, postCell}
 use Rattle.circuit.specs.Calls.{Call, post, keep, drop, step, ask, postedValue, postIt, postingOf, tests, firstCause, effect, unless, perform, run, made, madeBy, ifAccepted, postings, drops}
-use Rattle.circuit.specs.Words.{Holds, Quiet, LeadsTo, direct, further, droppedIn}
+use Rattle.circuit.specs.Demand.{Retained}
+use Rattle.circuit.specs.Words.{Formed, Holds, Quiet, LeadsTo, direct, further, droppedIn}
 use Rattle.circuit.proofs.View.{Seen, seen, view, result, strong, view-at}
-use Rattle.circuit.proofs.Fill.{Filling, stays, fills, Fill, Looks, upd-cases, look-right, work-right, keep-fill}
-use Rattle.circuit.proofs.Solution.{map-listed}
-use Rattle.circuit.proofs.Quiet.{result-solved}
+use Rattle.circuit.proofs.Fill.{Filling, stays, fills, Fill, Looks, upd-cases, upd-other, look-right, work-right, keep-fill}
+use Rattle.circuit.proofs.Solution.{map-listed, solution, solution-solves}
+use Rattle.circuit.proofs.Invariant.{Invariant}
+use Rattle.circuit.proofs.Quiet.{result-solved, quiet-stored}
 use Rattle.circuit.proofs.Closure.{Closed, step-closed, catchUp-closed}
 use Rattle.circuit.proofs.Accepted.{effect-number, keep-passed, drop-passed, step-passed, ask-passed}
 
@@ -62,6 +65,10 @@ calm-unmarked there = refl
 calm-value : {it : Item} {v : Value} {c : Cell} → Calm it v c → isStored c ≡ true → valueIn c ≡ v
 calm-value (away k) h = let bad : _≡_ {A = ℕ} 0 1 = cc in absurd (omega arith)
 calm-value there h = refl
+
+calm-entry : {it : Item} {v : Value} {c : Cell} → Calm it v c → isFigure it ≡ false → valueIn c ≡ v
+calm-entry (away k) h = let bad : _≡_ {A = ℕ} 0 1 = cc in absurd (omega arith)
+calm-entry there h = refl
 
 -- a cell without a mark that holds v if it is stored
 pub calm-cell : (it : Item) (v : Value) (c : Cell) → isMarked c ≡ false → (isStored c ≡ true → valueIn c ≡ v)
@@ -249,3 +256,68 @@ module _ (S : Sheet) (ordered : Ordered S) (e : ℕ) (E : Entries) (m : ℕ → 
             rest .stored k low outside (or-false (drops c k) (droppedIn cs k) d .1)
             (first .stored k low outside (or-false (drops c k) (droppedIn cs k) d .0) h);
       }
+
+stored-entry : (it : Item) (c : Cell) → cellForm it c ≡ true → isFigure it ≡ false → isStored c ≡ true
+stored-entry entry (unk f) h g = let bad : _≡_ {A = ℕ} 0 1 = cc in absurd (omega arith)
+stored-entry (figure op kept spread ps) (unk f) h g = let bad : _≡_ {A = ℕ} 0 1 = cc in absurd (omega arith)
+stored-entry it (held v m) h g = refl
+
+-- a post changes its own cell only
+post-other : (S : Sheet) (T : Table) (e kind : ℕ) (z : ℤ) (k : ℕ) → (k ≡ e → ⊥) → perform S T (post e kind z) .table k ≡ T k
+unfolding perform effect storePosting
+post-other S T e kind z k other = go (firstCause (tests S T (post e kind z)))
+  where
+    stores : (o : Option Value) → postIt T e o k ≡ T k
+    stores none = refl
+    stores (some v) = upd-other T e (postCell (T e) v) k other
+
+    go : (n : ℕ) → unless n S T (post e kind z) .table k ≡ T k
+    go zero = stores (postedValue kind z)
+    go (suc n) = refl
+
+-- What stays stored, on any table that has the invariant and no mark: after an accepted post to e and a list of calls that
+-- makes no posting, of every item that is neither e nor led to by e.
+pub retention : (S : Sheet) (ordered : Ordered S) (T : Table) → Invariant S T → Formed S T → Quiet S T
+    → (e kind : ℕ) (z : ℤ) (cs : List Call) → postings S (perform S T (post e kind z) .table) cs ≡ []
+    → (k : ℕ) → k < size S → Outside S e k
+    → Retained S ordered T cs (run S (perform S T (post e kind z) .table) cs) k
+retention S ordered T invariant formed quiet e kind z cs none-made k low outside =
+    record {
+      stored = λ h d. left .stored k low outside d (rw (post-other S T e kind z k (outside .0)) h);
+      before = λ h D holds w solvesW. value h ∙ agrees D w solvesW (λ i l f o. holds i l f);
+      now = λ h D holds w solvesW. value h ∙ agrees D w solvesW (λ i l f o. held-on i l f o ∙ holds i l f);
+      unchanged = λ g h. value h ∙ sym (was k low g);
+      unmarked = calm-unmarked (left .calm k low outside);
+    }
+  where
+    E : Entries
+    E = λ i. valueIn (T i)
+
+    m : ℕ → Value
+    m = solution (circuitOf S ordered E)
+
+    solves : IsSolution (circuitOf S ordered E) m
+    solves = solution-solves (circuitOf S ordered E)
+
+    was : (i : ℕ) → i < size S → isStored (T i) ≡ true → valueIn (T i) ≡ m i
+    was = quiet-stored S ordered E m solves T invariant formed quiet (λ i l f. refl)
+
+    posted : Confined S ordered e E m solves (perform S T (post e kind z) .table)
+    posted i l o =
+        rw (post-other S T e kind z i (o .0))
+        (calm-cell (itemAt S i) (m i) (T i) (quiet i l) (was i l) (stored-entry (itemAt S i) (T i) (formed i l)))
+
+    left : Left S ordered e E m solves (droppedIn cs) (perform S T (post e kind z) .table) (run S (perform S T (post e kind z) .table) cs)
+    left = run-left S ordered e E m solves cs (perform S T (post e kind z) .table) none-made posted
+
+    value : isStored (run S (perform S T (post e kind z) .table) cs k) ≡ true → valueIn (run S (perform S T (post e kind z) .table) cs k) ≡ m k
+    value h = calm-value (left .calm k low outside) h
+
+    -- an entry other than e holds what it held
+    held-on : (i : ℕ) → i < size S → isFigure (itemAt S i) ≡ false → Outside S e i → E i ≡ valueIn (run S (perform S T (post e kind z) .table) cs i)
+    held-on i l f o =
+        was i l (stored-entry (itemAt S i) (T i) (formed i l) f) ∙ sym (calm-entry (left .calm i l o) f)
+
+    agrees : (D : Entries) (w : ℕ → Value) → IsSolution (circuitOf S ordered D) w
+        → ((i : ℕ) → i < size S → isFigure (itemAt S i) ≡ false → Outside S e i → E i ≡ D i) → m k ≡ w k
+    agrees D w solvesW equal = outside-agree S ordered e E D m w solves solvesW equal k low outside
