@@ -8,5 +8,6 @@ pub mod Closure
 pub mod Accepted
 pub mod Invariant
 pub mod Quiet
+pub mod Entries
 pub mod Steps
 pub mod Retention
