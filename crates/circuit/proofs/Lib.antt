@@ -7,7 +7,11 @@ pub mod Fill
 pub mod Closure
 pub mod Accepted
 pub mod Invariant
+pub mod Tell
+pub mod CatchUp
 pub mod Quiet
 pub mod Entries
+pub mod Offices
 pub mod Steps
 pub mod Retention
+pub mod Demand
