@@ -96,14 +96,24 @@ module _ (S : Sheet) (ordered : Ordered S) where
   run-sound [] T E sound = sound
   run-sound (c ∷ cs) T E sound = run-sound cs (perform S T c .table) (hear S E (called c)) (perform-sound T E c sound)
 
-  -- after catching up, a look-up gives what the fresh office gives
-  pub caught-value : (T : Table) (E : Entries) → Sound S T E → (i : ℕ) → i < size S → lookUp S (catchUp S T) i .value ≡ give S E i
-  caught-value T E sound i low =
-      let U : Table = catchUp S T in
-      let kept : Kept S U E = same-kept S ordered T U E (sound .kept) (catchUp-entries S ordered T (sound .kept .formed)) in
-      look-right S ordered U i .value
+  -- where no mark stands, a look-up gives what the fresh office gives
+  pub quiet-value : (T : Table) (E : Entries) → Sound S T E → Quiet S T → (i : ℕ) → i < size S → lookUp S T i .value ≡ give S E i
+  quiet-value T E sound quiet i low =
+      look-right S ordered T i .value
       ∙ ap (λ s. s .value)
-      (quiet-view S ordered E (give S E) (give-solves S ordered E) U (catchUp-kept S ordered T (sound .invariant)) (kept .formed) (catchUp-quiet S ordered T) (kept .holds) i low)
+      (quiet-view S ordered E (give S E) (give-solves S ordered E) T (sound .invariant) (sound .kept .formed) quiet (sound .kept .holds) i low)
+
+  -- catching up keeps a table sound, with the same entries
+  pub catchUp-sound : (T : Table) (E : Entries) → Sound S T E → Sound S (catchUp S T) E
+  catchUp-sound T E sound =
+      record {
+        invariant = catchUp-kept S ordered T (sound .invariant);
+        kept = same-kept S ordered T (catchUp S T) E (sound .kept) (catchUp-entries S ordered T (sound .kept .formed));
+      }
+
+  -- so after catching up a look-up gives what the fresh office gives
+  pub caught-value : (T : Table) (E : Entries) → Sound S T E → (i : ℕ) → i < size S → lookUp S (catchUp S T) i .value ≡ give S E i
+  caught-value T E sound = quiet-value (catchUp S T) E (catchUp-sound T E sound) (catchUp-quiet S ordered T)
 
   -- An ask gives what the fresh office gives.
   pub ask-answers : (T : Table) (E : Entries) → Sound S T E → (i : ℕ) → Answers S T i (freshAsk S E i)
