@@ -9,8 +9,9 @@ pub mod Accepted
 pub mod Invariant
 pub mod Tell
 pub mod CatchUp
-pub mod Quiet
-pub mod Entries
+pub mod Memo
+pub mod Reading
+pub mod Sound
 pub mod Offices
 pub mod Steps
 pub mod Retention

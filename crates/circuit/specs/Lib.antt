@@ -7,4 +7,5 @@ pub mod Machine
 pub mod Calls
 pub mod Fresh
 pub mod Words
+pub mod Offices
 pub mod Demand
