@@ -150,20 +150,17 @@ module _ (S : Sheet) (ordered : Ordered S) where
           value = cc
       go (dropped w j q h) = let z : _≡_ {A = ℕ} 0 1 = cc in absurd (omega arith)
 
-  -- a fill, and then one store
-  pub store-changes : (T U : Table) (i : ℕ) (c : Cell) → Fill S T U → Change S T i c → Changes S T (upd U i c)
-  store-changes T U i c fill change = upd-cases (Change S T) U i c change (λ j n. fill-change j (fill j))
-    where
-      fill-change : (j : ℕ) → Filling S T j (U j) → Change S T j (U j)
-      fill-change j (stays e) = unchanged e
-      fill-change j (fills f k e h) = filled f e h
-
+  -- a fill
   pub fill-changes : (T U : Table) → Fill S T U → Changes S T U
   fill-changes T U fill j = go (fill j)
     where
       go : Filling S T j (U j) → Change S T j (U j)
       go (stays e) = unchanged e
       go (fills f k e h) = filled f e h
+
+  -- a fill, and then one store
+  pub store-changes : (T U : Table) (i : ℕ) (c : Cell) → Fill S T U → Change S T i c → Changes S T (upd U i c)
+  store-changes T U i c fill change = upd-cases (Change S T) U i c change (λ j n. fill-changes T U fill j)
 
   -- a stored item worked out anew, from mark m to n, where the two are notice or neither is
   pub renewed-changes : (T : Table) (i : ℕ) (v : Value) (m n : Mark) → T i ≡ held v m → isNotice n ≡ isNotice m → Changes S T (renewed i v n (work S T i))
