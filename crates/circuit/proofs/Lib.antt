@@ -13,3 +13,6 @@ pub mod Memo
 pub mod Reading
 pub mod Sound
 pub mod Offices
+pub mod Steps
+pub mod Retention
+pub mod Demand
