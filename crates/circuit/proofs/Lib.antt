@@ -7,3 +7,12 @@ pub mod Fill
 pub mod Closure
 pub mod Accepted
 pub mod Invariant
+pub mod Tell
+pub mod CatchUp
+pub mod Memo
+pub mod Reading
+pub mod Sound
+pub mod Offices
+pub mod Steps
+pub mod Retention
+pub mod Demand

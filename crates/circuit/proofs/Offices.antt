@@ -1,0 +1,114 @@
+-- Two offices agree (`two-offices`): for any two sound tables with the same entries, and any two lists of calls that make
+-- the same postings in order, every ask has the same answer in both, which is the fresh office's. The four pairs of
+-- openings are an instance (`two-openings`). Assumes that the sheet is ordered.
+use Prim.Native.Nat.{ℕ, zero, suc}
+use mathlib.Core.Path.{_≡_, refl, sym, ap, subst, _∙_}
+use mathlib.Core.Bool.{Bool, true, false, cond, _||_}
+use mathlib.Core.List.{List, [], _∷_, _++_}
+use mathlib.Core.Option.{Option, none, some}
+use borrow.Author.Tests.{leb-false}
+use Rattle.circuit.specs.Value.{Value}
+use Rattle.circuit.specs.Sheet.{Sheet, size, itemAt, beyond, isFigure, Ordered, Entries}
+use Rattle.circuit.specs.Table.{Table}
+use Rattle.circuit.specs.Machine.{lookUp, catchUp}
+use Rattle.circuit.specs.Calls.{Call, post, keep, drop, step, ask, Outcome, tests, firstCause, isNone, postedValue, effect, unless, perform, run, Posting, postingOf, ifAccepted, made, postings}
+use Rattle.circuit.specs.Fresh.{called, blank, setEntry, setIf, hear, hearAll, give, freshAsk, freshRun}
+use Rattle.circuit.specs.Offices.{Answers, Agree, Opening, bare, full, opened}
+use Rattle.circuit.proofs.Solution.{give-solves}
+use Rattle.circuit.proofs.CatchUp.{catchUp-quiet}
+use Rattle.circuit.proofs.Reading.{quiet-look}
+use Rattle.circuit.proofs.Sound.{Sound, catchUp-sound, run-sound, bare-sound, full-sound}
+
+-- the entries after postings
+unfoldable pub entered : Entries → List Posting → Entries
+entered E [] = E
+entered E (p ∷ ps) = entered (setEntry E (p .entry) (p .value)) ps
+
+entered-append : (ps qs : List Posting) (E : Entries) → entered E (ps ++ qs) ≡ entered (entered E ps) qs
+unfolding entered
+entered-append [] qs E = refl
+entered-append (p ∷ ps) qs E = entered-append ps qs (setEntry E (p .entry) (p .value))
+
+none-made : (k : ℕ) → ifAccepted k [] ≡ []
+none-made zero = refl
+none-made (suc k) = refl
+
+-- The fresh office hears in a call what the call posts, on any table.
+pub hear-made : (S : Sheet) (E : Entries) (T : Table) (c : Call) → hear S E (called c) ≡ entered E (made S T c)
+unfolding hear entered made perform tests firstCause effect
+hear-made S E T (post i kind z) = go (beyond S i) (isFigure (itemAt S i)) (postedValue kind z)
+  where
+    go : (b f : Bool) (o : Option Value) → cond (b || f) E (setIf E i o) ≡ entered E (ifAccepted (unless (cond b 11 (cond f 12 (cond (isNone o) 13 0))) S T (post i kind z) .number) (postingOf i o))
+    go true f o = refl
+    go false true o = refl
+    go false false none = refl
+    go false false (some v) = refl
+hear-made S E T (keep i) = rw (none-made (perform S T (keep i) .number))
+hear-made S E T (drop i) = rw (none-made (perform S T (drop i) .number))
+hear-made S E T (step i) = rw (none-made (perform S T (step i) .number))
+hear-made S E T (ask i) = rw (none-made (perform S T (ask i) .number))
+
+-- so the postings decide what it holds
+pub fresh-entered : (S : Sheet) (cs : List Call) (E : Entries) (T : Table) → freshRun S E cs ≡ entered E (postings S T cs)
+unfolding hearAll postings entered
+fresh-entered S [] E T = refl
+fresh-entered S (c ∷ cs) E T =
+    fresh-entered S cs (hear S E (called c)) (perform S T c .table)
+    ∙ ap (λ F. entered F (postings S (perform S T c .table) cs)) (hear-made S E T c)
+    ∙ sym (entered-append (made S T c) (postings S (perform S T c .table) cs) E)
+
+-- an ask of a sound table is answered as the fresh office answers
+pub ask-answers : (S : Sheet) → Ordered S → (E : Entries) (T : Table) → Sound S E T → (i : ℕ) → Answers (freshAsk S E i) (perform S T (ask i))
+unfolding freshAsk perform tests firstCause effect
+ask-answers S ordered E T sound i = go (beyond S i) refl
+  where
+    go : (b : Bool) → beyond S i ≡ b → Answers (cond b none (some (give S E i))) (unless (cond b 11 0) S T (ask i))
+    go true e = (refl, refl)
+    go false e = (refl, ap some value)
+      where
+        caught : Sound S E (catchUp S T)
+        caught = catchUp-sound S ordered E T sound
+
+        value : lookUp S (catchUp S T) i .value ≡ give S E i
+        value =
+            quiet-look S ordered E (give S E) (give-solves S ordered E) (catchUp S T) (caught .invariant) (caught .formed) (caught .holds)
+            (catchUp-quiet S ordered T) i (leb-false (size S) i e)
+
+same-number : (a : Option Value) (o q : Outcome) → Answers a o → Answers a q → o .number ≡ q .number
+same-number none o q h k = h .0 ∙ sym (k .0)
+same-number (some v) o q h k = h .0 ∙ sym (k .0)
+
+same-reading : (a : Option Value) (o q : Outcome) → Answers a o → Answers a q → o .reading ≡ q .reading
+same-reading none o q h k = h .1 ∙ sym (k .1)
+same-reading (some v) o q h k = h .1 ∙ sym (k .1)
+
+-- Two offices agree.
+pub two-offices : (S : Sheet) → Ordered S → (E : Entries) (T : Table) (cs : List Call) (U : Table) (ds : List Call) → Sound S E T → Sound S E U → postings S T cs ≡ postings S U ds → Agree S E T cs U ds
+two-offices S ordered E T cs U ds soundT soundU same =
+    record {
+      numbers = λ i. same-number (freshAsk S (freshRun S E ds) i) (perform S (run S T cs) (ask i)) (perform S (run S U ds) (ask i)) (second i) (other i);
+      readings = λ i. same-reading (freshAsk S (freshRun S E ds) i) (perform S (run S T cs) (ask i)) (perform S (run S U ds) (ask i)) (second i) (other i);
+      first = first;
+      second = second;
+    }
+  where
+    heard : freshRun S E cs ≡ freshRun S E ds
+    heard = fresh-entered S cs E T ∙ ap (entered E) same ∙ sym (fresh-entered S ds E U)
+
+    first : (i : ℕ) → Answers (freshAsk S (freshRun S E cs) i) (perform S (run S T cs) (ask i))
+    first = ask-answers S ordered (freshRun S E cs) (run S T cs) (run-sound S ordered cs E T soundT)
+
+    other : (i : ℕ) → Answers (freshAsk S (freshRun S E ds) i) (perform S (run S U ds) (ask i))
+    other = ask-answers S ordered (freshRun S E ds) (run S U ds) (run-sound S ordered ds E U soundU)
+
+    second : (i : ℕ) → Answers (freshAsk S (freshRun S E ds) i) (perform S (run S T cs) (ask i))
+    second i = subst (λ F. Answers (freshAsk S F i) (perform S (run S T cs) (ask i))) heard (first i)
+
+pub opened-sound : (S : Sheet) → Ordered S → (a : Opening) → Sound S blank (opened a S)
+opened-sound S ordered bare = bare-sound S
+opened-sound S ordered full = full-sound S ordered
+
+-- the four pairs of openings
+pub two-openings : (S : Sheet) → Ordered S → (a b : Opening) (cs ds : List Call) → postings S (opened a S) cs ≡ postings S (opened b S) ds → Agree S blank (opened a S) cs (opened b S) ds
+two-openings S ordered a b cs ds same =
+    two-offices S ordered blank (opened a S) cs (opened b S) ds (opened-sound S ordered a) (opened-sound S ordered b) same
