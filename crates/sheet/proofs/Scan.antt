@@ -11,7 +11,7 @@ use native.Mathlib.Decide.{decLe, decLt}
 use native.Mathlib.Nat.{zero-add, suc-add}
 use lib.Dec.{eqb, leb, ltb}
 use lib.ListN.{length, getD, take, drop, length-append, length-map, List·getD-map, List·getD-append, List·getD-eq-default}
-use lib.Seq.{take-append-le, take-append-seam, take-length, take-all, getD-append-seam, getD-at, getD-take}
+use lib.Seq.{length-take-le, take-append-le, take-append-seam, take-length, take-all, getD-append-seam, getD-at, getD-take}
 use borrow.Author.Tests.{eqb-true, eqb-false, leb-true, ltb-true, ltb-false, not-true, not-false, eq-eqb, le-ltb}
 use Rattle.field.specs.Field.{cutAt, le16At, Bytes}
 use Rattle.field.specs.declared.Cut.{Cut}
@@ -19,7 +19,9 @@ use Rattle.field.specs.declared.Cut.the-variants.{Field, Short, Absent}
 use Rattle.field.proofs.Cutting.{FieldAt, field-iff, field-onward, content-length}
 use Rattle.circuit.specs.Calls.{Test, test, firstCause}
 use Rattle.circuit.specs.Circuit.{Listed}
-use Rattle.sheet.specs.Layout.{LayoutItem, entryField, figureField, Layout, headTag, entryTag, figureTag, lastTag, editionKnown, countAllowed, levelLimit, keepAllowed, spreadAllowed, ruleAllowed, nameAllowed, all, highest}
+use Rattle.circuit.specs.Rules.{Operation, operationOf}
+use Rattle.circuit.specs.Sheet.{Item, entry, figure, itemAt, parentsOf, Ordered}
+use Rattle.sheet.specs.Layout.{LayoutItem, entryField, figureField, Layout, headTag, entryTag, figureTag, lastTag, editionKnown, countAllowed, levelLimit, keepAllowed, spreadAllowed, ruleAllowed, nameAllowed, all, highest, itemLimit, machineItem, machineSheet, operationOr, spreadMeant, isSome}
 use Rattle.sheet.specs.Read.{contentAt, editionIn, countIn, itemIn, Placed, placed, levelOf, itemLevel, lengthOrName, ruleWrong, parentWrong, levelWrong, headTests, itemTests, lastTests, judge, Scan, going, stopped, placeItem, placeField, goOn, scanItem, headNext, scan, afterLast, scanEnd, scanLast, headContent, scanSheet, SheetRead, opens, refused, conclude, readSheet, layoutOf}
 
 -- Lists of tests.
@@ -341,3 +343,98 @@ module _ (s : List ℕ) where
       let ed = o .edition-is in
       let h : HeadRead = record { head = o .head; edition-fits = rw ed (o .edition-fits); count-fits = rw ed (o .count-fits) } in
       rw (head-judged h, ed, o .scanned, last-scanned (o .at) ps (o .last))
+
+-- What a sheet that opens says of its items, as they were written and as the machine sees them.
+
+-- item j passed its tests
+pub record ItemFits (edition : ℕ) (ps : List Placed) (j : ℕ) : Type 0 where
+  pub rule-fits : ruleWrong edition (placedAt ps j .item) ≡ false
+  pub parents-fit : parentWrong j (placedAt ps j .item) ≡ false
+  pub level-is : placedAt ps j .level ≡ itemLevel (take j ps) (placedAt ps j .item)
+  pub level-fits : placedAt ps j .level ≤ levelLimit
+
+pub scan-fits : (s : List ℕ) (edition k at : ℕ) (ps : List Placed) → scan s edition k ≡ going at ps → (j : ℕ) → j < k → ItemFits edition ps j
+scan-fits s edition k at ps e j h =
+    let a = scan-item s edition k at ps e j h in
+    let r = a .read in
+    let n = scan-length s edition k at ps e in
+    let m : length (take j ps) ≡ j = length-take-le j ps (omega arith) in
+    let p = passes edition (take j ps) (r .tag) (contentAt s (r .start) (r .len)) (r .sound) in
+    let l : ltb levelLimit (itemLevel (take j ps) (placedAt ps j .item)) ≡ false = rw (r .item-is) (p .level-fits) in
+    let below : parentWrong (length (take j ps)) (placedAt ps j .item) ≡ false = rw (r .item-is) (p .parents-fit) in
+    record {
+      rule-fits = rw (r .item-is) (p .rule-fits);
+      parents-fit = ap (λ n. parentWrong n (placedAt ps j .item)) (sym m) ∙ below;
+      level-is = a .level-is;
+      level-fits = omega (arith, ltb-false levelLimit (itemLevel (take j ps) (placedAt ps j .item)) l);
+    }
+
+pub machine-item : (edition : ℕ) (ps : List Placed) (i : ℕ) → itemAt (machineSheet (layoutOf edition ps)) i ≡ machineItem (placedAt ps i .item)
+unfolding machineItem
+machine-item edition ps i =
+    List·getD-map machineItem (map (λ p. p .item) ps) i (entryField []) ∙ ap machineItem (List·getD-map (λ p. p .item) ps i (placed 0 (entryField []) 0))
+
+pub parent-below : (i p : ℕ) (it : LayoutItem) → parentWrong i it ≡ false → Listed p (parentsOf (machineItem it)) → p < i
+unfolding machineItem
+parent-below i p (entryField name) e l = absurd l
+parent-below i p (figureField rule keep spread parents name) e l =
+    ltb-true p i (all-listed (λ q. ltb q i) parents (not-false _ e) p l)
+
+entry-listed : (p : ℕ) (name : List ℕ) → Listed p (parentsOf (machineItem (entryField name))) → ⊥
+unfolding machineItem
+entry-listed p name l = l
+
+pub allowed-operation : (rule p : ℕ) → ruleAllowed rule p ≡ true → (op : Operation) × (operationOf rule p ≡ some op)
+allowed-operation rule p e = go (operationOf rule p) refl e
+  where
+    go : (o : Option Operation) → operationOf rule p ≡ o → isSome o ≡ true → (op : Operation) × (operationOf rule p ≡ some op)
+    go none q h = let z : _≡_ {A = ℕ} 0 1 = cc in absurd (omega arith)
+    go (some op) q h = (op, q)
+
+pub machine-figure : (rule keep spread : ℕ) (parents name : List ℕ) (op : Operation) → operationOf rule (length parents) ≡ some op
+    → machineItem (figureField rule keep spread parents name) ≡ figure op (eqb keep 1) (spreadMeant spread) parents
+unfolding machineItem
+machine-figure rule keep spread parents name op e = rw e
+
+module _ (s : List ℕ) (edition : ℕ) (ps : List Placed) (e : readSheet s ≡ opens edition ps) where
+  pub opened-length : length ps ≡ countIn (headContent s)
+  opened-length = let o = opened s edition ps e in scan-length s edition (countIn (headContent s)) (o .at) ps (o .scanned)
+
+  pub opened-count : (1 ≤ length ps) × (length ps ≤ 1024)
+  unfolding countAllowed itemLimit
+  opened-count =
+      let o = opened s edition ps e in
+      let n = opened-length in
+      let c = o .count-fits in
+      let k : ℕ = countIn (headContent s) in
+      (omega (arith, leb-true 1 k (and-left (leb 1 k) (leb k 1024) c)), omega (arith, leb-true k 1024 (and-right (leb 1 k) (leb k 1024) c)))
+
+  pub opened-fits : (j : ℕ) → j < length ps → ItemFits edition ps j
+  opened-fits j h =
+      let o = opened s edition ps e in
+      scan-fits s edition (countIn (headContent s)) (o .at) ps (o .scanned) j (omega (arith, opened-length))
+
+  pub opened-level : (j : ℕ) → j < length ps → placedAt ps j .level ≤ 64
+  unfolding levelLimit
+  opened-level j h = opened-fits j h .level-fits
+
+  -- each parent is a lower item number
+  pub opened-ordered : Ordered (machineSheet (layoutOf edition ps))
+  opened-ordered i p l = go (decLt i (length ps)) (rw (machine-item edition ps i) at l)
+    where
+      go : Dec (i < length ps) → Listed p (parentsOf (machineItem (placedAt ps i .item))) → p < i
+      go (yes h) q = parent-below i p (placedAt ps i .item) (opened-fits i h .parents-fit) q
+      go (no h) q =
+          let d : placedAt ps i ≡ placed 0 (entryField []) 0 = List·getD-eq-default ps (placed 0 (entryField []) 0) (omega arith) in
+          absurd (entry-listed p [] (rw d at q))
+
+  -- a figure's operation is that of its rule and parent count
+  pub opened-operation : (j : ℕ) → j < length ps → (rule keep spread : ℕ) (parents name : List ℕ)
+      → placedAt ps j .item ≡ figureField rule keep spread parents name
+      → (op : Operation) × (operationOf rule (length parents) ≡ some op) × (itemAt (machineSheet (layoutOf edition ps)) j ≡ figure op (eqb keep 1) (spreadMeant spread) parents)
+  opened-operation j h rule keep spread parents name q =
+      let f : ruleWrong edition (figureField rule keep spread parents name) ≡ false = rw q at (opened-fits j h .rule-fits) in
+      let r = and-left (ruleAllowed rule (length parents)) (keepAllowed keep) (and-left (ruleAllowed rule (length parents) && keepAllowed keep) (spreadAllowed edition spread) (not-false _ f)) in
+      let a = allowed-operation rule (length parents) r in
+      let m = machine-figure rule keep spread parents name (a .0) (a .1) in
+      (a .0, a .1, machine-item edition ps j ∙ ap machineItem q ∙ m)
