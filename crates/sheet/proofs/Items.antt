@@ -101,7 +101,7 @@ item-back (figureField rule keep spread parents name) =
 
 -- Write back what was read.
 
-pair-forth : (low high : ℕ) → low < 256 → bytes16 (le16 low high) ≡ low ∷ high ∷ []
+pub pair-forth : (low high : ℕ) → low < 256 → bytes16 (le16 low high) ≡ low ∷ high ∷ []
 pair-forth low high h = rw (le16-low low high h, le16-high low high h)
 
 take-two : (l : List ℕ) (n : ℕ) → n + 2 ≤ length l → take (suc (suc n)) l ≡ take n l ++ (getD l n 0 ∷ getD l (n + 1) 0 ∷ [])
@@ -124,7 +124,7 @@ parents-forth content b (suc n) h =
     let q : bytes16 p ≡ getD content (4 + 2 * n) 0 ∷ getD content (4 + 2 * n + 1) 0 ∷ [] = pair-forth _ _ (b (4 + 2 * n)) in
     let both = take-two (drop 4 content) (2 * n) (omega (arith, length-drop 4 content)) in
     let left : concat (map bytes16 (parentsIn content n ++ (p ∷ []))) ≡ concat (map bytes16 (parentsIn content n)) ++ bytes16 p =
-        ap concat (map-append bytes16 (parentsIn content n) (p ∷ [])) ∙ concat-append (map bytes16 (parentsIn content n)) (bytes16 p ∷ []) in
+    ap concat (map-append bytes16 (parentsIn content n) (p ∷ [])) ∙ concat-append (map bytes16 (parentsIn content n)) (bytes16 p ∷ []) in
     left ∙ rw (two, both, ih, q, low, high′)
 
 pub parents-count : (content : List ℕ) (n : ℕ) → length (parentsIn content n) ≡ n
