@@ -1,0 +1,5 @@
+pub mod Scan
+pub mod Items
+pub mod Exactly
+pub mod Index
+pub mod Tests
