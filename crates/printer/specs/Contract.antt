@@ -1,0 +1,35 @@
+-- The printer's answer, and what its contract says. Assumes nothing.
+use mathlib.Core.Path.{_≡_}
+use Prim.Native.Nat.{ℕ}
+use mathlib.Core.Bool.{cond}
+use mathlib.Core.List.{List}
+use lib.Dec.{eqb}
+use lib.IntN.{ℤ, pos, negℤ}
+use lib.ListN.{length}
+use Rattle.printer.specs.declared.Printed.{Printed}
+use Rattle.printer.specs.declared.Printed.the-variants.{Length, Refused}
+use Rattle.printer.specs.Printing.{printCause, partOf, withFront}
+
+-- the length of the part, or the number of the cause
+abbrev pub answerOf : ℕ → ℤ → ℕ → Printed
+answerOf kind z count =
+    cond (eqb (printCause kind z count) 0) (Length (length (partOf kind z count))) (Refused (printCause kind z count))
+
+-- an answer in numbers: the number of "Turned back" (0 if accepted), and the part's length
+abbrev pub numberOf : Printed → ℕ
+numberOf (Length n) = 0
+numberOf (Refused cause) = cause
+
+abbrev pub lengthOf : Printed → ℕ
+lengthOf (Length n) = n
+lengthOf (Refused cause) = 0
+
+-- the answer as the C form gives it: the part's length, or the cause's number negated
+abbrev pub codeOf : Printed → ℤ
+codeOf (Length n) = pos n
+codeOf (Refused cause) = negℤ (pos cause)
+
+-- a call of the printer: its arguments, with the scratch bytes before it, its answer, and the scratch bytes after it
+pub record Prints (kind : ℕ) (z : ℤ) (before : List ℕ) (answer : Printed) (after : List ℕ) : Type 0 where
+  pub answers : answer ≡ answerOf kind z (length before)
+  pub bytes : after ≡ withFront (partOf kind z (length before)) before
