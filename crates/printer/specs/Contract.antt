@@ -1,11 +1,12 @@
 -- The printer's answer, and what its contract says. Assumes nothing.
 use mathlib.Core.Path.{_≡_}
-use Prim.Native.Nat.{ℕ}
+use Prim.Native.Nat.{ℕ, _+_}
 use mathlib.Core.Bool.{cond}
-use mathlib.Core.List.{List}
+use mathlib.Core.List.{List, _++_}
 use lib.Dec.{eqb}
 use lib.IntN.{ℤ, pos, negℤ}
-use lib.ListN.{length}
+use lib.ListN.{length, take, drop}
+use Rattle.printer.specs.Decimal.{digits}
 use Rattle.printer.specs.declared.Printed.{Printed}
 use Rattle.printer.specs.declared.Printed.the-variants.{Length, Refused}
 use Rattle.printer.specs.Printing.{printCause, partOf, withFront}
@@ -28,6 +29,11 @@ lengthOf (Refused cause) = 0
 abbrev pub codeOf : Printed → ℤ
 codeOf (Length n) = pos n
 codeOf (Refused cause) = negℤ (pos cause)
+
+-- the digits of m written into bytes from the place `at` on, and the place after them
+pub record WithDigits (m at : ℕ) (before : List ℕ) (next : ℕ) (after : List ℕ) : Type 0 where
+  pub place : next ≡ at + length (digits m)
+  pub bytes : after ≡ take at before ++ digits m ++ drop next before
 
 -- a call of the printer: its arguments, with the scratch bytes before it, its answer, and the scratch bytes after it
 pub record Prints (kind : ℕ) (z : ℤ) (before : List ℕ) (answer : Printed) (after : List ℕ) : Type 0 where

@@ -7,7 +7,7 @@ ghost use lib.ListN.{length, take, drop};
 ghost use lib.IntN.{ℤ, natAbs};
 ghost use Rattle.printer.specs.Decimal.{digits, decimal, PowersOfTen};
 ghost use Rattle.printer.specs.Printing.{valueOf, isSome, textOf, partOf, withFront};
-ghost use Rattle.printer.specs.Contract.{Prints};
+ghost use Rattle.printer.specs.Contract.{WithDigits, Prints};
 
 // The printer's answer: the length of the part that it has written, or the number of what turned it back.
 pub enum Printed {
@@ -38,7 +38,7 @@ const POWERS: [u64; 19] = [
     1_000_000_000_000_000_000,
 ];
 
-// How many digits m has. (The table is lent: a constant that is indexed is laid out anew at each use.)
+// How many digits m has.
 fn digit_count(m: u64, powers: &[u64; 19]) -> usize
     requires { ⌜ (m < 10 ^ 18) × PowersOfTen (now powers) ⌝ }
     ensures { λ r. ⌜ (r ≡ length (digits m)) × (r ≤ 18) ⌝ }
@@ -50,14 +50,13 @@ fn digit_count(m: u64, powers: &[u64; 19]) -> usize
     k
 }
 
-// Writes the digits of m from the place `at` on, and gives the place after them.
-pub fn put_digits(m: u64, at: usize, scratch: &mut [u8]) -> usize
-    requires { ⌜ (m < 10 ^ 18) × (at + 18 ≤ length (now scratch)) ⌝ }
-    ensures { λ r. ⌜ (r ≡ at + length (digits m)) × (now (scratch .exit) ≡ take at (now (scratch .entry)) ++ digits m ++ drop r (now (scratch .entry))) ⌝ }
+// Writes the digits of m from the place `at` on, the highest first, and gives the place after them.
+fn put_by_powers(m: u64, at: usize, powers: &[u64; 19], scratch: &mut [u8]) -> usize
+    requires { ⌜ (m < 10 ^ 18) × (at + 18 ≤ length (now scratch)) × PowersOfTen (now powers) ⌝ }
+    ensures { λ r. ⌜ WithDigits m at (now (scratch .entry)) r (now (scratch .exit)) ⌝ }
 {
-    let powers = POWERS;
     let mut rest = m;
-    let mut left = digit_count(m, &powers);
+    let mut left = digit_count(m, powers);
     let mut place = at;
     while 0 < left {
         left -= 1;
@@ -67,4 +66,13 @@ pub fn put_digits(m: u64, at: usize, scratch: &mut [u8]) -> usize
         place += 1;
     }
     place
+}
+
+// The same with the table. It is laid out once and lent, since a constant that is indexed is laid out at each use.
+pub fn put_digits(m: u64, at: usize, scratch: &mut [u8]) -> usize
+    requires { ⌜ (m < 10 ^ 18) × (at + 18 ≤ length (now scratch)) ⌝ }
+    ensures { λ r. ⌜ WithDigits m at (now (scratch .entry)) r (now (scratch .exit)) ⌝ }
+{
+    let powers = POWERS;
+    put_by_powers(m, at, &powers, scratch)
 }
