@@ -1,15 +1,21 @@
--- Writing the digits of m into a list of bytes, from the place `at` on, the highest first: what holds after each digit.
--- Assumes nothing.
+-- Writing into a list of bytes, one byte a turn, and what holds after each: the digits of m from the place `at` on, the
+-- highest first; and fixed bytes at the front. Assumes nothing.
 use Prim.Native.Nat.{ℕ, zero, suc, _+_, _-_, _/_, _%_, _^_, _≤_, _<_}
 use mathlib.Core.Path.{_≡_, refl, sym, ap, _∙_, subst}
 use mathlib.Core.List.{List, [], _∷_, _++_, append-assoc, append-nil}
 use native.Mathlib.Nat.{mod-lt, div-lt-iff-lt-mul, pow-succ'}
 use native.Mathlib.Numerals.{add-one}
 use native.Mathlib.Omega.{arith}
-use lib.ListN.{length, take, drop, set, length-set, take-append-drop}
-use lib.Seq.{take-suc-set, drop-set-lt, drop-drop}
+use lib.ListN.{length, take, drop, set, getD, length-set, take-append-drop}
+use lib.Seq.{take-suc-set, drop-set-lt, drop-drop, take-suc, take-length}
 use Rattle.printer.specs.Decimal.{digit, digits}
+use Rattle.printer.specs.Printing.{withFront}
 use Rattle.printer.proofs.Digits.{places, digits-places, below-pow, pow-pos}
+
+-- a store at the place where the unchanged bytes begin leaves the others unchanged
+back-step : (s₀ s : List ℕ) (place b : ℕ) → drop place s ≡ drop place s₀ → drop (place + 1) (set s place b) ≡ drop (place + 1) s₀
+back-step s₀ s place b e =
+    drop-set-lt (place + 1) s place b (omega arith) ∙ sym (drop-drop 1 place s) ∙ ap (λ l. drop 1 l) e ∙ drop-drop 1 place s₀
 
 -- `left` digits are to come, which are those of `rest`, and the next one goes to `place`
 pub record Writing (m at : ℕ) (s₀ s : List ℕ) (rest left place : ℕ) : Type 0 where
@@ -48,13 +54,7 @@ step m at s₀ s rest (suc left) place p w h l e =
               ∙ append-assoc (take place s) (digit (rest / p) ∷ []) (places left (rest % p))
               ∙ ap (λ r. take place s ++ (digit (rest / r) ∷ places left (rest % r))) q
               ∙ unfold places in w .front);
-      back = rw add-one (
-          drop-set-lt (suc place) s place (digit (rest / p)) (omega arith)
-              ∙ ap (λ k. drop k s) (sym (add-one place))
-              ∙ sym (drop-drop 1 place s)
-              ∙ ap (λ b. drop 1 b) (w .back)
-              ∙ drop-drop 1 place s₀
-              ∙ ap (λ k. drop k s₀) (add-one place));
+      back = back-step s₀ s place (digit (rest / p)) (w .back);
       size = length-set s place (digit (rest / p)) ∙ w .size;
     }
   where
@@ -74,3 +74,28 @@ finish m at s₀ s rest left place w e =
     none-left = unfold places in rw (e, places)
     whole : take place s ≡ take at s₀ ++ digits m
     whole = sym (append-nil (take place s)) ∙ (rw none-left at (w .front))
+
+-- k bytes of the mark are written
+pub record Copying (mark s₀ s : List ℕ) (k : ℕ) : Type 0 where
+  pub few : k ≤ length mark
+  pub front : take k s ≡ take k mark
+  pub back : drop k s ≡ drop k s₀
+  pub size : length s ≡ length s₀
+
+pub copy-start : (mark s : List ℕ) → Copying mark s s 0
+copy-start mark s = record { few = omega arith; front = refl; back = refl; size = refl }
+
+pub copy-step : (mark s₀ s : List ℕ) (k : ℕ) → Copying mark s₀ s k → k < length s → k < length mark → Copying mark s₀ (set s k (getD mark k 0)) (k + 1)
+copy-step mark s₀ s k w h l =
+    record {
+      few = omega arith;
+      front = rw add-one (take-suc-set s k (getD mark k 0) h ∙ ap (λ f. f ++ (getD mark k 0 ∷ [])) (w .front) ∙ sym (take-suc mark k 0 l));
+      back = back-step s₀ s k (getD mark k 0) (w .back);
+      size = length-set s k (getD mark k 0) ∙ w .size;
+    }
+
+pub copy-finish : (mark s₀ s : List ℕ) (k : ℕ) → Copying mark s₀ s k → k ≡ length mark → s ≡ withFront mark s₀
+copy-finish mark s₀ s k w e =
+    sym (take-append-drop k s)
+    ∙ ap (λ f. f ++ drop k s) (w .front ∙ ap (λ n. take n mark) e ∙ take-length mark)
+    ∙ ap (λ b. mark ++ b) (w .back ∙ ap (λ n. drop n s₀) e)

@@ -35,6 +35,11 @@ pub record WithDigits (m at : ℕ) (before : List ℕ) (next : ℕ) (after : Lis
   pub place : next ≡ at + length (digits m)
   pub bytes : after ≡ take at before ++ digits m ++ drop next before
 
+-- a text written at the front of bytes, and its length
+pub record Front (text before : List ℕ) (count : ℕ) (after : List ℕ) : Type 0 where
+  pub size : count ≡ length text
+  pub bytes : after ≡ withFront text before
+
 -- a call of the printer: its arguments, with the scratch bytes before it, its answer, and the scratch bytes after it
 pub record Prints (kind : ℕ) (z : ℤ) (before : List ℕ) (answer : Printed) (after : List ℕ) : Type 0 where
   pub answers : answer ≡ answerOf kind z (length before)

@@ -6,8 +6,8 @@ ghost use Prim.Native.Nat.{_+_, _^_, _≤_, _<_};
 ghost use lib.ListN.{length, take, drop};
 ghost use lib.IntN.{ℤ, natAbs};
 ghost use Rattle.printer.specs.Decimal.{digits, decimal, PowersOfTen};
-ghost use Rattle.printer.specs.Printing.{valueOf, isSome, textOf, partOf, withFront};
-ghost use Rattle.printer.specs.Contract.{WithDigits, Prints};
+ghost use Rattle.printer.specs.Printing.{valueOf, isSome, textOf, partOf};
+ghost use Rattle.printer.specs.Contract.{WithDigits, Front, Prints};
 
 // The printer's answer: the length of the part that it has written, or the number of what turned it back.
 pub enum Printed {
@@ -75,4 +75,93 @@ pub fn put_digits(m: u64, at: usize, scratch: &mut [u8]) -> usize
 {
     let powers = POWERS;
     put_by_powers(m, at, &powers, scratch)
+}
+
+// The magnitude of z. Below 0 it is 1 more than -1 - z, which fits.
+fn magnitude(z: i64) -> u64
+    ensures { λ r. ⌜ r ≡ natAbs z ⌝ }
+{
+    if z < 0 {
+        (-1 - z) as u64 + 1
+    } else {
+        z as u64
+    }
+}
+
+// Writes a number at the front.
+fn put_number(z: i64, scratch: &mut [u8]) -> usize
+    requires { ⌜ (natAbs z < 10 ^ 18) × (19 ≤ length (now scratch)) ⌝ }
+    ensures { λ r. ⌜ Front (decimal z) (now (scratch .entry)) r (now (scratch .exit)) ⌝ }
+{
+    let m = magnitude(z);
+    if z < 0 {
+        scratch[0] = b'-';
+        return put_digits(m, 1, scratch);
+    }
+    put_digits(m, 0, scratch)
+}
+
+// Writes fixed bytes at the front.
+fn put_mark(mark: &[u8], scratch: &mut [u8]) -> usize
+    requires { ⌜ length (now mark) ≤ length (now scratch) ⌝ }
+    ensures { λ r. ⌜ Front (now (mark .entry)) (now (scratch .entry)) r (now (scratch .exit)) ⌝ }
+{
+    let mut k: usize = 0;
+    while k < mark.len() {
+        scratch[k] = mark[k];
+        k += 1;
+    }
+    k
+}
+
+// Writes an accepted value.
+fn put_value(kind: u64, number: i64, scratch: &mut [u8]) -> usize
+    requires { ⌜ (isSome (valueOf kind number) ≡ true) × (20 ≤ length (now scratch)) ⌝ }
+    ensures { λ r. ⌜ Front (textOf (valueOf kind number)) (now (scratch .entry)) r (now (scratch .exit)) ⌝ }
+{
+    if kind == 3 {
+        return put_number(number, scratch);
+    }
+    if kind == 1 {
+        return put_mark(b"-", scratch);
+    }
+    put_mark(b"OUT", scratch)
+}
+
+// The range's limit.
+const LIMIT: u64 = 1_000_000_000_000;
+
+// Whether a kind and a number name a value.
+pub fn accepts(kind: u64, number: i64) -> bool
+    ensures { λ r. ⌜ r ≡ isSome (valueOf kind number) ⌝ }
+{
+    match kind {
+        3 => magnitude(number) <= LIMIT,
+        1 | 2 => number == 0,
+        _ => false,
+    }
+}
+
+// Writes a value at the front of the scratch bytes; the bytes after it stay. Turned back, it writes nothing.
+pub fn print_into(kind: u64, number: i64, scratch: &mut [u8]) -> Printed
+    ensures { λ r. ⌜ Prints kind number (now (scratch .entry)) r (now (scratch .exit)) ⌝ }
+{
+    if !accepts(kind, number) {
+        return Printed::Refused(10);
+    }
+    if scratch.len() < 20 {
+        return Printed::Refused(15);
+    }
+    Printed::Length(put_value(kind, number, scratch))
+}
+
+// The printer: writes a value at the front of the scratch bytes, and hands back the written part. Turned back, the part
+// is empty. (The scratch is spent: print_into says what becomes of the bytes after the part.)
+pub fn print(kind: u64, number: i64, scratch: &mut [u8]) -> &mut [u8]
+    ensures { λ r. ⌜ now r ≡ partOf kind number (length (now (scratch .entry))) ⌝ }
+{
+    match print_into(kind, number, scratch) {
+        Printed::Length(n) => &mut scratch[..n],
+        Printed::Refused(_) => &mut scratch[..0],
+    }
 }
