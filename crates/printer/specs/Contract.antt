@@ -17,9 +17,9 @@ answerOf kind z count =
     cond (eqb (printCause kind z count) 0) (Length (length (partOf kind z count))) (Refused (printCause kind z count))
 
 -- an answer in numbers: the number of "Turned back" (0 if accepted), and the part's length
-abbrev pub numberOf : Printed → ℕ
-numberOf (Length n) = 0
-numberOf (Refused cause) = cause
+abbrev pub refusalOf : Printed → ℕ
+refusalOf (Length n) = 0
+refusalOf (Refused cause) = cause
 
 abbrev pub lengthOf : Printed → ℕ
 lengthOf (Length n) = n
@@ -43,4 +43,9 @@ pub record Front (text before : List ℕ) (count : ℕ) (after : List ℕ) : Typ
 -- a call of the printer: its arguments, with the scratch bytes before it, its answer, and the scratch bytes after it
 pub record Prints (kind : ℕ) (z : ℤ) (before : List ℕ) (answer : Printed) (after : List ℕ) : Type 0 where
   pub answers : answer ≡ answerOf kind z (length before)
+  pub bytes : after ≡ withFront (partOf kind z (length before)) before
+
+-- the same with the C form's answer
+pub record PrintsCode (kind : ℕ) (z : ℤ) (before : List ℕ) (code : ℤ) (after : List ℕ) : Type 0 where
+  pub answers : code ≡ codeOf (answerOf kind z (length before))
   pub bytes : after ≡ withFront (partOf kind z (length before)) before

@@ -1,7 +1,7 @@
 -- Decimal notation, as bytes: the digits from the highest to the lowest, with no leading zero, and a minus before a
 -- number below 0. Assumes nothing.
 use mathlib.Core.Path.{_≡_}
-use Prim.Native.Nat.{ℕ, zero, suc, _+_, _-_, _*_, _/_, _%_, _^_, _<_}
+use Prim.Native.Nat.{ℕ, zero, suc, _+_, _-_, _*_, _/_, _%_, _^_, _≤_, _<_}
 use mathlib.Core.Bool.{Bool, true, false, cond}
 use mathlib.Core.List.{List, [], _∷_, _++_}
 use lib.Dec.{eqb, ltb}
@@ -30,6 +30,11 @@ digits n = digitsUpTo (suc n) n
 unfoldable pub decimal : ℤ → List ℕ
 decimal (pos n) = digits n
 decimal (negsuc n) = minus ∷ digits (suc n)
+
+-- every byte is a digit's
+abbrev pub AllDigits : List ℕ → Type 0
+AllDigits [] = Unit {0}
+AllDigits (b ∷ bs) = (48 ≤ b) × (b ≤ 57) × AllDigits bs
 
 -- The other way: what bytes in decimal notation mean. Each digit counts ten times what the next one does.
 unfoldable pub readFrom : ℕ → List ℕ → ℕ

@@ -7,7 +7,7 @@ ghost use lib.ListN.{length, take, drop};
 ghost use lib.IntN.{ℤ, natAbs};
 ghost use Rattle.printer.specs.Decimal.{digits, decimal, PowersOfTen};
 ghost use Rattle.printer.specs.Printing.{valueOf, isSome, textOf, partOf};
-ghost use Rattle.printer.specs.Contract.{WithDigits, Front, Prints};
+ghost use Rattle.printer.specs.Contract.{WithDigits, Front, Prints, PrintsCode};
 
 // The printer's answer: the length of the part that it has written, or the number of what turned it back.
 pub enum Printed {
@@ -163,5 +163,15 @@ pub fn print(kind: u64, number: i64, scratch: &mut [u8]) -> &mut [u8]
     match print_into(kind, number, scratch) {
         Printed::Length(n) => &mut scratch[..n],
         Printed::Refused(_) => &mut scratch[..0],
+    }
+}
+
+// The worker with its answer in one number: the part's length, or the number of what turned it back, negated.
+pub fn print_code(kind: u64, number: i64, scratch: &mut [u8]) -> i64
+    ensures { λ r. ⌜ PrintsCode kind number (now (scratch .entry)) r (now (scratch .exit)) ⌝ }
+{
+    match print_into(kind, number, scratch) {
+        Printed::Length(n) => n as i64,
+        Printed::Refused(cause) => 0 - (cause as i64),
     }
 }
