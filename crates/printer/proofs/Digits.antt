@@ -49,6 +49,7 @@ by-digits P small more n = below (suc n) n (omega arith)
     step : (n : ℕ) → (10 ≤ n → P (n / 10)) → (b : Bool) → ltb n 10 ≡ b → P n
     step n ih true e = small n (ltb-true n 10 e)
     step n ih false e = more n (ltb-false n 10 e) (ih (ltb-false n 10 e))
+
     below : (f n : ℕ) → n < f → P n
     below zero n h = absurd (omega arith)
     below (suc f) n h = step n (λ ten. below f (n / 10) (omega arith)) (ltb n 10) refl
@@ -64,8 +65,10 @@ read-digits = by-digits (λ n. readFrom 0 (digits n) ≡ n) small more
   where
     one-digit : (n : ℕ) → readFrom 0 (digit n ∷ []) ≡ n
     one-digit n = unfold readFrom in omega arith
+
     small : (n : ℕ) → n < 10 → readFrom 0 (digits n) ≡ n
     small n h = rw (digits-small n h) (one-digit n)
+
     more : (n : ℕ) → 10 ≤ n → readFrom 0 (digits (n / 10)) ≡ n / 10 → readFrom 0 (digits n) ≡ n
     more n h ih = rw (digits-more n h, read-snoc, ih) (omega arith)
 
@@ -109,6 +112,7 @@ below-pow = by-digits (λ n. n < 10 ^ length (digits n)) small more
   where
     small : (n : ℕ) → n < 10 → n < 10 ^ length (digits n)
     small n h = rw (digits-small n h) h
+
     more : (n : ℕ) → 10 ≤ n → n / 10 < 10 ^ length (digits (n / 10)) → n < 10 ^ length (digits n)
     more n h ih =
         rw (length-more n h, add-one, pow-succ' 10 (length (digits (n / 10))), mul-comm 10 (10 ^ length (digits (n / 10))))
@@ -142,12 +146,13 @@ places-snoc : (k n : ℕ) → n < 10 ^ suc k → places (suc k) n ≡ places k (
 unfolding places
 places-snoc zero n h = rw (div-one, mod-eq-of-lt h)
 places-snoc (suc k) n h =
-    rw
-    (places-snoc k (n % 10 ^ suc k) (mod-lt n (pow-pos (suc k))),
-    pow-succ' 10 k,
-    mod-div 10 (10 ^ k) n (omega arith) (pow-pos k),
-    mod-mod-mul 10 (10 ^ k) n,
-    ← div-div-eq-div-mul n 10 (10 ^ k))
+    rw (
+      places-snoc k (n % 10 ^ suc k) (mod-lt n (pow-pos (suc k))),
+      pow-succ' 10 k,
+      mod-div 10 (10 ^ k) n (omega arith) (pow-pos k),
+      mod-mod-mul 10 (10 ^ k) n,
+      ← div-div-eq-div-mul n 10 (10 ^ k),
+    )
 
 -- the digits are the places
 pub digits-places : (n : ℕ) → digits n ≡ places (length (digits n)) n
@@ -155,6 +160,7 @@ digits-places = by-digits (λ n. digits n ≡ places (length (digits n)) n) smal
   where
     small : (n : ℕ) → n < 10 → digits n ≡ places (length (digits n)) n
     small n h = rw (digits-small n h) (unfold places in rw div-one)
+
     more : (n : ℕ) → 10 ≤ n → digits (n / 10) ≡ places (length (digits (n / 10))) (n / 10) → digits n ≡ places (length (digits n)) n
     more n h ih =
         digits-more n h

@@ -46,8 +46,10 @@ value-names kind z v e = go (eqb kind 1) refl (eqb kind 2) refl (eqb kind 3) ref
   where
     of : (w : Value) → w ≡ v → kind ≡ kindOf w → z ≡ numberOf w → wellFormed w ≡ true → Names kind z v
     of w q k n f = record { kind-is = k ∙ ap kindOf q; number-is = n ∙ ap numberOf q; formed = sym (ap wellFormed q) ∙ f }
+
     mark : (w : Value) → kind ≡ kindOf w → pos 0 ≡ numberOf w → wellFormed w ≡ true → withZero w z ≡ some v → Names kind z v
     mark w k n f t = let s = some-is (sameNumber z (pos 0)) w v t in of w (s .1) k (zero-is z (s .0) ∙ n) f
+
     go : (a : Bool) → eqb kind 1 ≡ a → (b : Bool) → eqb kind 2 ≡ b → (c : Bool) → eqb kind 3 ≡ c → Names kind z v
     go true ea b eb c ec = let k = eqb-true kind 1 ea in mark null k refl refl (rw k at e)
     go false ea true eb c ec = let k = eqb-true kind 2 eb in mark out k refl refl (rw k at e)

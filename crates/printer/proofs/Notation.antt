@@ -26,6 +26,7 @@ all-digits = by-digits (λ n. AllDigits (digits n)) small more
   where
     small : (n : ℕ) → n < 10 → AllDigits (digits n)
     small n h = rw (digits-small n h) (omega arith, omega arith, tt)
+
     more : (n : ℕ) → 10 ≤ n → AllDigits (digits (n / 10)) → AllDigits (digits n)
     more n h ih = rw (digits-more n h) (all-snoc (digits (n / 10)) (n % 10) (omega arith) ih)
 
@@ -39,12 +40,14 @@ first-digit = by-digits P small more
   where
     P : ℕ → Type 0
     P n = (48 ≤ getD (digits n) 0 0) × (getD (digits n) 0 0 ≤ 57) × (0 < n → 49 ≤ getD (digits n) 0 0)
+
     small : (n : ℕ) → n < 10 → P n
     small n h = rw (digits-small n h) (omega arith)
+
     more : (n : ℕ) → 10 ≤ n → P (n / 10) → P n
     more n h ih =
         let e : getD (digits n) 0 0 ≡ getD (digits (n / 10)) 0 0 =
-            rw (digits-more n h) (List·getD-append (digits (n / 10)) (digit (n % 10) ∷ []) 0 0 (length-pos (n / 10))) in
+        rw (digits-more n h) (List·getD-append (digits (n / 10)) (digit (n % 10) ∷ []) 0 0 (length-pos (n / 10))) in
         (omega (arith, ih .0), omega (arith, ih .1), λ p. omega (arith, ih .2 (omega arith)))
 
 -- without a sign, bytes are read as digits

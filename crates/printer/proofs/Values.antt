@@ -93,8 +93,10 @@ number-below (negsuc a) (x ∷ s₀) s m n h e l w = unfold decimal in record { 
   where
     same : length (digits m) ≡ length (digits (suc a))
     same = ap (λ k. length (digits k)) e
+
     size : n ≡ suc (length (digits (suc a)))
     size = omega (arith, w .place, same)
+
     bytes : s ≡ minus ∷ (digits (suc a) ++ drop (length (digits (suc a))) s₀)
     bytes = w .bytes ∙ ap (λ k. minus ∷ (digits m ++ drop k (minus ∷ s₀))) size ∙ ap (λ k. minus ∷ (digits k ++ drop (length (digits (suc a))) s₀)) e
 
@@ -103,6 +105,7 @@ number-above (pos a) s₀ s m n h e w = unfold decimal in record { size = size; 
   where
     size : n ≡ length (digits a)
     size = omega (arith, w .place, ap (λ k. length (digits k)) e)
+
     bytes : s ≡ digits a ++ drop (length (digits a)) s₀
     bytes = w .bytes ∙ ap (λ k. digits m ++ drop k s₀) size ∙ ap (λ k. digits k ++ drop (length (digits a)) s₀) e
 number-above (negsuc a) s₀ s m n h e w = absurd (let c : _≡_ {A = ℕ} 0 1 = cc in omega arith)

@@ -51,15 +51,16 @@ step m at s₀ s rest (suc left) place p w h l e =
       small = rw k (rw q (mod-lt rest (pow-pos left)));
       front = rw (k, add-one) (
           ap (λ f. f ++ places left (rest % p)) (take-suc-set s place (digit (rest / p)) h)
-              ∙ append-assoc (take place s) (digit (rest / p) ∷ []) (places left (rest % p))
-              ∙ ap (λ r. take place s ++ (digit (rest / r) ∷ places left (rest % r))) q
-              ∙ unfold places in w .front);
+          ∙ append-assoc (take place s) (digit (rest / p) ∷ []) (places left (rest % p))
+          ∙ ap (λ r. take place s ++ (digit (rest / r) ∷ places left (rest % r))) q
+          ∙ unfold places in w .front);
       back = back-step s₀ s place (digit (rest / p)) (w .back);
       size = length-set s place (digit (rest / p)) ∙ w .size;
     }
   where
     k : suc left - 1 ≡ left
     k = omega arith
+
     q : p ≡ 10 ^ left
     q = e ∙ ap (λ n. 10 ^ n) k
 
@@ -72,6 +73,7 @@ finish m at s₀ s rest left place w e =
   where
     none-left : places left rest ≡ []
     none-left = unfold places in rw (e, places)
+
     whole : take place s ≡ take at s₀ ++ digits m
     whole = sym (append-nil (take place s)) ∙ (rw none-left at (w .front))
 

@@ -54,9 +54,16 @@ firstCause (c ∷ cs) = cond (c .holds) (c .number) (firstCause cs)
 abbrev pub leastScratch : ℕ
 leastScratch = 20
 
--- the printer's causes, at a kind, a number and the count of the scratch bytes
+-- the printer's causes: the kind is not 1 to 3, or the number is out of form or range; the scratch is under 20 bytes
+abbrev pub noValue : ℕ → ℤ → Bool
+noValue kind z = not (isSome (valueOf kind z))
+
+abbrev pub scratchShort : ℕ → Bool
+scratchShort count = ltb count leastScratch
+
+-- the cause that turns back a call with a kind, a number and so many scratch bytes
 abbrev pub printCause : ℕ → ℤ → ℕ → ℕ
-printCause kind z count = firstCause (cause 10 (not (isSome (valueOf kind z))) ∷ cause 15 (ltb count leastScratch) ∷ [])
+printCause kind z count = firstCause (cause 10 (noValue kind z) ∷ cause 15 (scratchShort count) ∷ [])
 
 -- the part that is handed back: the value's text, and nothing if the call is turned back
 abbrev pub partOf : ℕ → ℤ → ℕ → List ℕ

@@ -81,11 +81,7 @@ pub fn put_digits(m: u64, at: usize, scratch: &mut [u8]) -> usize
 fn magnitude(z: i64) -> u64
     ensures { λ r. ⌜ r ≡ natAbs z ⌝ }
 {
-    if z < 0 {
-        (-1 - z) as u64 + 1
-    } else {
-        z as u64
-    }
+    if z < 0 { (-1 - z) as u64 + 1 } else { z as u64 }
 }
 
 // Writes a number at the front.

@@ -21,26 +21,26 @@ magnitude-requires c κs = search needs
 -- src/lib.rt:135:1
 returns : tie.Need-returns
 unfolding limit
-returns c = 
+returns c =
     let at-start = c .before .before in
     accepts-number (at-start .args .kind) (c .magnitude .result) (at-start .args .number) (c .before .match .keys1)
     (c .magnitude .ensures ∙ ap natAbs (toZ-ofZ w64 (at-start .args .number) (at-start .fits .number)))
 
 -- src/lib.rt:135:1
 returns-2 : tie.Need-returns-2
-returns-2 c = 
+returns-2 c =
     let at-start = c .before .before .before in
     accepts-mark (at-start .args .kind) (at-start .args .number) (at-start .fits .number) (mark-kinds (at-start .args .kind) (c .before .if1 .left) (c .if2 .taken))
 
 -- src/lib.rt:135:1
 returns-3 : tie.Need-returns-3
-returns-3 c = 
+returns-3 c =
     let at-start = c .before .before in
     sym (ap isSome (accepts-none (at-start .args .kind) (at-start .args .number) (λ e. omega arith) (λ e. omega arith) (λ e. omega arith)))
 
 -- src/lib.rt:135:1
 returns-4 : tie.Need-returns-4
-returns-4 c = 
+returns-4 c =
     let at-start = c .before .before .before in
     sym (ap isSome (accepts-none (at-start .args .kind) (at-start .args .number) (λ e. omega arith) (λ e. omega arith) (c .before .before .match .rest .1)))
 

@@ -25,7 +25,7 @@ enum-known-n c = search needs
 
 -- src/lib.rt:174:31
 cast-result : tie.Need-cast-result
-cast-result c = 
+cast-result c =
     let at-start = c .before .before .before .before .before .before .before .before in
     let read = toZ-ofZ w64 (at-start .args .number) (at-start .fits .number) in
     code-length _ _ _ _ read (c .before .before .before .before .before .print-into .ensures) (c .before .n .given .1)
@@ -54,7 +54,7 @@ same-length c = search needs
 
 -- src/lib.rt:170:1
 returns : tie.Need-returns
-returns c = 
+returns c =
     let at-start = c .before .before .before .before .before .before .before .before in
     let read = toZ-ofZ w64 (at-start .args .number) (at-start .fits .number) in
     coded _ _ _ _ read (c .before .before .before .before .before .print-into .ensures)
@@ -66,7 +66,7 @@ same-length-2 c = search needs
 
 -- src/lib.rt:170:1
 returns-2 : tie.Need-returns-2
-returns-2 c = 
+returns-2 c =
     let at-start = c .before .before .before .before .before .before .before .before in
     let read = toZ-ofZ w64 (at-start .args .number) (at-start .fits .number) in
     let q = negated (c .before .cause .given .0 .0) (small c) in

@@ -19,7 +19,7 @@ accepts-requires c κs = search needs
 
 -- src/lib.rt:152:9
 returns : tie.Need-returns
-returns c = 
+returns c =
     let at-start = c .before .before .before in
     let read = toZ-ofZ w64 (at-start .args .number) (at-start .fits .number) in
     refused-value (at-start .args .kind) (at-start .args .number) (at-start .args .scratch .now)
@@ -27,7 +27,7 @@ returns c =
 
 -- src/lib.rt:155:9
 returns-2 : tie.Need-returns-2
-returns-2 c = 
+returns-2 c =
     let at-start = c .before .before .before .before in
     let read = toZ-ofZ w64 (at-start .args .number) (at-start .fits .number) in
     refused-scratch (at-start .args .kind) (at-start .args .number) (at-start .args .scratch .now)
@@ -36,7 +36,7 @@ returns-2 c =
 
 -- src/lib.rt:157:21
 put-value-requires : tie.Need-put-value-requires
-put-value-requires c κs = 
+put-value-requires c κs =
     let at-start = c .before .before .before .before .before in
     let read = toZ-ofZ w64 (at-start .args .number) (at-start .fits .number) in
     (sym (c .before .before .before .accepts .ensures) ∙ not-false _ (c .before .before .if1 .left), c .before .if2 .left)
@@ -47,7 +47,7 @@ same-length c = search needs
 
 -- src/lib.rt:148:1
 returns-3 : tie.Need-returns-3
-returns-3 c = 
+returns-3 c =
     let at-start = c .before .before .before .before .before .before .before .before in
     let read = toZ-ofZ w64 (at-start .args .number) (at-start .fits .number) in
     accepted (at-start .args .kind) (at-start .args .number) (at-start .args .scratch .now) _ _

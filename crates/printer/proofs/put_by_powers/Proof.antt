@@ -43,10 +43,11 @@ in-scratch c =
 
 -- src/lib.rt:61:5
 loop-holds : tie.Need-loop-holds Inv-loop μ-loop
-loop-holds c = 
-    let at-start = c .before .before in
-    (rw (c .digit-count .ensures .0) (start (at-start .args .m) (at-start .args .at) (at-start .args .scratch .now)),
-    c .digit-count .ensures .1)
+loop-holds c =
+    let at-start = c .before .before in (
+      rw (c .digit-count .ensures .0) (start (at-start .args .m) (at-start .args .at) (at-start .args .scratch .now)),
+      c .digit-count .ensures .1,
+    )
 
 -- src/lib.rt:62:9
 sub-left : tie.Need-sub-left Inv-loop μ-loop
@@ -90,11 +91,12 @@ loop-less c = omega arith
 
 -- src/lib.rt:61:5
 loop-again : tie.Need-loop-again Inv-loop μ-loop
-loop-again c = 
+loop-again c =
     let at-start = c .before .before .before .before .before in
-    let at-loop = c .before .before in
-    (step (at-start .args .m) (at-start .args .at) (at-start .args .scratch .now) (at-loop .loop .scratch) (at-loop .loop .rest) (at-loop .loop .left) (at-loop .loop .place) _ (at-loop .loop .inv .0) (in-scratch c) (c .before .loop-test .taken) (is-power c),
-    omega arith)
+    let at-loop = c .before .before in (
+      step (at-start .args .m) (at-start .args .at) (at-start .args .scratch .now) (at-loop .loop .scratch) (at-loop .loop .rest) (at-loop .loop .left) (at-loop .loop .place) _ (at-loop .loop .inv .0) (in-scratch c) (c .before .loop-test .taken) (is-power c),
+      omega arith,
+    )
 
 -- src/lib.rt:54:1
 same-length : tie.Need-same-length Inv-loop μ-loop
@@ -102,7 +104,7 @@ same-length c = c .before .loop .inv .0 .size
 
 -- src/lib.rt:54:1
 returns : tie.Need-returns Inv-loop μ-loop
-returns c = 
+returns c =
     let at-start = c .before .before .before .before in
     let at-loop = c .before in
     let none : at-loop .loop .left ≡ 0 = omega arith in

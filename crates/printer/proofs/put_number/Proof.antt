@@ -25,20 +25,20 @@ slice-write-scratch c = search needs
 
 -- src/lib.rt:99:9
 put-digits-requires : tie.Need-put-digits-requires
-put-digits-requires c κs = 
+put-digits-requires c κs =
     let at-start = c .before .before .before .before in
     let m = c .before .before .magnitude .ensures ∙ ap natAbs (toZ-ofZ w64 (at-start .args .z) (at-start .fits .z)) in
     (omega (arith, m, at-start .pre .0), simp length-set (omega (arith, at-start .pre .1)))
 
 -- src/lib.rt:99:9
 same-length : tie.Need-same-length
-same-length c = 
+same-length c =
     let at-start = c .before .before .before .before .before .before .before in
     c .before .before .put-digits .kept .1 .1 .0 ∙ length-set (at-start .args .scratch .now) 0 45
 
 -- src/lib.rt:99:9
 returns : tie.Need-returns
-returns c = 
+returns c =
     let at-start = c .before .before .before .before .before .before .before in
     let read = toZ-ofZ w64 (at-start .args .z) (at-start .fits .z) in
     number-below (at-start .args .z) (at-start .args .scratch .now) _ _ _
@@ -49,7 +49,7 @@ returns c =
 
 -- src/lib.rt:101:5
 put-digits-requires-2 : tie.Need-put-digits-requires-2
-put-digits-requires-2 c κs = 
+put-digits-requires-2 c κs =
     let at-start = c .before .before .before .before in
     let m = c .before .before .magnitude .ensures ∙ ap natAbs (toZ-ofZ w64 (at-start .args .z) (at-start .fits .z)) in
     (omega (arith, m, at-start .pre .0), omega (arith, at-start .pre .1))
@@ -60,7 +60,7 @@ same-length-2 c = search needs
 
 -- src/lib.rt:92:1
 returns-2 : tie.Need-returns-2
-returns-2 c = 
+returns-2 c =
     let at-start = c .before .before .before .before .before .before .before in
     let read = toZ-ofZ w64 (at-start .args .z) (at-start .fits .z) in
     number-above (at-start .args .z) (at-start .args .scratch .now) _ _ _

@@ -24,11 +24,12 @@ of-text s n s′ e f = rw e f
 
 -- src/lib.rt:123:9
 put-number-requires : tie.Need-put-number-requires
-put-number-requires c κs = 
+put-number-requires c κs =
     let at-start = c .before .before .before in
-    let read = toZ-ofZ w64 (at-start .args .number) (at-start .fits .number) in
-    (rw read (text-number (at-start .args .kind) (at-start .args .number) (c .before .if1 .taken) (at-start .pre .0) .0),
-    omega (arith, at-start .pre .1))
+    let read = toZ-ofZ w64 (at-start .args .number) (at-start .fits .number) in (
+      rw read (text-number (at-start .args .kind) (at-start .args .number) (c .before .if1 .taken) (at-start .pre .0) .0),
+      omega (arith, at-start .pre .1),
+    )
 
 -- src/lib.rt:123:9
 same-length : tie.Need-same-length
@@ -36,7 +37,7 @@ same-length c = search needs
 
 -- src/lib.rt:123:9
 returns : tie.Need-returns
-returns c = 
+returns c =
     let at-start = c .before .before .before .before .before .before in
     let read = toZ-ofZ w64 (at-start .args .number) (at-start .fits .number) in
     of-text (at-start .args .scratch .now) _ _
@@ -57,7 +58,7 @@ same-length-2 c = search needs
 
 -- src/lib.rt:126:9
 returns-2 : tie.Need-returns-2
-returns-2 c = 
+returns-2 c =
     let at-start = c .before .before .before .before .before .before .before .before in
     of-text (at-start .args .scratch .now) _ _
     (text-null (at-start .args .kind) (at-start .args .number) (c .before .before .before .before .before .if2 .taken) (at-start .pre .0))
@@ -77,7 +78,7 @@ same-length-3 c = search needs
 
 -- src/lib.rt:118:1
 returns-3 : tie.Need-returns-3
-returns-3 c = 
+returns-3 c =
     let at-start = c .before .before .before .before .before .before .before .before in
     of-text (at-start .args .scratch .now) _ _
     (text-out (at-start .args .kind) (at-start .args .number) (c .before .before .before .before .before .before .if1 .left) (c .before .before .before .before .before .if2 .left) (at-start .pre .0))
