@@ -125,14 +125,14 @@ fn put_value(kind: u64, number: i64, scratch: &mut [u8]) -> usize
 }
 
 // The range's limit.
-const LIMIT: u64 = 1_000_000_000_000;
+pub const LIMIT: i64 = 1_000_000_000_000;
 
 // Whether a kind and a number name a value.
 pub fn accepts(kind: u64, number: i64) -> bool
     ensures { λ r. ⌜ r ≡ isSome (valueOf kind number) ⌝ }
 {
     match kind {
-        3 => magnitude(number) <= LIMIT,
+        3 => magnitude(number) <= LIMIT as u64,
         1 | 2 => number == 0,
         _ => false,
     }

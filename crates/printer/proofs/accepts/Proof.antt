@@ -19,6 +19,9 @@ magnitude-requires : tie.Need-magnitude-requires
 magnitude-requires c κs = search needs
 
 -- src/lib.rt:135:1
+cast-result : tie.Need-cast-result
+cast-result c = search needs
+
 returns : tie.Need-returns
 unfolding limit
 returns c =
@@ -45,4 +48,4 @@ returns-4 c =
     sym (ap isSome (accepts-none (at-start .args .kind) (at-start .args .number) (λ e. omega arith) (λ e. omega arith) (c .before .before .match .rest .1)))
 
 pub accepts-spec : {M : Type 1} → statement M
-accepts-spec = tie.close (tie.spec magnitude-requires returns returns-2 returns-3 returns-4)
+accepts-spec = tie.close (tie.spec magnitude-requires cast-result returns returns-2 returns-3 returns-4)
