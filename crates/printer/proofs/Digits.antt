@@ -1,15 +1,15 @@
 -- The digits of a number: what they mean read back, how many there are, and that they come from the highest down by
 -- dividing by the powers of ten. Assumes nothing.
 use Prim.Native.Nat.{ℕ, zero, suc, _+_, _-_, _*_, _/_, _%_, _^_, _≤_, _<_}
-use mathlib.Core.Path.{_≡_, refl, sym, ap, _∙_, subst}
+use mathlib.Core.Path.{_≡_, refl, sym, ap, _∙_}
 use mathlib.Core.Bool.{Bool, true, false}
-use mathlib.Core.List.{List, [], _∷_, _++_, append-assoc}
-use native.Mathlib.Nat.{pow-succ', pow-zero, one-le-pow, div-one, mod-one, mod-lt, mod-eq-of-lt, div-add-mod, mul-add-div, mul-add-mod-self-left, div-lt-iff-lt-mul, le-div-iff-mul-le, div-div-eq-div-mul, mul-assoc, mul-comm, mul-pos}
+use mathlib.Core.List.{List, [], _∷_, _++_}
+use native.Mathlib.Nat.{pow-succ', one-le-pow, div-one, mod-lt, mod-eq-of-lt, div-add-mod, mul-add-div, mul-add-mod-self-left, div-lt-iff-lt-mul, le-div-iff-mul-le, div-div-eq-div-mul, mul-assoc, mul-comm, mul-pos}
 use native.Mathlib.Numerals.{add-one}
 use native.Mathlib.Omega.{arith}
 use borrow.Author.Tests.{lt-ltb, le-ltb, ltb-true, ltb-false}
 use lib.Dec.{ltb}
-use lib.ListN.{length, getD, length-append, List·getD-append}
+use lib.ListN.{length, length-append}
 use Rattle.printer.specs.Decimal.{digit, digitsUpTo, digits, readFrom}
 
 upTo-small : (f n : ℕ) → n < 10 → digitsUpTo (suc f) n ≡ digit n ∷ []

@@ -1,13 +1,11 @@
 -- Decimal notation: read back it is the number; its bytes are digits after the sign; it has no leading zero. So different
 -- values are printed differently. Assumes nothing.
-use Prim.Native.Nat.{ℕ, zero, suc, _+_, _-_, _/_, _%_, _^_, _≤_, _<_}
+use Prim.Native.Nat.{ℕ, suc, _/_, _%_, _^_, _≤_, _<_}
 use mathlib.Core.Path.{_≡_, refl, sym, ap, _∙_}
-use mathlib.Core.Bool.{Bool, true, false, cond}
+use mathlib.Core.Bool.{true}
 use mathlib.Core.List.{List, [], _∷_, _++_}
-use native.Mathlib.Nat.{mod-lt}
 use native.Mathlib.Omega.{arith}
 use borrow.Author.Tests.{ne-eqb, leb-true}
-use lib.Dec.{eqb, leb}
 use lib.IntN.{ℤ, pos, negsuc, negℤ, natAbs}
 use lib.ListN.{length, getD, List·getD-append}
 use Rattle.circuit.specs.Value.{Value, null, out, num, limit, inRange, wellFormed}
@@ -76,6 +74,16 @@ printed-fits (num z) h = go z (omega (arith, leb-true (natAbs z) limit (unfold i
     go : (z : ℤ) → natAbs z < 10 ^ 18 → length (decimal z) ≤ 19
     go (pos n) h = unfold decimal in omega (arith, length-at-most 17 n h)
     go (negsuc n) h = unfold decimal in omega (arith, length-at-most 17 (suc n) h)
+
+-- no value is printed as nothing
+pub printed-some : (v : Value) → 1 ≤ length (printed v)
+printed-some null = omega arith
+printed-some out = omega arith
+printed-some (num z) = go z
+  where
+    go : (z : ℤ) → 1 ≤ length (decimal z)
+    go (pos n) = unfold decimal in length-pos n
+    go (negsuc n) = unfold decimal in omega arith
 
 -- a number's notation is not `-`, and does not begin as `OUT`
 not-null : (z : ℤ) → minus ∷ [] ≡ decimal z → ⊥

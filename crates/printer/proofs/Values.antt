@@ -1,16 +1,16 @@
 -- Which kinds and numbers name a value, and what the printer makes of each. Assumes nothing.
-use Prim.Native.Nat.{ℕ, zero, suc, _+_, _-_, _^_, _≤_, _<_}
-use mathlib.Core.Path.{_≡_, refl, sym, ap, _∙_, subst}
-use mathlib.Core.Bool.{Bool, true, false, cond, not}
-use mathlib.Core.List.{List, [], _∷_, _++_, append-nil}
+use Prim.Native.Nat.{ℕ, suc, _-_, _^_, _≤_, _<_}
+use mathlib.Core.Path.{_≡_, refl, sym, ap, _∙_}
+use mathlib.Core.Bool.{Bool, true, false, cond}
+use mathlib.Core.List.{List, [], _∷_, _++_}
 use mathlib.Core.Logic.{_⊎_, inl, inr, ⊎-elim}
-use mathlib.Core.Option.{Option, none, some}
+use mathlib.Core.Option.{none, some}
 use native.Mathlib.Omega.{arith}
-use borrow.Author.Tests.{lt-ltb, le-ltb, eq-eqb, ne-eqb, eqb-true, eqb-false, leb-true}
-use lib.Dec.{leb, eqb, ltb, T}
+use borrow.Author.Tests.{lt-ltb, le-ltb, ne-eqb, eqb-true, eqb-false, leb-true}
+use lib.Dec.{leb, eqb}
 use lib.IntN.{ℤ, pos, negsuc, natAbs}
 use lib.Signed.{ltZ}
-use lib.ListN.{length, take, drop, set, length-append}
+use lib.ListN.{length, take, drop, set}
 use lib.Seq.{take-at}
 use mir.Syntax.{w64}
 use mir.Val.{SFits, ofZ, bits}
@@ -18,7 +18,7 @@ use Rattle.circuit.specs.Value.{Value, null, out, num, limit, inRange, sameNumb
 use Rattle.printer.specs.declared.Printed.{Printed}
 use Rattle.printer.specs.declared.Printed.the-variants.{Length, Refused}
 use Rattle.printer.specs.Decimal.{digits, decimal, minus}
-use Rattle.printer.specs.Printing.{printed, valueOf, isSome, textOf, printCause, partOf, withFront, withZero}
+use Rattle.printer.specs.Printing.{printed, valueOf, isSome, textOf, printCause, partOf, withZero}
 use Rattle.printer.specs.Contract.{answerOf, lengthOf, WithDigits, Front, Prints}
 
 -- the numbers of the range have at most 18 digits

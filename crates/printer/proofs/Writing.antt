@@ -1,7 +1,7 @@
 -- Writing into a list of bytes, one byte a turn, and what holds after each: the digits of m from the place `at` on, the
 -- highest first; and fixed bytes at the front. Assumes nothing.
 use Prim.Native.Nat.{ℕ, zero, suc, _+_, _-_, _/_, _%_, _^_, _≤_, _<_}
-use mathlib.Core.Path.{_≡_, refl, sym, ap, _∙_, subst}
+use mathlib.Core.Path.{_≡_, refl, sym, ap, _∙_}
 use mathlib.Core.List.{List, [], _∷_, _++_, append-assoc, append-nil}
 use native.Mathlib.Nat.{mod-lt, div-lt-iff-lt-mul, pow-succ'}
 use native.Mathlib.Numerals.{add-one}

@@ -1,10 +1,9 @@
 // Printing a value at the front of lent scratch bytes.
 ghost use mathlib.Core.Path.{_≡_};
 ghost use mathlib.Core.Bool.{true};
-ghost use mathlib.Core.List.{_++_};
 ghost use Prim.Native.Nat.{_+_, _^_, _≤_, _<_};
-ghost use lib.ListN.{length, take, drop};
-ghost use lib.IntN.{ℤ, natAbs};
+ghost use lib.ListN.{length};
+ghost use lib.IntN.{natAbs};
 ghost use Rattle.printer.specs.Decimal.{digits, decimal, PowersOfTen};
 ghost use Rattle.printer.specs.Printing.{valueOf, isSome, textOf, partOf};
 ghost use Rattle.printer.specs.Contract.{WithDigits, Front, Prints, PrintsCode};

@@ -1,5 +1,5 @@
 -- `printer::accepts` meets its contract. Assumes nothing.
-use mathlib.Core.Path.{_≡_, sym, ap, _∙_}
+use mathlib.Core.Path.{sym, ap, _∙_}
 use native.Mathlib.Omega.{arith}
 use lib.IntN.{natAbs}
 use mir.Syntax.{w64}
@@ -10,15 +10,10 @@ use Rattle.printer.proofs.Values.{accepts-number, accepts-mark, accepts
 use borrow.Author.Needs.{needs}
 use Rattle.printer.proofs.accepts.Statement.{statement}
 use Rattle.printer.proofs.accepts.Tie as tie
-use Rattle.printer.proofs.accepts.Reads as reads
-use Rattle.printer.proofs.accepts.Lts as lts
-use Rattle.printer.proofs.magnitude.Reads as magnitude-reads
 
--- src/lib.rt:139:14
 magnitude-requires : tie.Need-magnitude-requires
 magnitude-requires c κs = search needs
 
--- src/lib.rt:135:1
 cast-result : tie.Need-cast-result
 cast-result c = search needs
 
@@ -29,19 +24,16 @@ returns c =
     accepts-number (at-start .args .kind) (c .magnitude .result) (at-start .args .number) (c .before .match .keys1)
     (c .magnitude .ensures ∙ ap natAbs (toZ-ofZ w64 (at-start .args .number) (at-start .fits .number)))
 
--- src/lib.rt:135:1
 returns-2 : tie.Need-returns-2
 returns-2 c =
     let at-start = c .before .before .before in
     accepts-mark (at-start .args .kind) (at-start .args .number) (at-start .fits .number) (mark-kinds (at-start .args .kind) (c .before .if1 .left) (c .if2 .taken))
 
--- src/lib.rt:135:1
 returns-3 : tie.Need-returns-3
 returns-3 c =
     let at-start = c .before .before in
     sym (ap isSome (accepts-none (at-start .args .kind) (at-start .args .number) (λ e. omega arith) (λ e. omega arith) (λ e. omega arith)))
 
--- src/lib.rt:135:1
 returns-4 : tie.Need-returns-4
 returns-4 c =
     let at-start = c .before .before .before in

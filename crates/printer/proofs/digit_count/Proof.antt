@@ -1,6 +1,6 @@
 -- `printer::digit_count` meets its contract. The invariant: m has at least k digits. A power 10^k that is at most m says
 -- that it has more, and one above m that it has no more. Assumes nothing.
-use Prim.Native.Nat.{ℕ, zero, suc, _≤_, _<_, _-_, _^_}
+use Prim.Native.Nat.{ℕ, zero, suc, _≤_, _<_, _-_}
 use mathlib.Core.List.{List}
 use native.Mathlib.Omega.{arith}
 use lib.ListN.{length, getD}
@@ -8,8 +8,6 @@ use Rattle.printer.specs.Decimal.{digits, PowersOfTen}
 use Rattle.printer.proofs.Digits.{length-pos, length-at-most, length-at-least}
 use Rattle.printer.proofs.digit_count.Statement.{statement}
 use Rattle.printer.proofs.digit_count.Tie as tie
-use Rattle.printer.proofs.digit_count.Reads as reads
-use Rattle.printer.proofs.digit_count.Lts as lts
 
 abbrev Inv-loop : tie.InvT-loop
 Inv-loop m powers k₀ k = (1 ≤ k) × (k ≤ length (digits m))

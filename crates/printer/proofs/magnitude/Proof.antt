@@ -1,19 +1,15 @@
 -- `printer::magnitude` meets its contract. Assumes nothing.
 use Prim.Native.Nat.{_+_}
-use mathlib.Core.Path.{_≡_, refl, sym, ap, _∙_}
+use mathlib.Core.Path.{refl, sym, ap, _∙_}
 use native.Mathlib.Omega.{arith}
 use borrow.Author.Needs.{needs}
-use lib.Signed.{nonNeg}
-use lib.Dec.{T}
-use lib.IntN.{ℤ, pos, natAbs}
+use lib.IntN.{ℤ, natAbs}
 use mir.Syntax.{w64}
-use mir.Val.{ofZ, toZ, SFits, Fits}
+use mir.Val.{ofZ, toZ, SFits}
 use mir.ValLaws.{toZ-ofZ, toZ-fits, ofZ-fits}
 use Rattle.printer.proofs.Below.{Below, below, above, read-back, fits-unsigned}
 use Rattle.printer.proofs.magnitude.Statement.{statement}
 use Rattle.printer.proofs.magnitude.Tie as tie
-use Rattle.printer.proofs.magnitude.Reads as reads
-use Rattle.printer.proofs.magnitude.Lts as lts
 
 -- the number as the machine reads it
 abbrev read : ℤ → ℤ

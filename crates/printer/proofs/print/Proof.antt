@@ -14,9 +14,6 @@ use Rattle.printer.specs.Contract.{lengthOf, Prints}
 use Rattle.printer.proofs.Values.{part-length, part-front}
 use Rattle.printer.proofs.print.Statement.{statement}
 use Rattle.printer.proofs.print.Tie as tie
-use Rattle.printer.proofs.print.Reads as reads
-use Rattle.printer.proofs.print.Lts as lts
-use Rattle.printer.proofs.print_into.Reads as print-into-reads
 
 -- the part of an accepted call, at the number that the worker read
 part : {x z : ℤ} {a : Printed} (kind : ℕ) (s s′ : List ℕ) (n : ℕ) → x ≡ z → Prints kind x s a s′ → a ≡ Length n → take n s′ ≡ partOf kind z (length s)

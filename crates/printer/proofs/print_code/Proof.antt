@@ -1,6 +1,6 @@
 -- `printer::print_code` meets its contract. Assumes nothing.
 use Prim.Native.Nat.{_≤_}
-use mathlib.Core.Path.{_≡_, sym, ap, _∙_}
+use mathlib.Core.Path.{sym, ap, _∙_}
 use native.Mathlib.Omega.{arith}
 use lib.IntN.{pos, negℤ}
 use mir.Syntax.{w64}
@@ -11,26 +11,19 @@ use Rattle.printer.proofs.Meaning.{code-length, code-refusal, negated, 
 use borrow.Author.Needs.{needs}
 use Rattle.printer.proofs.print_code.Statement.{statement}
 use Rattle.printer.proofs.print_code.Tie as tie
-use Rattle.printer.proofs.print_code.Reads as reads
-use Rattle.printer.proofs.print_code.Lts as lts
-use Rattle.printer.proofs.print_into.Reads as print-into-reads
 
--- src/lib.rt:173:11
 print-into-requires : tie.Need-print-into-requires
 print-into-requires c κs = search needs
 
--- src/lib.rt:174:25
 enum-known-n : tie.Need-enum-known-n
 enum-known-n c = search needs
 
--- src/lib.rt:174:31
 cast-result : tie.Need-cast-result
 cast-result c =
     let at-start = c .before .before .before .before .before .before .before .before in
     let read = toZ-ofZ w64 (at-start .args .number) (at-start .fits .number) in
     code-length _ _ _ _ read (c .before .before .before .before .before .print-into .ensures) (c .before .n .given .1)
 
--- src/lib.rt:175:26
 enum-known-cause : tie.Need-enum-known-cause
 enum-known-cause c = search needs
 
@@ -40,19 +33,15 @@ small c =
     let read = toZ-ofZ w64 (at-start .args .number) (at-start .fits .number) in
     code-refusal _ _ _ _ read (c .before .before .before .before .before .print-into .ensures) (c .before .cause .given .1)
 
--- src/lib.rt:175:41
 cast-result-2 : tie.Need-cast-result-2
 cast-result-2 c = record { sfits = omega (arith, small c) }
 
--- src/lib.rt:175:36
 sub-result : tie.Need-sub-result
 sub-result c = let q = negated (c .before .cause .given .0 .0) (small c) in rw (q .0) (q .1)
 
--- src/lib.rt:170:1
 same-length : tie.Need-same-length
 same-length c = search needs
 
--- src/lib.rt:170:1
 returns : tie.Need-returns
 returns c =
     let at-start = c .before .before .before .before .before .before .before .before in
@@ -60,11 +49,9 @@ returns c =
     coded _ _ _ _ read (c .before .before .before .before .before .print-into .ensures)
     (ap codeOf (c .before .n .given .1) ∙ sym (toZ-ofZ w64 (pos (c .before .n .given .0 .0)) (cast-result c)))
 
--- src/lib.rt:170:1
 same-length-2 : tie.Need-same-length-2
 same-length-2 c = search needs
 
--- src/lib.rt:170:1
 returns-2 : tie.Need-returns-2
 returns-2 c =
     let at-start = c .before .before .before .before .before .before .before .before in

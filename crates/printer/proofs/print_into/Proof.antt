@@ -1,5 +1,5 @@
 -- `printer::print_into` meets its contract. Assumes nothing.
-use mathlib.Core.Path.{_≡_, sym, ap, _∙_}
+use mathlib.Core.Path.{sym, ap, _∙_}
 use mir.Syntax.{w64}
 use mir.ValLaws.{toZ-ofZ}
 use borrow.Author.Tests.{not-true, not-false}
@@ -8,16 +8,10 @@ use Rattle.printer.proofs.Values.{refused-value, refused-scratch, accep
 use borrow.Author.Needs.{needs}
 use Rattle.printer.proofs.print_into.Statement.{statement}
 use Rattle.printer.proofs.print_into.Tie as tie
-use Rattle.printer.proofs.print_into.Reads as reads
-use Rattle.printer.proofs.print_into.Lts as lts
-use Rattle.printer.proofs.accepts.Reads as accepts-reads
-use Rattle.printer.proofs.put_value.Reads as put-value-reads
 
--- src/lib.rt:151:9
 accepts-requires : tie.Need-accepts-requires
 accepts-requires c κs = search needs
 
--- src/lib.rt:152:9
 returns : tie.Need-returns
 returns c =
     let at-start = c .before .before .before in
@@ -25,7 +19,6 @@ returns c =
     refused-value (at-start .args .kind) (at-start .args .number) (at-start .args .scratch .now)
     (sym (c .before .accepts .ensures ∙ ap (λ x. isSome (valueOf (at-start .args .kind) x)) read) ∙ not-true _ (c .if1 .taken))
 
--- src/lib.rt:155:9
 returns-2 : tie.Need-returns-2
 returns-2 c =
     let at-start = c .before .before .before .before in
@@ -34,18 +27,15 @@ returns-2 c =
     (sym (c .before .before .accepts .ensures ∙ ap (λ x. isSome (valueOf (at-start .args .kind) x)) read) ∙ not-false _ (c .before .if1 .left))
     (c .if2 .taken)
 
--- src/lib.rt:157:21
 put-value-requires : tie.Need-put-value-requires
 put-value-requires c κs =
     let at-start = c .before .before .before .before .before in
     let read = toZ-ofZ w64 (at-start .args .number) (at-start .fits .number) in
     (sym (c .before .before .before .accepts .ensures) ∙ not-false _ (c .before .before .if1 .left), c .before .if2 .left)
 
--- src/lib.rt:148:1
 same-length : tie.Need-same-length
 same-length c = search needs
 
--- src/lib.rt:148:1
 returns-3 : tie.Need-returns-3
 returns-3 c =
     let at-start = c .before .before .before .before .before .before .before .before in

@@ -1,17 +1,11 @@
-use Prim.Native.Nat.{ℕ, zero, suc, _≤_, _<_, _-_, _/_, _^_}
-use mathlib.Core.Path.{_≡_, sym, ap, _∙_}
-use mathlib.Core.List.{List}
+use Prim.Native.Nat.{_≤_, _<_, _-_, _/_, _^_}
+use mathlib.Core.Path.{_≡_}
 use native.Mathlib.Omega.{arith}
-use borrow.Author.Needs.{needs}
 use lib.ListN.{length, getD}
-use Rattle.printer.specs.Decimal.{digits, PowersOfTen}
 use Rattle.printer.proofs.Digits.{length-at-most, pow-pos}
 use Rattle.printer.proofs.Writing.{Writing, start, next-digit, step, finish}
 use Rattle.printer.proofs.put_by_powers.Statement.{statement}
 use Rattle.printer.proofs.put_by_powers.Tie as tie
-use Rattle.printer.proofs.put_by_powers.Reads as reads
-use Rattle.printer.proofs.put_by_powers.Lts as lts
-use Rattle.printer.proofs.digit_count.Reads as digit-count-reads
 
 abbrev Inv-loop : tie.InvT-loop
 Inv-loop m at powers scratch₀ rest₀ left₀ place₀ scratch rest left place = Writing m at scratch₀ scratch rest left place × (left ≤ 18)
@@ -19,7 +13,6 @@ Inv-loop m at powers scratch₀ rest₀ left₀ place₀ scratch rest left place
 abbrev μ-loop : tie.MeasureT-loop
 μ-loop m at powers scratch₀ rest₀ left₀ place₀ scratch rest left place = left
 
--- src/lib.rt:59:9
 digit-count-requires : tie.Need-digit-count-requires Inv-loop μ-loop
 digit-count-requires c κs = (c .before .pre .0, c .before .pre .2)
 
@@ -41,7 +34,6 @@ in-scratch c =
     let w = c .before .before .loop .inv .0 in
     omega (arith, w .count, w .size, at-start .pre .1, c .before .loop-test .taken, length-at-most 17 (at-start .args .m) (at-start .pre .0))
 
--- src/lib.rt:61:5
 loop-holds : tie.Need-loop-holds Inv-loop μ-loop
 loop-holds c =
     let at-start = c .before .before in (
@@ -49,47 +41,36 @@ loop-holds c =
       c .digit-count .ensures .1,
     )
 
--- src/lib.rt:62:9
 sub-left : tie.Need-sub-left Inv-loop μ-loop
 sub-left c = omega arith
 
--- src/lib.rt:63:17
 mul-p : tie.Need-mul-p Inv-loop μ-loop
 mul-p c = omega arith
 
--- src/lib.rt:63:17
 element-copy-out-p : tie.Need-element-copy-out-p Inv-loop μ-loop
 element-copy-out-p c = omega arith
 
--- src/lib.rt:64:32
 div-scratch : tie.Need-div-scratch Inv-loop μ-loop
 div-scratch c = positive c
 
--- src/lib.rt:64:27
 add-scratch : tie.Need-add-scratch Inv-loop μ-loop
 add-scratch c = omega (arith, a-digit c)
 
--- src/lib.rt:64:26
 cast-scratch : tie.Need-cast-scratch Inv-loop μ-loop
 cast-scratch c = omega (arith, a-digit c)
 
--- src/lib.rt:64:9
 slice-write-scratch : tie.Need-slice-write-scratch Inv-loop μ-loop
 slice-write-scratch c = in-scratch c
 
--- src/lib.rt:65:16
 rem-rest : tie.Need-rem-rest Inv-loop μ-loop
 rem-rest c = positive c
 
--- src/lib.rt:66:9
 add-place : tie.Need-add-place Inv-loop μ-loop
 add-place c = omega (arith, in-scratch c, c .before .before .loop .inv .0 .size)
 
--- src/lib.rt:61:5
 loop-less : tie.Need-loop-less Inv-loop μ-loop
 loop-less c = omega arith
 
--- src/lib.rt:61:5
 loop-again : tie.Need-loop-again Inv-loop μ-loop
 loop-again c =
     let at-start = c .before .before .before .before .before in
@@ -98,11 +79,9 @@ loop-again c =
       omega arith,
     )
 
--- src/lib.rt:54:1
 same-length : tie.Need-same-length Inv-loop μ-loop
 same-length c = c .before .loop .inv .0 .size
 
--- src/lib.rt:54:1
 returns : tie.Need-returns Inv-loop μ-loop
 returns c =
     let at-start = c .before .before .before .before in

@@ -1,17 +1,12 @@
 -- `printer::put_mark` meets its contract. The invariant: the first k bytes are the mark's, and the others are as they
 -- were. Assumes nothing.
-use Prim.Native.Nat.{ℕ, _≤_, _-_}
-use mathlib.Core.Path.{_≡_, refl, sym, ap, _∙_}
-use mathlib.Core.List.{_++_}
+use Prim.Native.Nat.{_-_}
+use mathlib.Core.Path.{_≡_}
 use native.Mathlib.Omega.{arith}
-use borrow.Author.Needs.{needs}
-use lib.ListN.{length, length-set}
-use Rattle.printer.specs.Contract.{Front}
+use lib.ListN.{length}
 use Rattle.printer.proofs.Writing.{Copying, copy-start, copy-step, copy-finish}
 use Rattle.printer.proofs.put_mark.Statement.{statement}
 use Rattle.printer.proofs.put_mark.Tie as tie
-use Rattle.printer.proofs.put_mark.Reads as reads
-use Rattle.printer.proofs.put_mark.Lts as lts
 
 abbrev Inv-loop : tie.InvT-loop
 Inv-loop mark scratch₀ k₀ scratch k = Copying mark scratch₀ scratch k

@@ -1,8 +1,8 @@
 -- `printer::put_number` meets its contract. Assumes nothing.
-use mathlib.Core.Path.{_≡_, sym, ap, _∙_}
+use mathlib.Core.Path.{sym, ap, _∙_}
 use native.Mathlib.Omega.{arith}
 use lib.IntN.{natAbs, pos}
-use lib.ListN.{length, length-set}
+use lib.ListN.{length-set}
 use lib.Signed.{ltZ}
 use mir.Syntax.{w64}
 use mir.ValLaws.{toZ-ofZ}
@@ -10,33 +10,24 @@ use Rattle.printer.proofs.Values.{number-below, number-above}
 use borrow.Author.Needs.{needs}
 use Rattle.printer.proofs.put_number.Statement.{statement}
 use Rattle.printer.proofs.put_number.Tie as tie
-use Rattle.printer.proofs.put_number.Reads as reads
-use Rattle.printer.proofs.put_number.Lts as lts
-use Rattle.printer.proofs.magnitude.Reads as magnitude-reads
-use Rattle.printer.proofs.put_digits.Reads as put-digits-reads
 
--- src/lib.rt:96:9
 magnitude-requires : tie.Need-magnitude-requires
 magnitude-requires c κs = search needs
 
--- src/lib.rt:98:9
 slice-write-scratch : tie.Need-slice-write-scratch
 slice-write-scratch c = search needs
 
--- src/lib.rt:99:9
 put-digits-requires : tie.Need-put-digits-requires
 put-digits-requires c κs =
     let at-start = c .before .before .before .before in
     let m = c .before .before .magnitude .ensures ∙ ap natAbs (toZ-ofZ w64 (at-start .args .z) (at-start .fits .z)) in
     (omega (arith, m, at-start .pre .0), simp length-set (omega (arith, at-start .pre .1)))
 
--- src/lib.rt:99:9
 same-length : tie.Need-same-length
 same-length c =
     let at-start = c .before .before .before .before .before .before .before in
     c .before .before .put-digits .kept .1 .1 .0 ∙ length-set (at-start .args .scratch .now) 0 45
 
--- src/lib.rt:99:9
 returns : tie.Need-returns
 returns c =
     let at-start = c .before .before .before .before .before .before .before in
@@ -47,18 +38,15 @@ returns c =
     (omega (arith, at-start .pre .1))
     (c .before .before .put-digits .ensures)
 
--- src/lib.rt:101:5
 put-digits-requires-2 : tie.Need-put-digits-requires-2
 put-digits-requires-2 c κs =
     let at-start = c .before .before .before .before in
     let m = c .before .before .magnitude .ensures ∙ ap natAbs (toZ-ofZ w64 (at-start .args .z) (at-start .fits .z)) in
     (omega (arith, m, at-start .pre .0), omega (arith, at-start .pre .1))
 
--- src/lib.rt:92:1
 same-length-2 : tie.Need-same-length-2
 same-length-2 c = search needs
 
--- src/lib.rt:92:1
 returns-2 : tie.Need-returns-2
 returns-2 c =
     let at-start = c .before .before .before .before .before .before .before in

@@ -1,28 +1,21 @@
 -- `printer::put_value` meets its contract. Assumes nothing.
-use mathlib.Core.Path.{_≡_, sym, ap, _∙_, subst}
+use mathlib.Core.Path.{_≡_, sym, ap, _∙_}
 use mathlib.Core.List.{List}
 use Prim.Native.Nat.{ℕ}
 use native.Mathlib.Omega.{arith}
-use lib.IntN.{ℤ, natAbs}
 use mir.Syntax.{w64}
 use mir.ValLaws.{toZ-ofZ}
 use Rattle.printer.specs.Decimal.{decimal}
-use Rattle.printer.specs.Printing.{textOf, valueOf}
 use Rattle.printer.specs.Contract.{Front}
 use Rattle.printer.proofs.Values.{text-number, text-null, text-out}
 use borrow.Author.Needs.{needs}
 use Rattle.printer.proofs.put_value.Statement.{statement}
 use Rattle.printer.proofs.put_value.Tie as tie
-use Rattle.printer.proofs.put_value.Reads as reads
-use Rattle.printer.proofs.put_value.Lts as lts
-use Rattle.printer.proofs.put_mark.Reads as put-mark-reads
-use Rattle.printer.proofs.put_number.Reads as put-number-reads
 
 -- what is written is the text
 of-text : {text text′ : List ℕ} (s : List ℕ) (n : ℕ) (s′ : List ℕ) → text ≡ text′ → Front text′ s n s′ → Front text s n s′
 of-text s n s′ e f = rw e f
 
--- src/lib.rt:123:9
 put-number-requires : tie.Need-put-number-requires
 put-number-requires c κs =
     let at-start = c .before .before .before in
@@ -31,11 +24,9 @@ put-number-requires c κs =
       omega (arith, at-start .pre .1),
     )
 
--- src/lib.rt:123:9
 same-length : tie.Need-same-length
 same-length c = search needs
 
--- src/lib.rt:123:9
 returns : tie.Need-returns
 returns c =
     let at-start = c .before .before .before .before .before .before in
@@ -44,19 +35,15 @@ returns c =
     (text-number (at-start .args .kind) (at-start .args .number) (c .before .before .before .before .if1 .taken) (at-start .pre .0) .1 ∙ ap decimal (sym read))
     (c .before .before .put-number .ensures)
 
--- src/lib.rt:126:25
 slice-aggregate-put-mark : tie.Need-slice-aggregate-put-mark
 slice-aggregate-put-mark c = search needs
 
--- src/lib.rt:126:9
 put-mark-requires : tie.Need-put-mark-requires
 put-mark-requires c κs = search needs
 
--- src/lib.rt:126:9
 same-length-2 : tie.Need-same-length-2
 same-length-2 c = search needs
 
--- src/lib.rt:126:9
 returns-2 : tie.Need-returns-2
 returns-2 c =
     let at-start = c .before .before .before .before .before .before .before .before in
@@ -64,19 +51,15 @@ returns-2 c =
     (text-null (at-start .args .kind) (at-start .args .number) (c .before .before .before .before .before .if2 .taken) (at-start .pre .0))
     (c .before .before .put-mark .ensures)
 
--- src/lib.rt:128:14
 slice-aggregate-put-mark-2 : tie.Need-slice-aggregate-put-mark-2
 slice-aggregate-put-mark-2 c = search needs
 
--- src/lib.rt:128:5
 put-mark-requires-2 : tie.Need-put-mark-requires-2
 put-mark-requires-2 c κs = search needs
 
--- src/lib.rt:118:1
 same-length-3 : tie.Need-same-length-3
 same-length-3 c = search needs
 
--- src/lib.rt:118:1
 returns-3 : tie.Need-returns-3
 returns-3 c =
     let at-start = c .before .before .before .before .before .before .before .before in
