@@ -4,3 +4,4 @@ pub mod Write
 pub mod Index
 pub mod Places
 pub mod Causes
+pub mod Opened

@@ -38,13 +38,15 @@ two-parts m p e = sym (mul-add-div-right whole-pos (m / whole * p) (m % whole * 
   where
     moved : m / whole * p * whole ≡ m / whole * whole * p
     moved = mul-assoc (m / whole) p whole ∙ ap (λ (k : ℕ). m / whole * k) (mul-comm p whole) ∙ sym (mul-assoc (m / whole) whole p)
+
     joined : m / whole * p * whole + (m % whole * p + e) ≡ m * p + e
     joined =
-        omega
-        (arith,
-        moved,
-        add-mul (m / whole * whole) (m % whole) p,
-        ap (λ (k : ℕ). k * p) (div-add-mod' m whole))
+        omega (
+          arith,
+          moved,
+          add-mul (m / whole * whole) (m % whole) p,
+          ap (λ (k : ℕ). k * p) (div-add-mod' m whole),
+        )
 
 -- the whole quotient is no larger than what is shared
 pub quotient-size : (m p e : ℕ) → p ≤ whole → e < whole → (m * p + e) / whole ≤ m
@@ -69,6 +71,7 @@ negative-share m k = go (suc m * k)
   where
     up : (j : ℕ) → (suc j + 9999) / 10_000 ≡ suc (j / 10_000)
     up j = omega arith
+
     go : (n : ℕ) → negℤ (pos ((n + 9999) / 10_000)) ≡ floorDiv (negℤ (pos n)) 10_000
     go zero = refl
     go (suc j) = ap (λ (q : ℕ). negℤ (pos q)) (up j)
