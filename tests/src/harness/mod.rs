@@ -1,0 +1,7 @@
+//! The comparison of an engine with the model.
+
+pub mod compare;
+pub mod days;
+pub mod lists;
+pub mod offices;
+pub mod tally;
