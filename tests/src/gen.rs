@@ -253,7 +253,8 @@ fn damage_content(rng: &mut Rng, field: &mut Raw, at: usize) {
     if field.tag == 1 && content.len() == 4 {
         let edition = *rng.pick(&[0, 1, 1, 2, 257]);
         let count = u16::from_le_bytes([content[2], content[3]]);
-        let count = *rng.pick(&[0, count, count.wrapping_sub(1), count.wrapping_add(1), 1_025, 65_535]);
+        let count =
+            *rng.pick(&[0, count, count.wrapping_sub(1), count.wrapping_add(1), 1_025, 65_535]);
         content[..2].copy_from_slice(&u16::to_le_bytes(edition));
         content[2..].copy_from_slice(&u16::to_le_bytes(count));
     } else if field.tag == 3 && content.len() > 6 {
@@ -309,10 +310,12 @@ pub enum Taste {
     Small,
     /// Near the limits of the range.
     Limits,
+    /// Ten-thousandths, and numbers of which they leave a remainder.
+    Shares,
 }
 
 pub fn taste(rng: &mut Rng) -> Taste {
-    *rng.pick(&[Taste::Any, Taste::Any, Taste::Small, Taste::Limits])
+    *rng.pick(&[Taste::Any, Taste::Any, Taste::Small, Taste::Limits, Taste::Shares])
 }
 
 /// A number in range.
@@ -320,6 +323,9 @@ pub fn number(rng: &mut Rng, taste: Taste) -> i64 {
     match taste {
         Taste::Small => rng.from_to(0, 4) as i64 - 2,
         Taste::Limits => *rng.pick(&[LIMIT, LIMIT - 1, -LIMIT, 1 - LIMIT, 1, -1]),
+        Taste::Shares => {
+            *rng.pick(&[-1, -7, 13, 1, WHOLE / 2, WHOLE / 3, WHOLE, 1 - WHOLE, WHOLE + 1])
+        }
         Taste::Any => any_number(rng),
     }
 }
@@ -475,7 +481,9 @@ pub fn bad_post(rng: &mut Rng, items: &[Item]) -> Call {
         2 => Call::Post { item: entry, kind: bad_kind, number: 0 },
         3 => Call::Post { item: entry, kind: 3, number: beyond(rng) },
         4 => Call::Post { item: entry, kind: 1, number: any_number(rng).max(1) },
-        _ => Call::Post { item: *rng.pick(&[n, figure, entry]), kind: bad_kind, number: beyond(rng) },
+        _ => {
+            Call::Post { item: *rng.pick(&[n, figure, entry]), kind: bad_kind, number: beyond(rng) }
+        }
     }
 }
 
@@ -486,17 +494,15 @@ pub fn other_call(rng: &mut Rng, items: &[Item], table: &[u8]) -> Call {
         Some(figure) if rng.percent(85) => figure,
         _ => item,
     };
-    match rng.below(100) {
-        0..=14 => Call::Ask { item },
-        15..=39 => Call::Keep { item: figure },
-        40..=59 => Call::Drop { item: figure },
-        _ => {
-            let marked = item_where(rng, items, |i| table.get(10 * i + 1).is_some_and(|&m| m != 0));
-            match marked {
-                Some(marked) if rng.percent(85) => Call::Step { item: marked },
-                _ => Call::Step { item },
-            }
-        }
+    let marked = item_where(rng, items, |i| table.get(10 * i + 1).is_some_and(|&m| m != 0));
+    match (rng.below(100), marked) {
+        (0..=11, _) => Call::Ask { item },
+        (12..=38, _) => Call::Keep { item: figure },
+        (39..=58, _) => Call::Drop { item: figure },
+        (59..=64, _) => Call::Step { item },
+        (_, Some(marked)) => Call::Step { item: marked },
+        (65..=94, None) => Call::Keep { item: figure },
+        (_, None) => Call::Step { item },
     }
 }
 
@@ -535,7 +541,9 @@ pub fn day_log(rng: &mut Rng, items: &[Item], calls: usize) -> Vec<u8> {
         let call = match rng.below(100) {
             0..=39 => good_post(rng, items, taste),
             40..=64 => Call::Ask { item: item_number(rng, items) },
-            65..=67 => Call::Post { item: rng.below(items.len() as u64), kind: 3, number: beyond(rng) },
+            65..=67 => {
+                Call::Post { item: rng.below(items.len() as u64), kind: 3, number: beyond(rng) }
+            }
             68..=69 if faulty => bad_post(rng, items),
             _ => other_call(rng, items, &[]),
         };

@@ -3,6 +3,7 @@
 use crate::engine::{DayProgram, Engine};
 use crate::harness::compare::Comparison;
 use crate::harness::days::compare_day;
+use crate::harness::fixed::run_fixed;
 use crate::harness::lists::run_list;
 use crate::harness::offices::run_offices;
 use crate::harness::tally::Tally;
@@ -10,17 +11,22 @@ use crate::rng::Rng;
 
 pub struct Plan {
     pub seed: u64,
+    /// Whether the comparisons that are the same in every run come first.
+    pub fixed: bool,
     /// Lists are run until so many of their calls are compared.
     pub calls: u64,
     pub offices: u64,
     pub days: u64,
-    /// Only this part of the run: `Some(p)` as a failure names it.
+    /// Only this part of the run, as a failure names it.
     pub only: Option<u64>,
+    /// Print the number of each part before it is run, for an engine that ends the program.
+    pub trace: bool,
 }
 
 /// Each kind of part has its own numbers, so that one part can be run alone.
 const OFFICES: u64 = 1 << 40;
 const DAYS: u64 = 2 << 40;
+const FIXED: u64 = 3 << 40;
 
 /// Everything compared, or the first difference.
 pub fn run(
@@ -30,36 +36,45 @@ pub fn run(
 ) -> Result<Tally, String> {
     let mut c = Comparison::new(engine, Rng::new(0));
     if let Some(part) = plan.only {
-        run_part(plan.seed, part, &mut c, &mut day)?;
+        run_part(plan, part, &mut c, &mut day)?;
         return Ok(c.tally);
     }
+    if plan.fixed {
+        run_part(plan, FIXED, &mut c, &mut day)?;
+    }
     for pair in 0..plan.offices {
-        run_part(plan.seed, OFFICES + pair, &mut c, &mut day)?;
+        run_part(plan, OFFICES + pair, &mut c, &mut day)?;
     }
     let (mut list, others) = (0, c.tally.calls());
     while c.tally.calls() < others + plan.calls {
-        run_part(plan.seed, list, &mut c, &mut day)?;
+        run_part(plan, list, &mut c, &mut day)?;
         list += 1;
     }
     if day.is_some() {
         for number in 0..plan.days {
-            run_part(plan.seed, DAYS + number, &mut c, &mut day)?;
+            run_part(plan, DAYS + number, &mut c, &mut day)?;
         }
     }
     match c.tally.never_met() {
         missing if missing.is_empty() => Ok(c.tally),
-        missing => Err(format!("numbers never given: {missing:?}\n{}", c.tally)),
+        missing => Err(format!("never given: {}\n{}", missing.join(", "), c.tally)),
     }
 }
 
 fn run_part(
-    seed: u64,
+    plan: &Plan,
     part: u64,
     c: &mut Comparison,
     day: &mut Option<&mut dyn DayProgram>,
 ) -> Result<(), String> {
+    let seed = plan.seed;
+    if plan.trace {
+        println!("part {part}");
+    }
     c.rng = Rng::part(seed, part);
-    let result = if part >= DAYS {
+    let result = if part >= FIXED {
+        run_fixed(c)
+    } else if part >= DAYS {
         match day {
             Some(program) => compare_day(*program, &mut c.rng, &mut c.tally),
             None => Err("no day program is given".to_string()),
@@ -70,9 +85,7 @@ fn run_part(
         run_list(c)
     };
     let calls = c.tally.calls();
-    result.map_err(|e| {
-        format!("{e}\nafter {calls} calls; alone: --seed {seed} --part {part}")
-    })
+    result.map_err(|e| format!("{e}\nafter {calls} calls; alone: --seed {seed} --part {part}"))
 }
 
 #[cfg(test)]
@@ -80,16 +93,26 @@ mod tests {
     use super::*;
     use crate::mock::{Mock, Wrong};
 
-    fn try_mock(wrong: Wrong, calls: u64) -> Result<Tally, String> {
-        let plan = Plan { seed: 5, calls, offices: 40, days: 60, only: None };
-        run(&plan, &mut Mock(wrong), Some(&mut Mock(Wrong::Nothing)))
+    const SHORT: Plan = Plan {
+        seed: 5,
+        fixed: false,
+        calls: 5_000,
+        offices: 10,
+        days: 0,
+        only: None,
+        trace: false,
+    };
+
+    fn try_mock(plan: &Plan, wrong: Wrong) -> Result<Tally, String> {
+        run(plan, &mut Mock(wrong), Some(&mut Mock(Wrong::Nothing)))
     }
 
     #[test]
     fn the_model_agrees_with_another_machine() {
-        let tally = try_mock(Wrong::Nothing, 12_000).unwrap();
-        assert!(tally.calls() >= 12_000);
-        assert!(tally.from_random_tables * 8 > tally.calls());
+        let plan = Plan { fixed: true, calls: 15_000, offices: 100, days: 60, ..SHORT };
+        let tally = try_mock(&plan, Wrong::Nothing).unwrap();
+        assert!(tally.calls() >= 50_000);
+        assert!(tally.lists_from_tables * 6 > tally.lists);
         assert!(tally.sheet_lines > 0 && tally.fault_lines > 0);
     }
 
@@ -116,18 +139,18 @@ mod tests {
             PrinterClearsTheRest,
             PrinterSays15First,
         ] {
-            let found = try_mock(wrong, 5_000).err();
-            let found = found.unwrap_or_else(|| panic!("{wrong:?} was not found"));
-            assert!(found.contains("--seed 5 --part"), "{wrong:?}: {found}");
+            let found = try_mock(&SHORT, wrong).err().unwrap_or_default();
+            assert!(found.contains("--seed 5 --part"), "{wrong:?} was not found: {found}");
+            println!("{wrong:?}: {}", found.lines().last().unwrap());
         }
     }
 
     /// The part that a failure names fails alone too.
     #[test]
     fn a_part_can_be_run_again() {
-        let found = try_mock(Wrong::DeferIgnoresNotice, 5_000).unwrap_err();
+        let found = try_mock(&SHORT, Wrong::DeferIgnoresNotice).unwrap_err();
         let part = found.rsplit("--part ").next().unwrap().parse().unwrap();
-        let plan = Plan { seed: 5, calls: 0, offices: 0, days: 0, only: Some(part) };
+        let plan = Plan { only: Some(part), ..SHORT };
         let again = run(&plan, &mut Mock(Wrong::DeferIgnoresNotice), None).unwrap_err();
         assert_eq!(found.lines().next(), again.lines().next());
     }
@@ -142,14 +165,15 @@ mod tests {
 
     #[test]
     fn a_wrong_day_program_is_found() {
-        let plan = Plan { seed: 5, calls: 3_000, offices: 0, days: 10, only: None };
-        assert!(run(&plan, &mut Mock(Wrong::Nothing), Some(&mut Silent)).is_err());
+        let plan = Plan { calls: 0, days: 10, ..SHORT };
+        let found = run(&plan, &mut Mock(Wrong::Nothing), Some(&mut Silent)).unwrap_err();
+        assert!(found.contains("--seed 5 --part"), "{found}");
     }
 
     #[cfg(engine)]
     #[test]
     fn the_linked_engine_agrees() {
-        let plan = Plan { seed: 6, calls: 10_000, offices: 50, days: 0, only: None };
+        let plan = Plan { fixed: true, calls: 20_000, offices: 100, ..SHORT };
         if let Err(difference) = run(&plan, &mut crate::ffi::Linked, None) {
             panic!("{difference}");
         }

@@ -8,7 +8,8 @@ use std::path::PathBuf;
 use std::process::ExitCode;
 use std::time::{Instant, SystemTime, UNIX_EPOCH};
 
-const USAGE: &str = "differential [--self] [--seed N] [--calls N] [--offices N] [--days N] [--part N]";
+const USAGE: &str =
+    "differential [--self] [--trace] [--seed N] [--calls N] [--offices N] [--days N] [--part N]";
 
 struct Options {
     stand_in: bool,
@@ -27,13 +28,28 @@ fn main() -> ExitCode {
 
 fn options() -> Result<Options, String> {
     let clock = SystemTime::now().duration_since(UNIX_EPOCH).map_or(1, |d| d.as_nanos() as u64);
-    let plan = Plan { seed: clock, calls: 120_000, offices: 1_500, days: 1_000, only: None };
+    let plan = Plan {
+        seed: clock,
+        fixed: true,
+        calls: 120_000,
+        offices: 1_500,
+        days: 1_000,
+        only: None,
+        trace: false,
+    };
     let mut options = Options { stand_in: false, plan };
     let mut words = std::env::args().skip(1);
     while let Some(word) = words.next() {
-        if word == "--self" {
-            options.stand_in = true;
-            continue;
+        match word.as_str() {
+            "--self" => {
+                options.stand_in = true;
+                continue;
+            }
+            "--trace" => {
+                options.plan.trace = true;
+                continue;
+            }
+            _ => {}
         }
         let number = words.next().and_then(|n| n.parse().ok()).ok_or(USAGE)?;
         match word.as_str() {

@@ -47,16 +47,10 @@ impl<'a> Comparison<'a> {
     pub fn act(&mut self, act: &Act, lent: &mut Lent) -> Result<Reply, String> {
         let before = lent.clone();
         let reply = match act {
-            Act::Open { full } => {
-                self.tally.openings += 1;
-                calls::open(*full, &lent.sheet, &mut lent.index, &mut lent.table)
-            }
-            Act::Give(call) => {
-                self.tally.count(call);
-                calls::call(call, &lent.sheet, &lent.index, &mut lent.table)
-            }
+            Act::Open { full } => calls::open(*full, &lent.sheet, &mut lent.index, &mut lent.table),
+            Act::Give(call) => calls::call(call, &lent.sheet, &lent.index, &mut lent.table),
         };
-        self.tally.count_number(reply.number);
+        self.tally.count_act(act, reply.number);
         let mut sheet = Guarded::new(&before.sheet, self.rng.below(8) as usize);
         let mut index = Guarded::new(&before.index, self.rng.below(8) as usize);
         let mut table = Guarded::new(&before.table, self.rng.below(8) as usize);
@@ -87,8 +81,7 @@ impl<'a> Comparison<'a> {
         let written = printer::print(kind, number, &mut right);
         let mut lent = Guarded::new(scratch, self.rng.below(8) as usize);
         let given = self.engine.print(kind, number, &mut lent);
-        self.tally.prints += 1;
-        self.tally.count_number(written.min(0).unsigned_abs());
+        self.tally.count_print(written.min(0).unsigned_abs());
         if given == written && lent.bytes() == right && lent.guards_hold() {
             return Ok(());
         }

@@ -18,6 +18,7 @@ pub fn run_list(c: &mut Comparison) -> Result<(), String> {
     let mut lent = Lent { sheet, index: vec![], table: vec![] };
     let mut office = None;
     if c.rng.percent(20) {
+        c.tally.lists_from_tables += 1;
         lent.index = index_of(&items);
         lent.table = gen::accepted_table(&mut c.rng, &items);
     } else {
@@ -27,16 +28,16 @@ pub fn run_list(c: &mut Comparison) -> Result<(), String> {
     }
     for _ in 0..list_length(&mut c.rng, shape) {
         match c.rng.below(1000) {
-            0..=79 => changed_call(c, &specs, &items, &mut lent, &mut office)?,
-            80..=89 => office = Some(open(c, &items, &mut lent)?),
-            90..=119 => random_print(c)?,
+            0..=119 => changed_call(c, &specs, &items, &mut lent, &mut office)?,
+            120..=124 => office = Some(open(c, &items, &mut lent)?),
+            125..=149 => random_print(c)?,
+            150..=299 if office.is_none() => {
+                lent.table = gen::accepted_table(&mut c.rng, &items);
+            }
             _ => {
                 let call = gen::any_call(&mut c.rng, &items, &lent.table, taste);
                 plain_call(c, call, &mut lent, &mut office)?;
             }
-        }
-        if office.is_none() {
-            c.tally.from_random_tables += 1;
         }
     }
     Ok(())

@@ -2,6 +2,7 @@
 
 pub mod compare;
 pub mod days;
+pub mod fixed;
 pub mod lists;
 pub mod offices;
 pub mod tally;

@@ -40,8 +40,9 @@ mod tests {
             (3, 0, "0".to_string()),
             (3, -1, "-1".to_string()),
             (3, 10, "10".to_string()),
-            (3, LIMIT, format!("1{}", "0".repeat(12))),
-            (3, -LIMIT, format!("-1{}", "0".repeat(12))),
+            (3, -907_060, "-907060".to_string()),
+            (3, LIMIT, LIMIT.to_string()),
+            (3, -LIMIT, format!("-{LIMIT}")),
         ];
         for (kind, number, text) in cases {
             let mut scratch = [b'?'; 24];
@@ -54,7 +55,9 @@ mod tests {
     #[test]
     fn refusals() {
         let mut scratch = [b'?'; 20];
-        for (kind, number) in [(0, 0), (4, 0), (257, 0), (1, 1), (2, -1), (3, LIMIT + 1), (3, -LIMIT - 1)] {
+        for (kind, number) in
+            [(0, 0), (4, 0), (257, 0), (1, 1), (2, -1), (3, LIMIT + 1), (3, -LIMIT - 1)]
+        {
             assert_eq!(print(kind, number, &mut scratch), -10);
             assert_eq!(print(kind, number, &mut scratch[..19]), -10);
         }
