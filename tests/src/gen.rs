@@ -183,18 +183,31 @@ pub fn sheet(rng: &mut Rng, shape: Shape) -> Vec<Spec> {
 /// A sheet just past a limit, or changed in one to three places. It may still be accepted.
 pub fn bad_sheet(rng: &mut Rng) -> Vec<u8> {
     match rng.below(20) {
-        0 | 1 => {
-            let levels = rng.from_to(MAX_LEVEL as u64 + 1, MAX_LEVEL as u64 + 3) as usize;
-            return write_sheet(&tower(rng, levels));
-        }
-        2 => {
+        0..=2 => too_high(rng),
+        3 => {
             let entries = rng.from_to(20, 80);
-            return write_sheet(&random_specs(rng, MAX_ITEMS + 1, entries, 5));
+            write_sheet(&random_specs(rng, MAX_ITEMS + 1, entries, 5))
         }
-        _ => {}
+        _ => {
+            let specs = small_specs(rng);
+            damaged_sheet(rng, &specs)
+        }
     }
-    let specs = small_specs(rng);
-    damaged_sheet(rng, &specs)
+}
+
+/// A tower with a figure above the highest level, which may have other faults too.
+fn too_high(rng: &mut Rng) -> Vec<u8> {
+    let levels = rng.from_to(MAX_LEVEL as u64 + 1, MAX_LEVEL as u64 + 3) as usize;
+    let specs = tower(rng, levels);
+    let mut fields = raw_sheet(&specs);
+    if rng.percent(60) {
+        // After the head, the entries and the highest level.
+        let at = 1 + specs.len() - levels + MAX_LEVEL;
+        for _ in 0..rng.from_to(1, 2) {
+            damage_content(rng, &mut fields[at], at);
+        }
+    }
+    write_raw(&fields)
 }
 
 /// The sheet changed in one to three places.
@@ -267,7 +280,8 @@ fn damage_content(rng: &mut Rng, field: &mut Raw, at: usize) {
                 // The field at place 1 is item 0.
                 let own = at.saturating_sub(1) as u16;
                 let parent = *rng.pick(&[own, own + 1, own + 256, 65_535]);
-                content[4..6].copy_from_slice(&parent.to_le_bytes());
+                let place = if content.len() > 8 { rng.below(2) as usize } else { 0 };
+                content[4 + 2 * place..6 + 2 * place].copy_from_slice(&parent.to_le_bytes());
             }
             _ => *content.last_mut().unwrap() = *rng.pick(&[0, 32, 33, 126, 127, 255]),
         }
@@ -555,8 +569,10 @@ pub fn day_log(rng: &mut Rng, items: &[Item], calls: usize) -> Vec<u8> {
 #[cfg(test)]
 mod tests {
     use super::*;
+    use crate::model::field::{field_at, u16_at};
     use crate::model::sheet::read_sheet;
     use crate::model::table::decode;
+    use crate::model::value::count_fits;
 
     #[test]
     fn sheets_are_accepted() {
@@ -581,6 +597,61 @@ mod tests {
             met[read_sheet(&bytes).map_or_else(|f| f.number, |_| 0) as usize] += 1;
         }
         assert!(met.iter().all(|&m| m >= 20), "{met:?}");
+    }
+
+    /// Every number that a figure's field is at fault with, its parents read as far as they go.
+    fn all_faults(content: &[u8], before: &[Item]) -> Vec<u64> {
+        if content.len() < 4 {
+            return vec![3];
+        }
+        let count = content[3] as usize;
+        let name = content.get(4 + 2 * count..).unwrap_or(&[]);
+        let named = (1..=16).contains(&name.len()) && name.iter().all(|b| (33..=126).contains(b));
+        let right = count_fits(content[0], count) && content[1] <= 1 && content[2] <= 2;
+        let parents: Vec<usize> =
+            content[4..].chunks_exact(2).take(count).map(|p| u16_at(p, 0) as usize).collect();
+        let below = parents.iter().all(|&p| p < before.len());
+        let low = parents.iter().filter_map(|&p| before.get(p)).all(|b| b.level < MAX_LEVEL);
+        let tests = [(3, named), (5, right), (6, below), (7, low)];
+        tests.iter().filter(|t| !t.1).map(|t| t.0).collect()
+    }
+
+    /// Fields with two faults are met, so that the order of the numbers is compared.
+    #[test]
+    fn pairs_of_faults_are_met() {
+        let mut rng = Rng::new(4);
+        let mut met = [[0; 8]; 8];
+        for _ in 0..20_000 {
+            let bytes = bad_sheet(&mut rng);
+            let Err(fault) = read_sheet(&bytes) else { continue };
+            let offset = fault.offset as usize;
+            let Some(field) = field_at(&bytes, offset).filter(|f| offset > 0 && f.tag == 3) else {
+                continue;
+            };
+            // The items before it, as a sheet of their own.
+            let fields = |from: &[u8]| {
+                let mut at = 0;
+                std::iter::from_fn(|| field_at(from, at).map(|f| at = f.end())).count()
+            };
+            let mut prefix = bytes[..offset].to_vec();
+            let count = fields(&prefix) as u16 - 1;
+            prefix[5..7].copy_from_slice(&count.to_le_bytes());
+            prefix.extend([4, 0, 0]);
+            let before = if count == 0 { vec![] } else { read_sheet(&prefix).unwrap() };
+            let faults = all_faults(field.content, &before);
+            if faults.is_empty() {
+                // A figure in the place of the last field.
+                assert_eq!(fault.number, 2);
+                continue;
+            }
+            for &b in faults.iter().filter(|_| fault.number != 2) {
+                assert_eq!(faults.iter().min(), Some(&fault.number));
+                met[fault.number as usize][b as usize] += 1;
+            }
+        }
+        for (a, b) in [(3, 5), (3, 6), (3, 7), (5, 6), (5, 7), (6, 7)] {
+            assert!(met[a][b] >= 10, "{a} with {b}: {met:?}");
+        }
     }
 
     #[test]

@@ -147,8 +147,8 @@ fn limits(c: &mut Comparison) -> Result<(), String> {
         let right = if levels > MAX_LEVEL { 7 } else { 0 };
         let mut tower = vec![Spec::Entry(b"A".to_vec())];
         tower.extend((0..levels).map(|p| spec_figure(4, 0, 1, &[p as u16; 16])));
-        for sheet in [plain_chain(levels as u16), write_sheet(&tower)] {
-            let (mut lent, number) = opened(c, sheet, levels + 1, false)?;
+        for (full, sheet) in [(false, plain_chain(levels as u16)), (true, write_sheet(&tower))] {
+            let (mut lent, number) = opened(c, sheet, levels + 1, full)?;
             expect("levels", number, right)?;
             for call in [
                 post(0, LIMIT),
