@@ -623,7 +623,8 @@ mod tests {
         let mut met = [[0; 8]; 8];
         for _ in 0..20_000 {
             let bytes = bad_sheet(&mut rng);
-            let Err(fault) = read_sheet(&bytes) else { continue };
+            // Number 2 at a figure's tag: its place is past the last item.
+            let Some(fault) = read_sheet(&bytes).err().filter(|f| f.number != 2) else { continue };
             let offset = fault.offset as usize;
             let Some(field) = field_at(&bytes, offset).filter(|f| offset > 0 && f.tag == 3) else {
                 continue;
@@ -639,15 +640,8 @@ mod tests {
             prefix.extend([4, 0, 0]);
             let before = if count == 0 { vec![] } else { read_sheet(&prefix).unwrap() };
             let faults = all_faults(field.content, &before);
-            if faults.is_empty() {
-                // A figure in the place of the last field.
-                assert_eq!(fault.number, 2);
-                continue;
-            }
-            for &b in faults.iter().filter(|_| fault.number != 2) {
-                assert_eq!(faults.iter().min(), Some(&fault.number));
-                met[fault.number as usize][b as usize] += 1;
-            }
+            assert_eq!(faults.iter().min(), Some(&fault.number));
+            faults.iter().for_each(|&b| met[fault.number as usize][b as usize] += 1);
         }
         for (a, b) in [(3, 5), (3, 6), (3, 7), (5, 6), (5, 7), (6, 7)] {
             assert!(met[a][b] >= 10, "{a} with {b}: {met:?}");

@@ -211,3 +211,112 @@ fn led_to(items: &[Item], entry: usize) -> Vec<bool> {
     }
     led
 }
+
+#[cfg(test)]
+mod tests {
+    use super::*;
+    use crate::engine::Engine;
+    use crate::guarded::Guarded;
+    use crate::mock::{Mock, Wrong};
+    use crate::model::table::{decode, from_pair};
+    use crate::model::value::Value;
+
+    /// Every cause from 8 to 14 of a call on an accepted sheet, each tested as far as it goes.
+    fn all_causes(call: &Call, items: &[Item], index: &[u8], table: &[u8]) -> Vec<usize> {
+        let n = items.len();
+        let item = match *call {
+            Call::Post { item, .. } | Call::Keep { item } | Call::Drop { item } => item,
+            Call::Step { item } | Call::Ask { item } => item,
+        };
+        let long = (index.len() == 4 * n, table.len() == 10 * n);
+        let figure = items.get(item as usize).map(|i| i.figure.is_some());
+        let marked = table.get(10 * (item as usize % 4096) + 1).is_some_and(|&m| m != 0);
+        let tests = [
+            (8, long != (true, true)),
+            (9, long.0 && index != index_of(items)),
+            (10, long.1 && decode(items, table).is_none()),
+            (11, item >= n as u64),
+            (
+                12,
+                match call {
+                    Call::Post { .. } => figure == Some(true),
+                    Call::Keep { .. } | Call::Drop { .. } => figure == Some(false),
+                    _ => false,
+                },
+            ),
+            (
+                13,
+                match *call {
+                    Call::Post { kind, number, .. } => {
+                        matches!(from_pair(kind, number), None | Some(Value::Out))
+                    }
+                    _ => false,
+                },
+            ),
+            (14, matches!(call, Call::Step { .. }) && item < n as u64 && long.1 && !marked),
+        ];
+        tests.iter().filter(|t| t.1).map(|t| t.0).collect()
+    }
+
+    /// Counts the pairs of causes that one call has, the lowest first.
+    struct Recorder {
+        met: [[u64; 16]; 16],
+    }
+
+    impl Engine for Recorder {
+        fn open(
+            &mut self,
+            full: bool,
+            sheet: &mut Guarded,
+            index: &mut Guarded,
+            table: &mut Guarded,
+        ) -> Reply {
+            Mock(Wrong::Nothing).open(full, sheet, index, table)
+        }
+
+        fn call(
+            &mut self,
+            call: &Call,
+            sheet: &mut Guarded,
+            index: &mut Guarded,
+            table: &mut Guarded,
+        ) -> Reply {
+            let items = read_sheet(sheet.bytes());
+            let causes = match &items {
+                Ok(items) => all_causes(call, items, index.bytes(), table.bytes()),
+                Err(_) => vec![],
+            };
+            let reply = Mock(Wrong::Nothing).call(call, sheet, index, table);
+            if items.is_ok() {
+                assert_eq!(reply.number, causes.first().map_or(0, |&n| n as u64));
+            }
+            causes.iter().for_each(|&b| self.met[reply.number as usize][b] += 1);
+            reply
+        }
+
+        fn print(&mut self, kind: u64, number: i64, scratch: &mut Guarded) -> i64 {
+            Mock(Wrong::Nothing).print(kind, number, scratch)
+        }
+    }
+
+    /// Calls with two causes are met, so that the order of the numbers is compared.
+    #[test]
+    fn pairs_of_causes_are_met() {
+        let mut recorder = Recorder { met: [[0; 16]; 16] };
+        for list in 0..1_500 {
+            let mut c = Comparison::new(&mut recorder, Rng::part(7, list));
+            run_list(&mut c).unwrap();
+        }
+        for low in 8..=11 {
+            for high in low + 1..=14 {
+                // An item of n or more is neither entry nor figure, and has no mark.
+                if low == 11 && high != 13 {
+                    continue;
+                }
+                let met = recorder.met[low][high];
+                assert!(met >= 3, "{low} with {high}: {met}");
+            }
+        }
+        assert!(recorder.met[12][13] >= 3);
+    }
+}
