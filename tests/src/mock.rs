@@ -79,7 +79,7 @@ impl Sweep<'_> {
         for i in 0..=last {
             let notice = self.cells[i].mark == Mark::Notice;
             given.push(if self.unstored(i) {
-                let (value, flagged) = self.from_parents(i, &given);
+                let (value, flagged) = self.by_parents(i, &given);
                 (value, flagged || notice)
             } else {
                 (self.cells[i].stored.unwrap(), notice)
@@ -88,7 +88,7 @@ impl Sweep<'_> {
         given
     }
 
-    fn from_parents(&self, i: usize, given: &[(Value, bool)]) -> (Value, bool) {
+    fn by_parents(&self, i: usize, given: &[(Value, bool)]) -> (Value, bool) {
         let figure = self.items[i].figure.as_ref().unwrap();
         let values: Vec<Value> = figure.parents.iter().map(|&p| given[p].0).collect();
         (self.rule(figure.rule, &values), figure.parents.iter().any(|&p| given[p].1))
@@ -127,7 +127,7 @@ impl Sweep<'_> {
         let parents = &self.items[i].figure.as_ref().unwrap().parents;
         let given = self.all(*parents.iter().max().unwrap());
         self.fill(parents, &given);
-        self.from_parents(i, &given).0
+        self.by_parents(i, &given).0
     }
 
     fn step(&mut self, i: usize) {

@@ -45,9 +45,9 @@ pub fn run_list(c: &mut Comparison) -> Result<(), String> {
 
 fn list_length(rng: &mut Rng, shape: Shape) -> u64 {
     match shape {
-        Shape::Small | Shape::Medium => rng.from_to(5, 60),
-        Shape::Deep => rng.from_to(5, 25),
-        Shape::Wide => rng.from_to(2, 8),
+        Shape::Small | Shape::Medium => rng.between(5, 60),
+        Shape::Deep => rng.between(5, 25),
+        Shape::Wide => rng.between(2, 8),
     }
 }
 
@@ -78,7 +78,7 @@ pub fn plain_call(
         office.judge(c, &call, &reply, &before, &lent.table)?;
     }
     if let (Call::Ask { .. }, 0) = (call, reply.number) {
-        let length = c.rng.from_to(20, 26) as usize;
+        let length = c.rng.between(20, 26) as usize;
         let scratch = c.rng.bytes(length);
         c.print(reply.kind, reply.value, &scratch)?;
     }
@@ -95,7 +95,7 @@ fn changed_call(
     office: &mut Option<Office>,
 ) -> Result<(), String> {
     let mut changed = lent.clone();
-    let what = c.rng.from_to(1, 7);
+    let what = c.rng.between(1, 7);
     if what & 1 != 0 {
         changed.table = gen::damaged_table(&mut c.rng, &lent.table);
     }

@@ -83,7 +83,7 @@ fn read_head(field: &Field) -> Result<usize, u64> {
     }
     let edition = u16_at(field.content, 0);
     let count = u16_at(field.content, 2) as usize;
-    if edition != EDITION || count < 1 || count > MAX_ITEMS {
+    if edition != EDITION || !(1..=MAX_ITEMS).contains(&count) {
         return Err(4);
     }
     Ok(count)

@@ -105,7 +105,7 @@ mod tests {
             for mark in 0..=255u8 {
                 for number in [0, 1, -1, LIMIT, LIMIT + 1, -LIMIT, -LIMIT - 1, i64::MIN, i64::MAX] {
                     let number_fits =
-                        if kind == 3 { -LIMIT <= number && number <= LIMIT } else { number == 0 };
+                        if kind == 3 { (-LIMIT..=LIMIT).contains(&number) } else { number == 0 };
                     let any = kind <= 3 && mark <= 2 && number_fits;
                     let as_entry = any && kind != 0 && kind != 2 && mark != 1;
                     let as_figure = any && !(kind == 0 && mark == 1);

@@ -168,7 +168,7 @@ mod tests {
         for rule in 0..=255u8 {
             for count in 0..=255usize {
                 let fits = match rule {
-                    1 | 3 | 4 | 7 => count >= 1 && count <= 16,
+                    1 | 3 | 4 | 7 => (1..17).contains(&count),
                     2 | 5 | 8 => count == 2,
                     6 => count == 3,
                     _ => false,
