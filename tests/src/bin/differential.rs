@@ -95,11 +95,11 @@ fn linked() -> Result<Box<dyn Engine>, String> {
     Err("no engine is linked: build with ROZHINAL_LIB_DIR set, or give --self".to_string())
 }
 
-/// The binary that ROZHINAL_DAY_BIN names; for a stand-in, the model's own beside this one.
+/// The binary that ROZHINAL_DAY_BIN names; else, for a stand-in, the model's own beside this one.
 fn day_program(stand_in: bool) -> Result<Option<DayBinary>, String> {
     let named = std::env::var_os("ROZHINAL_DAY_BIN").filter(|b| !b.is_empty()).map(PathBuf::from);
     let beside = std::env::current_exe().ok().map(|e| e.with_file_name("model_day"));
-    let binary = if stand_in { beside.filter(|b| b.is_file()) } else { named };
+    let binary = named.or(beside.filter(|b| stand_in && b.is_file()));
     match binary {
         Some(binary) => {
             println!("day program: {}", binary.display());

@@ -80,9 +80,9 @@ pub enum Shape {
 
 pub fn shape(rng: &mut Rng) -> Shape {
     match rng.below(1000) {
-        0..=739 => Shape::Small,
-        740..=939 => Shape::Medium,
-        940..=993 => Shape::Deep,
+        0..=719 => Shape::Small,
+        720..=929 => Shape::Medium,
+        930..=984 => Shape::Deep,
         _ => Shape::Wide,
     }
 }
