@@ -2,7 +2,7 @@
 
 use crate::engine::{DayProgram, Engine};
 use crate::harness::compare::Comparison;
-use crate::harness::days::compare_day;
+use crate::harness::days::{compare_fixed_days, compare_random_day};
 use crate::harness::fixed::run_fixed;
 use crate::harness::lists::run_list;
 use crate::harness::offices::run_offices;
@@ -27,6 +27,7 @@ pub struct Plan {
 const OFFICES: u64 = 1 << 40;
 const DAYS: u64 = 2 << 40;
 const FIXED: u64 = 3 << 40;
+const FIXED_DAYS: u64 = FIXED + 1;
 
 /// Everything compared, or the first difference.
 pub fn run(
@@ -51,6 +52,9 @@ pub fn run(
         list += 1;
     }
     if day.is_some() {
+        if plan.fixed {
+            run_part(plan, FIXED_DAYS, &mut c, &mut day)?;
+        }
         for number in 0..plan.days {
             run_part(plan, DAYS + number, &mut c, &mut day)?;
         }
@@ -72,17 +76,13 @@ fn run_part(
         println!("part {part}");
     }
     c.rng = Rng::part(seed, part);
-    let result = if part >= FIXED {
-        run_fixed(c)
-    } else if part >= DAYS {
-        match day {
-            Some(program) => compare_day(*program, &mut c.rng, &mut c.tally),
-            None => Err("no day program is given".to_string()),
-        }
-    } else if part >= OFFICES {
-        run_offices(c)
-    } else {
-        run_list(c)
+    let result = match (part, day) {
+        (FIXED, _) => run_fixed(c),
+        (FIXED_DAYS, Some(program)) => compare_fixed_days(*program, &mut c.tally),
+        (DAYS.., Some(program)) => compare_random_day(*program, &mut c.rng, &mut c.tally),
+        (DAYS.., None) => Err("no day program is given".to_string()),
+        (OFFICES.., _) => run_offices(c),
+        _ => run_list(c),
     };
     let calls = c.tally.calls();
     result.map_err(|e| format!("{e}\nafter {calls} calls; alone: --seed {seed} --part {part}"))

@@ -1,6 +1,6 @@
 //! Random calls and day logs.
 
-use super::tables::{any_number, beyond, entry_value, taste, Taste};
+use super::tables::{any_number, beyond, choose_numbers, entry_value, Numbers};
 use super::write::{raw, write_raw};
 use crate::model::calls::Call;
 use crate::model::sheet::Item;
@@ -23,9 +23,9 @@ fn item_where(rng: &mut Rng, items: &[Item], test: impl Fn(usize) -> bool) -> Op
 }
 
 /// A post without a cause 11 to 13. Item 0 of an accepted sheet is an entry.
-pub fn good_post(rng: &mut Rng, items: &[Item], taste: Taste) -> Call {
+pub fn good_post(rng: &mut Rng, items: &[Item], numbers: Numbers) -> Call {
     let item = item_where(rng, items, |i| items[i].figure.is_none()).unwrap();
-    match entry_value(rng, taste) {
+    match entry_value(rng, numbers) {
         Value::Number(number) => Call::Post { item, kind: 3, number },
         _ => Call::Post { item, kind: 1, number: 0 },
     }
@@ -69,15 +69,16 @@ pub fn other_call(rng: &mut Rng, items: &[Item], table: &[u8]) -> Call {
 }
 
 /// Any of the five calls, refused ones included.
-pub fn any_call(rng: &mut Rng, items: &[Item], table: &[u8], taste: Taste) -> Call {
+pub fn any_call(rng: &mut Rng, items: &[Item], table: &[u8], numbers: Numbers) -> Call {
     match rng.below(100) {
-        0..=27 => good_post(rng, items, taste),
+        0..=27 => good_post(rng, items, numbers),
         28..=32 => bad_post(rng, items),
         _ => other_call(rng, items, table),
     }
 }
 
-fn day_field(call: &Call) -> Vec<u8> {
+/// The day field of a call.
+pub fn day_field(call: &Call) -> Vec<u8> {
     let (tag, item) = match *call {
         Call::Post { item, .. } => (16, item),
         Call::Ask { item } => (17, item),
@@ -95,11 +96,11 @@ fn day_field(call: &Call) -> Vec<u8> {
 
 /// A day log of calls on these items; some have a field at fault.
 pub fn day_log(rng: &mut Rng, items: &[Item], calls: usize) -> Vec<u8> {
-    let (faulty, taste) = (rng.percent(20), taste(rng));
+    let (faulty, numbers) = (rng.percent(20), choose_numbers(rng));
     let mut log = Vec::new();
     for _ in 0..calls {
         let call = match rng.below(100) {
-            0..=39 => good_post(rng, items, taste),
+            0..=39 => good_post(rng, items, numbers),
             40..=64 => Call::Ask { item: item_number(rng, items) },
             65..=67 => {
                 Call::Post { item: rng.below(items.len() as u64), kind: 3, number: beyond(rng) }

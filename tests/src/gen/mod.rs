@@ -6,10 +6,12 @@ mod sheets;
 mod tables;
 mod write;
 
-pub use calls::{any_call, bad_post, day_log, good_post, other_call};
+pub use calls::{any_call, bad_post, day_field, day_log, good_post, other_call};
 pub use damage::{bad_sheet, damaged, damaged_sheet};
 pub use sheets::{shape, sheet, small_specs, Shape};
-pub use tables::{accepted_table, beyond, damaged_index, damaged_table, number, taste, Taste};
+pub use tables::{
+    accepted_table, beyond, choose_numbers, damaged_index, damaged_table, number, Numbers,
+};
 pub use write::{plain_chain, spec_figure, write_sheet, Spec};
 
 #[cfg(test)]
@@ -108,7 +110,7 @@ mod tests {
             let before = office.all();
             office.feed(&bad_post(&mut rng, &items));
             assert_eq!(office.all(), before);
-            let post = good_post(&mut rng, &items, Taste::Any);
+            let post = good_post(&mut rng, &items, Numbers::Any);
             let Call::Post { item, kind, number } = post else { panic!() };
             office.feed(&post);
             let value = if kind == 1 { Value::Null } else { Value::Number(number) };

@@ -7,7 +7,7 @@ use crate::rng::Rng;
 
 /// Which numbers a list favours.
 #[derive(Clone, Copy, Debug, PartialEq, Eq)]
-pub enum Taste {
+pub enum Numbers {
     Any,
     /// Few and small: equal values are met.
     Small,
@@ -17,19 +17,19 @@ pub enum Taste {
     Shares,
 }
 
-pub fn taste(rng: &mut Rng) -> Taste {
-    *rng.pick(&[Taste::Any, Taste::Any, Taste::Small, Taste::Limits, Taste::Shares])
+pub fn choose_numbers(rng: &mut Rng) -> Numbers {
+    *rng.pick(&[Numbers::Any, Numbers::Any, Numbers::Small, Numbers::Limits, Numbers::Shares])
 }
 
 /// A number in range.
-pub fn number(rng: &mut Rng, taste: Taste) -> i64 {
-    match taste {
-        Taste::Small => rng.between(0, 4) as i64 - 2,
-        Taste::Limits => *rng.pick(&[LIMIT, LIMIT - 1, -LIMIT, 1 - LIMIT, 1, -1]),
-        Taste::Shares => {
+pub fn number(rng: &mut Rng, numbers: Numbers) -> i64 {
+    match numbers {
+        Numbers::Small => rng.between(0, 4) as i64 - 2,
+        Numbers::Limits => *rng.pick(&[LIMIT, LIMIT - 1, -LIMIT, 1 - LIMIT, 1, -1]),
+        Numbers::Shares => {
             *rng.pick(&[-1, -7, 13, 1, WHOLE / 2, WHOLE / 3, WHOLE, 1 - WHOLE, WHOLE + 1])
         }
-        Taste::Any => any_number(rng),
+        Numbers::Any => any_number(rng),
     }
 }
 
@@ -66,17 +66,17 @@ pub fn beyond(rng: &mut Rng) -> i64 {
     }
 }
 
-pub fn entry_value(rng: &mut Rng, taste: Taste) -> Value {
+pub fn entry_value(rng: &mut Rng, numbers: Numbers) -> Value {
     if rng.percent(25) {
         Value::Null
     } else {
-        Value::Number(number(rng, taste))
+        Value::Number(number(rng, numbers))
     }
 }
 
 /// A table that is accepted, with any marks and any stale values.
 pub fn accepted_table(rng: &mut Rng, items: &[Item]) -> Vec<u8> {
-    let taste = taste(rng);
+    let numbers = choose_numbers(rng);
     let (marked, stored) = (*rng.pick(&[0, 10, 50, 90]), *rng.pick(&[10, 50, 70, 100]));
     let cells: Vec<Cell> = items
         .iter()
@@ -84,12 +84,12 @@ pub fn accepted_table(rng: &mut Rng, items: &[Item]) -> Vec<u8> {
             let marked = rng.percent(marked);
             let notice = if marked { Mark::Notice } else { Mark::None };
             if item.figure.is_none() {
-                return Cell { stored: Some(entry_value(rng, taste)), mark: notice };
+                return Cell { stored: Some(entry_value(rng, numbers)), mark: notice };
             }
             if !rng.percent(stored) {
                 return Cell { stored: None, mark: notice };
             }
-            let value = if rng.percent(10) { Value::Out } else { entry_value(rng, taste) };
+            let value = if rng.percent(10) { Value::Out } else { entry_value(rng, numbers) };
             let mark = if marked && rng.percent(50) { Mark::Refresh } else { notice };
             Cell { stored: Some(value), mark }
         })

@@ -4,6 +4,7 @@ use super::compare::hex;
 use super::tally::Tally;
 use crate::engine::DayProgram;
 use crate::gen::{self, Shape};
+use crate::model::calls::Call;
 use crate::model::day::{run_day, MOST};
 use crate::model::sheet::{read_sheet, EXAMPLE};
 use crate::rng::Rng;
@@ -56,7 +57,7 @@ impl Drop for DayBinary {
 }
 
 /// One random day, compared.
-pub fn compare_day(
+pub fn compare_random_day(
     program: &mut dyn DayProgram,
     rng: &mut Rng,
     tally: &mut Tally,
@@ -65,8 +66,72 @@ pub fn compare_day(
     // A missing file counts as empty.
     let no_sheet = sheet.is_empty() && rng.percent(50);
     let no_day = day.is_empty() && rng.percent(50);
-    let right = run_day(&sheet, &day);
-    let given = program.run((!no_sheet).then_some(&sheet[..]), (!no_day).then_some(&day[..]));
+    compare_day(program, (!no_sheet).then_some(&sheet), (!no_day).then_some(&day), tally)
+}
+
+/// The example day, each shorter one, and each byte of its log changed.
+pub fn compare_fixed_days(program: &mut dyn DayProgram, tally: &mut Tally) -> Result<(), String> {
+    let (sheet, log) = (EXAMPLE.to_vec(), example_log());
+    if run_day(&sheet, &log) != EXAMPLE_OUTPUT.as_bytes() {
+        return Err("the model does not print the example's output".to_string());
+    }
+    for present in
+        [(None, None), (Some(&sheet), None), (None, Some(&log)), (Some(&sheet), Some(&log))]
+    {
+        compare_day(program, present.0, present.1, tally)?;
+    }
+    for length in 0..log.len() {
+        compare_day(program, Some(&sheet), Some(&log[..length].to_vec()), tally)?;
+    }
+    for length in 0..sheet.len() {
+        compare_day(program, Some(&sheet[..length].to_vec()), Some(&log), tally)?;
+    }
+    for at in 0..log.len() {
+        for byte in [0, 1, 2, 3, 4, 12, 15, 16, 18, 20, 21, 255] {
+            let mut changed = log.clone();
+            changed[at] = byte;
+            compare_day(program, Some(&sheet), Some(&changed), tally)?;
+        }
+    }
+    // Logs that end at the limit of a file, with a whole field or within one.
+    for more in 0..6 {
+        let mut long = log[..14].repeat(4);
+        long.extend([17, 2, 0, 4, 0].repeat((MOST - long.len()) / 5));
+        long.extend(&log[..more]);
+        compare_day(program, Some(&sheet), Some(&long), tally)?;
+        compare_day(program, Some(&sheet), Some(&long[more..].to_vec()), tally)?;
+    }
+    Ok(())
+}
+
+/// The example day of the paper.
+pub fn example_log() -> Vec<u8> {
+    let post = |item, number| Call::Post { item, kind: 3, number };
+    let ask = |item| Call::Ask { item };
+    let calls = [
+        post(0, 1000),
+        post(1, 300),
+        ask(4),
+        post(2, -200),
+        ask(4),
+        Call::Drop { item: 0 },
+        ask(9),
+    ];
+    calls.iter().flat_map(gen::day_field).collect()
+}
+
+const EXAMPLE_OUTPUT: &str = "OK\nOK\nASK 4 700\nOK\nASK 4 500\nNO 12\nNO 11\n";
+
+/// One day on both sides; a file may be missing.
+fn compare_day(
+    program: &mut dyn DayProgram,
+    sheet: Option<&Vec<u8>>,
+    day: Option<&Vec<u8>>,
+    tally: &mut Tally,
+) -> Result<(), String> {
+    let bytes = |file: Option<&Vec<u8>>| file.cloned().unwrap_or_default();
+    let right = run_day(&bytes(sheet), &bytes(day));
+    let given = program.run(sheet.map(|s| &s[..]), day.map(|d| &d[..]));
     tally.days += 1;
     let lines = right.split_inclusive(|&b| b == b'\n');
     for line in lines {
@@ -79,12 +144,11 @@ pub fn compare_day(
         Ok(given) => String::from_utf8_lossy(&given).into_owned(),
         Err(trouble) => trouble,
     };
+    let dump = |file: Option<&Vec<u8>>| file.map_or("missing".to_string(), |bytes| hex(bytes));
     Err(format!(
-        "day\n  sheet.bin {}{}\n  day.bin {}{}\nmodel prints\n{}\nday program prints\n{trouble}",
-        if no_sheet { "missing" } else { "" },
-        hex(&sheet),
-        if no_day { "missing" } else { "" },
-        hex(&day),
+        "day\n  sheet.bin {}\n  day.bin {}\nmodel prints\n{}\nday program prints\n{trouble}",
+        dump(sheet),
+        dump(day),
         String::from_utf8_lossy(&right)
     ))
 }

@@ -1,7 +1,7 @@
 //! Lists of calls, from an opening or from any accepted table.
 
 use super::compare::{Act, Comparison, Lent};
-use crate::gen::{self, Shape, Taste};
+use crate::gen::{self, Numbers, Shape};
 use crate::model::calls::{Call, Reply};
 use crate::model::fresh::FreshOffice;
 use crate::model::sheet::{index_of, read_sheet, Item};
@@ -10,7 +10,7 @@ use crate::rng::Rng;
 
 /// One list of calls, compared after every call.
 pub fn run_list(c: &mut Comparison) -> Result<(), String> {
-    let (shape, taste) = (gen::shape(&mut c.rng), gen::taste(&mut c.rng));
+    let (shape, numbers) = (gen::shape(&mut c.rng), gen::choose_numbers(&mut c.rng));
     let specs = gen::sheet(&mut c.rng, shape);
     let sheet = gen::write_sheet(&specs);
     let items = read_sheet(&sheet).unwrap();
@@ -35,7 +35,7 @@ pub fn run_list(c: &mut Comparison) -> Result<(), String> {
                 lent.table = gen::accepted_table(&mut c.rng, &items);
             }
             _ => {
-                let call = gen::any_call(&mut c.rng, &items, &lent.table, taste);
+                let call = gen::any_call(&mut c.rng, &items, &lent.table, numbers);
                 plain_call(c, call, &mut lent, &mut office)?;
             }
         }
@@ -117,7 +117,7 @@ fn changed_call(
     let act = if c.rng.percent(20) {
         Act::Open { full: c.rng.percent(50) }
     } else {
-        Act::Give(gen::any_call(&mut c.rng, items, &lent.table, Taste::Any))
+        Act::Give(gen::any_call(&mut c.rng, items, &lent.table, Numbers::Any))
     };
     let reply = c.act(&act, &mut changed)?;
     let only_table = what == 1 && matches!(act, Act::Give(_));
@@ -140,7 +140,7 @@ fn random_print(c: &mut Comparison) -> Result<(), String> {
     let number = match rng.below(10) {
         0 | 1 => gen::beyond(rng),
         _ if kind != 3 && rng.percent(70) => 0,
-        _ => gen::number(rng, Taste::Any),
+        _ => gen::number(rng, Numbers::Any),
     };
     let length = *rng.pick(&[0, 1, 13, 18, 19, 20, 20, 20, 21, 24, 100]);
     let scratch = rng.bytes(length);

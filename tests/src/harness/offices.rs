@@ -8,13 +8,13 @@ use crate::model::sheet::{read_sheet, Item};
 use crate::model::table::to_pair;
 
 pub fn run_offices(c: &mut Comparison) -> Result<(), String> {
-    let (shape, taste) = (gen::shape(&mut c.rng), gen::taste(&mut c.rng));
+    let (shape, numbers) = (gen::shape(&mut c.rng), gen::choose_numbers(&mut c.rng));
     let sheet = gen::write_sheet(&gen::sheet(&mut c.rng, shape));
     let items = read_sheet(&sheet).unwrap();
     c.tally.offices += 1;
     let most = if shape == Shape::Wide { 4 } else { 15 };
     let posts: Vec<Call> =
-        (0..c.rng.below(most)).map(|_| gen::good_post(&mut c.rng, &items, taste)).collect();
+        (0..c.rng.below(most)).map(|_| gen::good_post(&mut c.rng, &items, numbers)).collect();
     let (mut one, first) = run_office(c, &sheet, &items, &posts)?;
     let (mut two, second) = run_office(c, &sheet, &items, &posts)?;
     let n = items.len() as u64;
