@@ -1,0 +1,113 @@
+//! Compares the linked engine, or a stand-in, with the model. See README.md.
+
+use rozhinal_tests::engine::{DayProgram, Engine};
+use rozhinal_tests::harness::days::DayBinary;
+use rozhinal_tests::mock::{Mock, Wrong};
+use rozhinal_tests::run::{run, Plan};
+use std::path::PathBuf;
+use std::process::ExitCode;
+use std::time::{Instant, SystemTime, UNIX_EPOCH};
+
+const USAGE: &str =
+    "differential [--self] [--trace] [--seed N] [--calls N] [--offices N] [--days N] [--part N]";
+
+struct Options {
+    stand_in: bool,
+    plan: Plan,
+}
+
+fn main() -> ExitCode {
+    match options().and_then(compare) {
+        Ok(()) => ExitCode::SUCCESS,
+        Err(trouble) => {
+            println!("{trouble}\nFAILED");
+            ExitCode::FAILURE
+        }
+    }
+}
+
+fn options() -> Result<Options, String> {
+    let clock = SystemTime::now().duration_since(UNIX_EPOCH).map_or(1, |d| d.as_nanos() as u64);
+    let plan = Plan {
+        seed: clock,
+        fixed: true,
+        calls: 120_000,
+        offices: 1_500,
+        days: 1_000,
+        only: None,
+        trace: false,
+    };
+    let mut options = Options { stand_in: false, plan };
+    let mut words = std::env::args().skip(1);
+    while let Some(word) = words.next() {
+        match word.as_str() {
+            "--self" => {
+                options.stand_in = true;
+                continue;
+            }
+            "--trace" => {
+                options.plan.trace = true;
+                continue;
+            }
+            _ => {}
+        }
+        let number = words.next().and_then(|n| n.parse().ok()).ok_or(USAGE)?;
+        match word.as_str() {
+            "--seed" => options.plan.seed = number,
+            "--calls" => options.plan.calls = number,
+            "--offices" => options.plan.offices = number,
+            "--days" => options.plan.days = number,
+            "--part" => options.plan.only = Some(number),
+            _ => return Err(USAGE.to_string()),
+        }
+    }
+    Ok(options)
+}
+
+fn compare(options: Options) -> Result<(), String> {
+    println!("seed {}", options.plan.seed);
+    let mut engine = engine(options.stand_in)?;
+    let mut day = day_program(options.stand_in)?;
+    let start = Instant::now();
+    let program = day.as_mut().map(|d| d as &mut dyn DayProgram);
+    let tally = run(&options.plan, engine.as_mut(), program)?;
+    println!("{tally}");
+    println!("no difference; {:.1} seconds", start.elapsed().as_secs_f64());
+    Ok(())
+}
+
+fn engine(stand_in: bool) -> Result<Box<dyn Engine>, String> {
+    if stand_in {
+        println!("engine: a stand-in in this program");
+        return Ok(Box::new(Mock(Wrong::Nothing)));
+    }
+    linked()
+}
+
+#[cfg(engine)]
+fn linked() -> Result<Box<dyn Engine>, String> {
+    println!("engine: the linked library");
+    Ok(Box::new(rozhinal_tests::ffi::Linked))
+}
+
+#[cfg(not(engine))]
+fn linked() -> Result<Box<dyn Engine>, String> {
+    Err("no engine is linked: build with ROZHINAL_LIB_DIR set, or give --self".to_string())
+}
+
+/// The binary that ROZHINAL_DAY_BIN names; else, for a stand-in, the model's own beside this one.
+fn day_program(stand_in: bool) -> Result<Option<DayBinary>, String> {
+    let named = std::env::var_os("ROZHINAL_DAY_BIN").filter(|b| !b.is_empty()).map(PathBuf::from);
+    let beside = std::env::current_exe().ok().map(|e| e.with_file_name("model_day"));
+    let binary = named.or(beside.filter(|b| stand_in && b.is_file()));
+    match binary {
+        Some(binary) => {
+            println!("day program: {}", binary.display());
+            Ok(Some(DayBinary::new(&binary)?))
+        }
+        None => {
+            println!("day program: none given (ROZHINAL_DAY_BIN); days are SKIPPED");
+            Ok(None)
+        }
+    }
+}

@@ -1,0 +1,147 @@
+//! Random numbers, tables and indexes.
+
+use crate::model::sheet::Item;
+use crate::model::table::{encode, Cell, Mark};
+use crate::model::value::{Value, LIMIT, WHOLE};
+use crate::rng::Rng;
+
+/// Which numbers a list favours.
+#[derive(Clone, Copy, Debug, PartialEq, Eq)]
+pub enum Numbers {
+    Any,
+    /// Few and small: equal values are met.
+    Small,
+    /// Near the limits of the range.
+    Limits,
+    /// Ten-thousandths, and numbers of which they leave a remainder.
+    Shares,
+}
+
+pub fn choose_numbers(rng: &mut Rng) -> Numbers {
+    *rng.pick(&[Numbers::Any, Numbers::Any, Numbers::Small, Numbers::Limits, Numbers::Shares])
+}
+
+/// A number in range.
+pub fn number(rng: &mut Rng, numbers: Numbers) -> i64 {
+    match numbers {
+        Numbers::Small => rng.between(0, 4) as i64 - 2,
+        Numbers::Limits => *rng.pick(&[LIMIT, LIMIT - 1, -LIMIT, 1 - LIMIT, 1, -1]),
+        Numbers::Shares => {
+            *rng.pick(&[-1, -7, 13, 1, WHOLE / 2, WHOLE / 3, WHOLE, 1 - WHOLE, WHOLE + 1])
+        }
+        Numbers::Any => any_number(rng),
+    }
+}
+
+pub fn any_number(rng: &mut Rng) -> i64 {
+    match rng.below(16) {
+        0..=5 => rng.between(0, 6) as i64 - 3,
+        6 => *rng.pick(&[WHOLE, WHOLE + 1, WHOLE / 2, WHOLE - 1, 1]),
+        7 | 8 => rng.below(WHOLE as u64 + 1) as i64,
+        9 => *rng.pick(&[LIMIT / 2, LIMIT / 2 + 1, -LIMIT / 2, -LIMIT / 2 - 1]),
+        10 | 11 => rng.below(2_000_001) as i64 - 1_000_000,
+        12 => power_of_ten(rng),
+        _ => rng.below(2 * LIMIT as u64 + 1) as i64 - LIMIT,
+    }
+}
+
+/// A power of ten in range, one less or more, either sign.
+fn power_of_ten(rng: &mut Rng) -> i64 {
+    let mut power: i64 = 1;
+    for _ in 0..rng.below(18) {
+        if power <= LIMIT / 10 {
+            power *= 10;
+        }
+    }
+    let near = power + *rng.pick(&[-1, 0, 1]);
+    near.min(LIMIT) * *rng.pick(&[-1, 1])
+}
+
+/// A number beyond the range.
+pub fn beyond(rng: &mut Rng) -> i64 {
+    match rng.below(3) {
+        0 => *rng.pick(&[LIMIT + 1, -LIMIT - 1, i64::MAX, i64::MIN]),
+        1 => LIMIT + 1 + rng.below((i64::MAX - LIMIT) as u64) as i64,
+        _ => -(LIMIT + 1 + rng.below((i64::MAX - LIMIT) as u64) as i64),
+    }
+}
+
+pub fn entry_value(rng: &mut Rng, numbers: Numbers) -> Value {
+    if rng.percent(25) {
+        Value::Null
+    } else {
+        Value::Number(number(rng, numbers))
+    }
+}
+
+/// A table that is accepted, with any marks and any stale values.
+pub fn accepted_table(rng: &mut Rng, items: &[Item]) -> Vec<u8> {
+    let numbers = choose_numbers(rng);
+    let (marked, stored) = (*rng.pick(&[0, 10, 50, 90]), *rng.pick(&[10, 50, 70, 100]));
+    let cells: Vec<Cell> = items
+        .iter()
+        .map(|item| {
+            let marked = rng.percent(marked);
+            let notice = if marked { Mark::Notice } else { Mark::None };
+            if item.figure.is_none() {
+                return Cell { stored: Some(entry_value(rng, numbers)), mark: notice };
+            }
+            if !rng.percent(stored) {
+                return Cell { stored: None, mark: notice };
+            }
+            let value = if rng.percent(10) { Value::Out } else { entry_value(rng, numbers) };
+            let mark = if marked && rng.percent(50) { Mark::Refresh } else { notice };
+            Cell { stored: Some(value), mark }
+        })
+        .collect();
+    encode(&cells)
+}
+
+/// The table changed in one to three places, or in its length.
+pub fn damaged_table(rng: &mut Rng, table: &[u8]) -> Vec<u8> {
+    if rng.percent(20) || table.len() < 10 {
+        return other_length(rng, table, 10);
+    }
+    let mut table = table.to_vec();
+    for _ in 0..rng.between(1, 3) {
+        let cell = rng.below(table.len() as u64 / 10) as usize * 10;
+        match rng.below(5) {
+            0 => table[cell] = *rng.pick(&[0, 1, 2, 3, 4, 128, 255]),
+            1 => table[cell + 1] = *rng.pick(&[0, 1, 2, 3, 128, 255]),
+            2 => {
+                let x = if rng.percent(50) { beyond(rng) } else { any_number(rng) };
+                table[cell + 2..cell + 10].copy_from_slice(&x.to_le_bytes());
+            }
+            3 => table[cell + rng.below(10) as usize] ^= 1 << rng.below(8),
+            _ => table[cell + rng.below(10) as usize] = rng.word() as u8,
+        }
+    }
+    table
+}
+
+/// The index changed in a place, or in its length.
+pub fn damaged_index(rng: &mut Rng, index: &[u8]) -> Vec<u8> {
+    if rng.percent(35) || index.is_empty() {
+        return other_length(rng, index, 4);
+    }
+    let mut index = index.to_vec();
+    for _ in 0..rng.between(1, 3) {
+        let place = rng.below(index.len() as u64) as usize;
+        index[place] ^= 1 << rng.below(8);
+    }
+    index
+}
+
+/// The bytes cut or lengthened: by one byte, by one record, to nothing.
+pub fn other_length(rng: &mut Rng, bytes: &[u8], record: usize) -> Vec<u8> {
+    let mut bytes = bytes.to_vec();
+    let length = match rng.below(5) {
+        0 => bytes.len() + 1,
+        1 => bytes.len() + record,
+        2 => bytes.len().saturating_sub(1),
+        3 => bytes.len().saturating_sub(record),
+        _ => 0,
+    };
+    bytes.resize(length, 0);
+    bytes
+}

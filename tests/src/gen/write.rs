@@ -1,0 +1,66 @@
+//! Items and fields as bytes.
+
+use crate::model::sheet::EDITION;
+
+/// An item to be written.
+#[derive(Clone, Debug)]
+pub enum Spec {
+    Entry(Vec<u8>),
+    Figure { rule: u8, keep: u8, spread: u8, parents: Vec<u16>, name: Vec<u8> },
+}
+
+pub fn spec_figure(rule: u8, keep: u8, spread: u8, parents: &[u16]) -> Spec {
+    Spec::Figure { rule, keep, spread, parents: parents.to_vec(), name: b"F".to_vec() }
+}
+
+/// A field to be written; its length byte may be made to lie.
+#[derive(Clone, Debug)]
+pub struct Raw {
+    pub tag: u8,
+    pub content: Vec<u8>,
+    pub length: Option<u16>,
+}
+
+pub fn raw(tag: u8, content: Vec<u8>) -> Raw {
+    Raw { tag, content, length: None }
+}
+
+pub fn raw_sheet(specs: &[Spec]) -> Vec<Raw> {
+    let mut head = EDITION.to_le_bytes().to_vec();
+    head.extend((specs.len() as u16).to_le_bytes());
+    let mut fields = vec![raw(1, head)];
+    for spec in specs {
+        fields.push(match spec {
+            Spec::Entry(name) => raw(2, name.clone()),
+            Spec::Figure { rule, keep, spread, parents, name } => {
+                let mut content = vec![*rule, *keep, *spread, parents.len() as u8];
+                content.extend(parents.iter().flat_map(|p| p.to_le_bytes()));
+                content.extend(name);
+                raw(3, content)
+            }
+        });
+    }
+    fields.push(raw(4, vec![]));
+    fields
+}
+
+pub fn write_raw(fields: &[Raw]) -> Vec<u8> {
+    let mut bytes = Vec::new();
+    for field in fields {
+        bytes.push(field.tag);
+        bytes.extend(field.length.unwrap_or(field.content.len() as u16).to_le_bytes());
+        bytes.extend(&field.content);
+    }
+    bytes
+}
+
+pub fn write_sheet(specs: &[Spec]) -> Vec<u8> {
+    write_raw(&raw_sheet(specs))
+}
+
+/// Entry 0 and a chain of sums above it, each of the item before, keep and spread 0.
+pub fn plain_chain(levels: u16) -> Vec<u8> {
+    let mut specs = vec![Spec::Entry(b"A".to_vec())];
+    specs.extend((0..levels).map(|p| spec_figure(1, 0, 0, &[p])));
+    write_sheet(&specs)
+}

@@ -1,0 +1,185 @@
+//! Whole days, by their printed bytes.
+
+use super::compare::hex;
+use super::tally::Tally;
+use crate::engine::DayProgram;
+use crate::gen::{self, Shape};
+use crate::model::calls::Call;
+use crate::model::day::{run_day, MOST};
+use crate::model::sheet::{read_sheet, EXAMPLE};
+use crate::rng::Rng;
+use std::path::{Path, PathBuf};
+use std::process::Command;
+
+/// The day program as a binary, run in a folder of its own.
+pub struct DayBinary {
+    binary: PathBuf,
+    folder: PathBuf,
+}
+
+impl DayBinary {
+    pub fn new(binary: &Path) -> Result<Self, String> {
+        let binary = binary.canonicalize().map_err(|e| format!("{}: {e}", binary.display()))?;
+        let folder = std::env::temp_dir().join(format!("rozhinal-day-{}", std::process::id()));
+        std::fs::create_dir_all(&folder).map_err(|e| format!("{}: {e}", folder.display()))?;
+        Ok(DayBinary { binary, folder })
+    }
+
+    fn put(&self, name: &str, bytes: Option<&[u8]>) -> Result<(), String> {
+        let path = self.folder.join(name);
+        let done = match bytes {
+            Some(bytes) => std::fs::write(&path, bytes),
+            None if path.exists() => std::fs::remove_file(&path),
+            None => Ok(()),
+        };
+        done.map_err(|e| format!("{}: {e}", path.display()))
+    }
+}
+
+impl DayProgram for DayBinary {
+    fn run(&mut self, sheet: Option<&[u8]>, day: Option<&[u8]>) -> Result<Vec<u8>, String> {
+        self.put("sheet.bin", sheet)?;
+        self.put("day.bin", day)?;
+        let run = Command::new(&self.binary).current_dir(&self.folder).output();
+        let output = run.map_err(|e| format!("{}: {e}", self.binary.display()))?;
+        match output.status.code() {
+            Some(_) => Ok(output.stdout),
+            None => Err(format!("the day program was ended by a signal: {}", output.status)),
+        }
+    }
+}
+
+impl Drop for DayBinary {
+    fn drop(&mut self) {
+        // The folder holds nothing but the two files.
+        let _ = std::fs::remove_dir_all(&self.folder);
+    }
+}
+
+/// One random day, compared.
+pub fn compare_random_day(
+    program: &mut dyn DayProgram,
+    rng: &mut Rng,
+    tally: &mut Tally,
+) -> Result<(), String> {
+    let (sheet, day) = random_day(rng);
+    // A missing file counts as empty.
+    let no_sheet = sheet.is_empty() && rng.percent(50);
+    let no_day = day.is_empty() && rng.percent(50);
+    compare_day(program, (!no_sheet).then_some(&sheet), (!no_day).then_some(&day), tally)
+}
+
+/// The example day, each shorter one, and each byte of its log changed.
+pub fn compare_fixed_days(program: &mut dyn DayProgram, tally: &mut Tally) -> Result<(), String> {
+    let (sheet, log) = (EXAMPLE.to_vec(), example_log());
+    if run_day(&sheet, &log) != EXAMPLE_OUTPUT.as_bytes() {
+        return Err("the model does not print the example's output".to_string());
+    }
+    for present in
+        [(None, None), (Some(&sheet), None), (None, Some(&log)), (Some(&sheet), Some(&log))]
+    {
+        compare_day(program, present.0, present.1, tally)?;
+    }
+    for length in 0..log.len() {
+        compare_day(program, Some(&sheet), Some(&log[..length].to_vec()), tally)?;
+    }
+    for length in 0..sheet.len() {
+        compare_day(program, Some(&sheet[..length].to_vec()), Some(&log), tally)?;
+    }
+    for at in 0..log.len() {
+        for byte in [0, 1, 2, 3, 4, 12, 15, 16, 18, 20, 21, 255] {
+            let mut changed = log.clone();
+            changed[at] = byte;
+            compare_day(program, Some(&sheet), Some(&changed), tally)?;
+        }
+    }
+    // Logs that end at the limit of a file, with a whole field or within one.
+    for more in 0..6 {
+        let mut long = log[..14].repeat(4);
+        long.extend([17, 2, 0, 4, 0].repeat((MOST - long.len()) / 5));
+        long.extend(&log[..more]);
+        compare_day(program, Some(&sheet), Some(&long), tally)?;
+        compare_day(program, Some(&sheet), Some(&long[more..].to_vec()), tally)?;
+    }
+    Ok(())
+}
+
+/// The example day of the paper.
+pub fn example_log() -> Vec<u8> {
+    let post = |item, number| Call::Post { item, kind: 3, number };
+    let ask = |item| Call::Ask { item };
+    let calls = [
+        post(0, 1000),
+        post(1, 300),
+        ask(4),
+        post(2, -200),
+        ask(4),
+        Call::Drop { item: 0 },
+        ask(9),
+    ];
+    calls.iter().flat_map(gen::day_field).collect()
+}
+
+const EXAMPLE_OUTPUT: &str = "OK\nOK\nASK 4 700\nOK\nASK 4 500\nNO 12\nNO 11\n";
+
+/// One day on both sides; a file may be missing.
+fn compare_day(
+    program: &mut dyn DayProgram,
+    sheet: Option<&Vec<u8>>,
+    day: Option<&Vec<u8>>,
+    tally: &mut Tally,
+) -> Result<(), String> {
+    let bytes = |file: Option<&Vec<u8>>| file.cloned().unwrap_or_default();
+    let right = run_day(&bytes(sheet), &bytes(day));
+    let given = program.run(sheet.map(|s| &s[..]), day.map(|d| &d[..]));
+    tally.days += 1;
+    let lines = right.split_inclusive(|&b| b == b'\n');
+    for line in lines {
+        tally.day_lines += 1;
+        tally.sheet_lines += line.starts_with(b"SHEET") as u64;
+        tally.fault_lines += line.starts_with(b"DAY") as u64;
+    }
+    let trouble = match given {
+        Ok(given) if given == right => return Ok(()),
+        Ok(given) => String::from_utf8_lossy(&given).into_owned(),
+        Err(trouble) => trouble,
+    };
+    let dump = |file: Option<&Vec<u8>>| file.map_or("missing".to_string(), |bytes| hex(bytes));
+    Err(format!(
+        "day\n  sheet.bin {}\n  day.bin {}\nmodel prints\n{}\nday program prints\n{trouble}",
+        dump(sheet),
+        dump(day),
+        String::from_utf8_lossy(&right)
+    ))
+}
+
+fn random_day(rng: &mut Rng) -> (Vec<u8>, Vec<u8>) {
+    let shape = gen::shape(rng);
+    let specs = gen::sheet(rng, shape);
+    let mut sheet = gen::write_sheet(&specs);
+    let items = read_sheet(&sheet).unwrap();
+    let calls = match (shape, rng.below(100)) {
+        (Shape::Wide, _) => rng.below(12),
+        (_, 0) => MOST as u64 / 6,
+        (_, 1..=9) => rng.below(500),
+        _ => rng.below(50),
+    };
+    let mut day = gen::day_log(rng, &items, calls as usize);
+    match rng.below(100) {
+        0..=24 => day = gen::damaged(rng, &day),
+        25..=34 => sheet = gen::damaged_sheet(rng, &specs),
+        35..=39 => sheet = gen::bad_sheet(rng),
+        40 => sheet.resize(MOST + rng.below(10) as usize - 5, 4),
+        41 => day.resize(MOST + rng.below(10) as usize - 5, 0),
+        42 => sheet.clear(),
+        43..=44 => day.clear(),
+        45 => {
+            // Asks up to the limit of the file, and a little past it.
+            sheet = EXAMPLE.to_vec();
+            let fields = MOST / 5 + rng.below(4) as usize;
+            day = [17, 2, 0, 4, 0].repeat(fields);
+        }
+        _ => {}
+    }
+    (sheet, day)
+}

@@ -1,0 +1,252 @@
+//! Comparisons that are the same in every run: each byte of the example changed to each value,
+//! each length, the limits from both sides, and the ledgers that go stale.
+
+use super::compare::{Act, Comparison, Lent};
+use super::lists::{plain_call, Office};
+use crate::gen::{plain_chain, spec_figure, write_sheet, Spec};
+use crate::model::calls::Call;
+use crate::model::printer::SCRATCH;
+use crate::model::sheet::{index_of, read_sheet, EXAMPLE, MAX_ITEMS, MAX_LEVEL};
+use crate::model::value::LIMIT;
+
+pub fn run_fixed(c: &mut Comparison) -> Result<(), String> {
+    printer(c)?;
+    sheet_bytes(c)?;
+    index_and_table_bytes(c)?;
+    lengths(c)?;
+    limits(c)?;
+    long_fields(c)?;
+    stale_ledgers(c)
+}
+
+fn post(item: u64, number: i64) -> Call {
+    Call::Post { item, kind: 3, number }
+}
+
+/// The five calls, each accepted on the example after `busy_example`.
+const CALLS: [Call; 5] = [
+    Call::Post { item: 1, kind: 1, number: 0 },
+    Call::Keep { item: 4 },
+    Call::Drop { item: 3 },
+    Call::Step { item: 0 },
+    Call::Ask { item: 4 },
+];
+
+/// The example with values, a stored figure and marks.
+fn busy_example(c: &mut Comparison) -> Result<Lent, String> {
+    let mut lent = Lent { sheet: EXAMPLE.to_vec(), index: vec![9; 20], table: vec![9; 50] };
+    c.act(&Act::Open { full: false }, &mut lent)?;
+    for call in [post(0, 1_000), post(1, -300), Call::Keep { item: 3 }] {
+        c.act(&Act::Give(call), &mut lent)?;
+    }
+    Ok(lent)
+}
+
+fn printer(c: &mut Comparison) -> Result<(), String> {
+    let mut numbers = vec![0, LIMIT, LIMIT + 1, -LIMIT, -LIMIT - 1, i64::MAX, i64::MIN];
+    for exponent in 0..=18 {
+        let power = 10i64.pow(exponent);
+        for near in [power - 1, power, power + 1, 2 * power - 1] {
+            numbers.extend([near, -near]);
+        }
+    }
+    for number in numbers {
+        for kind in [0, 1, 2, 3, 4, 257, 259, u64::MAX] {
+            for length in [0, SCRATCH - 1, SCRATCH, SCRATCH + 1] {
+                c.print(kind, number, &vec![b'?'; length])?;
+            }
+        }
+    }
+    Ok(())
+}
+
+/// Each byte of the example sheet as each value, and each shorter sheet.
+fn sheet_bytes(c: &mut Comparison) -> Result<(), String> {
+    let busy = busy_example(c)?;
+    let mut turn = 0;
+    let mut both = |c: &mut Comparison, sheet: Vec<u8>| -> Result<(), String> {
+        turn += 1;
+        c.act(
+            &Act::Open { full: turn % 2 == 0 },
+            &mut Lent { sheet: sheet.clone(), ..busy.clone() },
+        )?;
+        c.act(&Act::Give(CALLS[turn % 5]), &mut Lent { sheet, ..busy.clone() })?;
+        Ok(())
+    };
+    for at in 0..EXAMPLE.len() {
+        for byte in 0..=255 {
+            let mut sheet = EXAMPLE.to_vec();
+            sheet[at] = byte;
+            both(c, sheet)?;
+        }
+    }
+    for length in 0..EXAMPLE.len() {
+        both(c, EXAMPLE[..length].to_vec())?;
+    }
+    Ok(())
+}
+
+/// Each byte of index and table as each value.
+fn index_and_table_bytes(c: &mut Comparison) -> Result<(), String> {
+    let busy = busy_example(c)?;
+    for byte in 0..=255 {
+        for at in 0..busy.index.len() {
+            let mut lent = busy.clone();
+            lent.index[at] = byte;
+            c.act(&Act::Give(CALLS[(at + byte as usize) % 5]), &mut lent)?;
+        }
+        for at in 0..busy.table.len() {
+            let mut lent = busy.clone();
+            lent.table[at] = byte;
+            c.act(&Act::Give(CALLS[(at / 10 + byte as usize) % 5]), &mut lent)?;
+        }
+    }
+    Ok(())
+}
+
+/// Indexes and tables of each length up to twice the right one.
+fn lengths(c: &mut Comparison) -> Result<(), String> {
+    let busy = busy_example(c)?;
+    let mut acts: Vec<Act> = CALLS.iter().map(|&call| Act::Give(call)).collect();
+    acts.extend([Act::Open { full: false }, Act::Open { full: true }]);
+    for act in &acts {
+        for length in 0..=100 {
+            let mut lent = busy.clone();
+            lent.table.resize(length, 0);
+            c.act(act, &mut lent)?;
+            lent = busy.clone();
+            lent.index.resize(length, 0);
+            c.act(act, &mut lent)?;
+        }
+    }
+    Ok(())
+}
+
+/// Opens a sheet, with index and table of the right length for so many items.
+fn opened(
+    c: &mut Comparison,
+    sheet: Vec<u8>,
+    items: usize,
+    full: bool,
+) -> Result<(Lent, u64), String> {
+    let mut lent = Lent { sheet, index: vec![9; 4 * items], table: vec![9; 10 * items] };
+    let number = c.act(&Act::Open { full }, &mut lent)?.number;
+    Ok((lent, number))
+}
+
+fn expect(what: &str, given: u64, right: u64) -> Result<(), String> {
+    match given == right {
+        true => Ok(()),
+        false => Err(format!("{what}: both sides give {given}, and the paper {right}")),
+    }
+}
+
+fn limits(c: &mut Comparison) -> Result<(), String> {
+    // A chain and a tower of sixteenfold parents, at the highest level and one above it.
+    for levels in [MAX_LEVEL, MAX_LEVEL + 1] {
+        let right = if levels > MAX_LEVEL { 7 } else { 0 };
+        let mut tower = vec![Spec::Entry(b"A".to_vec())];
+        tower.extend((0..levels).map(|p| spec_figure(4, 0, 1, &[p as u16; 16])));
+        for (full, sheet) in [(false, plain_chain(levels as u16)), (true, write_sheet(&tower))] {
+            let (mut lent, number) = opened(c, sheet, levels + 1, full)?;
+            expect("levels", number, right)?;
+            for call in [
+                post(0, LIMIT),
+                Call::Keep { item: 40 },
+                Call::Ask { item: 64 },
+                Call::Keep { item: 64 },
+                post(0, -1),
+                Call::Step { item: 0 },
+                Call::Ask { item: 64 },
+            ] {
+                c.act(&Act::Give(call), &mut lent)?;
+            }
+        }
+    }
+    // The most items, as long as they can be, and one more.
+    for count in [MAX_ITEMS, MAX_ITEMS + 1] {
+        let mut specs = vec![Spec::Entry(vec![b'~'; 16])];
+        for i in 1..count {
+            let parents = vec![(i.min(MAX_LEVEL) - 1) as u16; 16];
+            let (keep, spread) = ((i % 2) as u8, (i % 3) as u8);
+            specs.push(Spec::Figure { rule: 3, keep, spread, parents, name: vec![b'!'; 16] });
+        }
+        let (mut lent, number) = opened(c, write_sheet(&specs), count, true)?;
+        expect("item count", number, if count > MAX_ITEMS { 4 } else { 0 })?;
+        let last = MAX_ITEMS as u64 - 1;
+        for call in [post(0, 5), Call::Ask { item: last }, Call::Ask { item: last + 1 }] {
+            c.act(&Act::Give(call), &mut lent)?;
+        }
+    }
+    // The range, from both sides.
+    let (lent, _) = opened(c, EXAMPLE.to_vec(), 5, false)?;
+    for (number, right) in [(LIMIT, 0), (LIMIT + 1, 13), (-LIMIT, 0), (-LIMIT - 1, 13)] {
+        let given = c.act(&Act::Give(post(0, number)), &mut lent.clone())?;
+        expect("range of a post", given.number, right)?;
+        let mut table = lent.clone();
+        table.table[0] = 3;
+        table.table[2..10].copy_from_slice(&number.to_le_bytes());
+        let given = c.act(&Act::Give(Call::Ask { item: 0 }), &mut table)?;
+        expect("range of a table", given.number, if right == 0 { 0 } else { 10 })?;
+    }
+    Ok(())
+}
+
+/// Fields and sheets longer than any that is accepted.
+fn long_fields(c: &mut Comparison) -> Result<(), String> {
+    let (busy, _) = opened(c, EXAMPLE.to_vec(), 5, false)?;
+    for more in [1, 3, 65_536, 70_000] {
+        let mut sheet = EXAMPLE.to_vec();
+        sheet.resize(EXAMPLE.len() + more, 4);
+        c.act(&Act::Give(Call::Ask { item: 0 }), &mut Lent { sheet, ..busy.clone() })?;
+    }
+    for place in [0, 7, 19, 43] {
+        for length in [65_535usize, 32_768, 256] {
+            let mut sheet = EXAMPLE[..place + 1].to_vec();
+            sheet.extend((length as u16).to_le_bytes());
+            for content in [length - 1, length, length + 1] {
+                sheet.resize(place + 3 + content, b'A');
+                c.act(
+                    &Act::Open { full: false },
+                    &mut Lent { sheet: sheet.clone(), ..busy.clone() },
+                )?;
+            }
+        }
+    }
+    Ok(())
+}
+
+/// A list on a sheet from both openings, with what its last call must read.
+fn ledger(c: &mut Comparison, specs: &[Spec], calls: &[Call], last: i64) -> Result<(), String> {
+    let sheet = write_sheet(specs);
+    let items = read_sheet(&sheet).unwrap();
+    for full in [false, true] {
+        let (mut lent, _) = opened(c, sheet.clone(), items.len(), full)?;
+        let mut office = Some(Office::new(&items));
+        let mut value = None;
+        for call in calls {
+            value = Some(plain_call(c, *call, &mut lent, &mut office)?.value);
+        }
+        if value != Some(last) || lent.index != index_of(&items) {
+            return Err(format!("{calls:?} ends with {value:?}, not {last}"));
+        }
+    }
+    Ok(())
+}
+
+fn stale_ledgers(c: &mut Comparison) -> Result<(), String> {
+    let entry = || Spec::Entry(b"A".to_vec());
+    let (keep, step, ask) =
+        (|item| Call::Keep { item }, |item| Call::Step { item }, |item| Call::Ask { item });
+    let chain = [entry(), spec_figure(1, 0, 0, &[0]), spec_figure(1, 0, 0, &[1])];
+    ledger(c, &chain, &[post(0, 1), keep(2), post(0, 6), step(0), keep(1), ask(2)], 6)?;
+    let told = [entry(), spec_figure(1, 1, 0, &[0]), spec_figure(1, 0, 1, &[1])];
+    let drop = |item| Call::Drop { item };
+    let calls =
+        [post(0, 3), ask(2), keep(2), post(0, 4), step(0), drop(1), post(0, 5), step(1), ask(2)];
+    ledger(c, &told, &calls, 5)?;
+    let null = [entry(), entry(), spec_figure(1, 1, 2, &[0, 1]), spec_figure(7, 0, 0, &[2])];
+    ledger(c, &null, &[keep(2), keep(3), post(1, 7), step(1), drop(3), ask(3)], 1)?;
+    let share = [entry(), entry(), spec_figure(5, 1, 1, &[0, 1]), spec_figure(1, 1, 1, &[0, 0, 2])];
+    ledger(c, &share, &[post(0, -1), post(1, 5_000), ask(2), ask(3), ask(2)], -1)
+}

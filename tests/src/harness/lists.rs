@@ -1,0 +1,322 @@
+//! Lists of calls, from an opening or from any accepted table.
+
+use super::compare::{Act, Comparison, Lent};
+use crate::gen::{self, Numbers, Shape};
+use crate::model::calls::{Call, Reply};
+use crate::model::fresh::FreshOffice;
+use crate::model::sheet::{index_of, read_sheet, Item};
+use crate::model::table::to_pair;
+use crate::rng::Rng;
+
+/// One list of calls, compared after every call.
+pub fn run_list(c: &mut Comparison) -> Result<(), String> {
+    let (shape, numbers) = (gen::shape(&mut c.rng), gen::choose_numbers(&mut c.rng));
+    let specs = gen::sheet(&mut c.rng, shape);
+    let sheet = gen::write_sheet(&specs);
+    let items = read_sheet(&sheet).unwrap();
+    c.tally.lists += 1;
+    let mut lent = Lent { sheet, index: vec![], table: vec![] };
+    let mut office = None;
+    if c.rng.percent(20) {
+        c.tally.lists_from_tables += 1;
+        lent.index = index_of(&items);
+        lent.table = gen::accepted_table(&mut c.rng, &items);
+    } else {
+        lent.index = c.rng.bytes(4 * items.len());
+        lent.table = c.rng.bytes(10 * items.len());
+        office = Some(open(c, &items, &mut lent)?);
+    }
+    for _ in 0..list_length(&mut c.rng, shape) {
+        match c.rng.below(1000) {
+            0..=119 => changed_call(c, &specs, &items, &mut lent, &mut office)?,
+            120..=124 => office = Some(open(c, &items, &mut lent)?),
+            125..=149 => random_print(c)?,
+            150..=299 if office.is_none() => {
+                lent.table = gen::accepted_table(&mut c.rng, &items);
+            }
+            _ => {
+                let call = gen::any_call(&mut c.rng, &items, &lent.table, numbers);
+                plain_call(c, call, &mut lent, &mut office)?;
+            }
+        }
+    }
+    Ok(())
+}
+
+fn list_length(rng: &mut Rng, shape: Shape) -> u64 {
+    match shape {
+        Shape::Small | Shape::Medium => rng.between(5, 60),
+        Shape::Deep => rng.between(5, 25),
+        Shape::Wide => rng.between(2, 8),
+    }
+}
+
+/// An accepted opening. The fresh office and what must stay stored begin anew.
+pub fn open<'i>(
+    c: &mut Comparison,
+    items: &'i [Item],
+    lent: &mut Lent,
+) -> Result<Office<'i>, String> {
+    let full = c.rng.percent(50);
+    let reply = c.act(&Act::Open { full }, lent)?;
+    if reply.number != 0 {
+        return Err(format!("an opening is refused: {reply:?}"));
+    }
+    Ok(Office::new(items))
+}
+
+/// A call with the lent bytes as they are; an ask is printed too.
+pub fn plain_call(
+    c: &mut Comparison,
+    call: Call,
+    lent: &mut Lent,
+    office: &mut Option<Office>,
+) -> Result<Reply, String> {
+    let before = lent.table.clone();
+    let reply = c.act(&Act::Give(call), lent)?;
+    if let Some(office) = office {
+        office.judge(c, &call, &reply, &before, &lent.table)?;
+    }
+    if let (Call::Ask { .. }, 0) = (call, reply.number) {
+        let length = c.rng.between(20, 26) as usize;
+        let scratch = c.rng.bytes(length);
+        c.print(reply.kind, reply.value, &scratch)?;
+    }
+    Ok(reply)
+}
+
+/// A call or opening on changed bytes. Afterwards the list goes on with the bytes before it,
+/// unless only the table was changed and the call was accepted.
+fn changed_call(
+    c: &mut Comparison,
+    specs: &[gen::Spec],
+    items: &[Item],
+    lent: &mut Lent,
+    office: &mut Option<Office>,
+) -> Result<(), String> {
+    let mut changed = lent.clone();
+    let what = c.rng.between(1, 7);
+    if what & 1 != 0 {
+        changed.table = gen::damaged_table(&mut c.rng, &lent.table);
+    }
+    if what & 2 != 0 {
+        changed.index = gen::damaged_index(&mut c.rng, &lent.index);
+    }
+    if what & 4 != 0 {
+        changed.sheet = match c.rng.below(3) {
+            0 => gen::bad_sheet(&mut c.rng),
+            1 => gen::damaged_sheet(&mut c.rng, specs),
+            _ => gen::damaged(&mut c.rng, &lent.sheet),
+        };
+        if let (Ok(others), true) = (read_sheet(&changed.sheet), c.rng.percent(50)) {
+            // Another sheet with its own index: the table may fit it.
+            changed.index = index_of(&others);
+            changed.table.resize(10 * others.len(), 0);
+        }
+    }
+    let act = if c.rng.percent(20) {
+        Act::Open { full: c.rng.percent(50) }
+    } else {
+        Act::Give(gen::any_call(&mut c.rng, items, &lent.table, Numbers::Any))
+    };
+    let reply = c.act(&act, &mut changed)?;
+    let only_table = what == 1 && matches!(act, Act::Give(_));
+    if only_table && reply.number == 0 && changed.table != lent.table {
+        *lent = changed;
+        *office = None;
+    }
+    Ok(())
+}
+
+/// The printer on anything.
+fn random_print(c: &mut Comparison) -> Result<(), String> {
+    let rng = &mut c.rng;
+    let kind = match rng.below(10) {
+        0 => 1,
+        1 => 2,
+        2 => *rng.pick(&[0, 4, 257, 258, 259, (1 << 32) + 3, u64::MAX]),
+        _ => 3,
+    };
+    let number = match rng.below(10) {
+        0 | 1 => gen::beyond(rng),
+        _ if kind != 3 && rng.percent(70) => 0,
+        _ => gen::number(rng, Numbers::Any),
+    };
+    let length = *rng.pick(&[0, 1, 13, 18, 19, 20, 20, 20, 21, 24, 100]);
+    let scratch = rng.bytes(length);
+    c.print(kind, number, &scratch)
+}
+
+/// What is known of a list since its opening, beside the model's table.
+pub struct Office<'i> {
+    items: &'i [Item],
+    pub fresh: FreshOffice<'i>,
+    /// Figures that must be stored: those stored when last no mark stood, but for those that an
+    /// entry posted since leads to, and those dropped since.
+    stays: Vec<bool>,
+}
+
+impl<'i> Office<'i> {
+    pub fn new(items: &'i [Item]) -> Self {
+        Office { items, fresh: FreshOffice::new(items), stays: vec![false; items.len()] }
+    }
+
+    fn judge(
+        &mut self,
+        c: &mut Comparison,
+        call: &Call,
+        reply: &Reply,
+        before: &[u8],
+        after: &[u8],
+    ) -> Result<(), String> {
+        let stored = |table: &[u8]| -> Vec<bool> { table.chunks(10).map(|t| t[0] != 0).collect() };
+        if before.chunks(10).all(|t| t[1] == 0) {
+            self.stays = stored(before);
+        }
+        self.fresh.feed(call);
+        match *call {
+            Call::Post { item, .. } if reply.number == 0 => {
+                for (i, led) in led_to(self.items, item as usize).iter().enumerate() {
+                    self.stays[i] &= !led;
+                }
+            }
+            Call::Drop { item } if reply.number == 0 => self.stays[item as usize] = false,
+            Call::Ask { item } => {
+                c.tally.judged += 1;
+                let right = self.fresh.asked(item).map(to_pair);
+                let given = (reply.number == 0).then_some((reply.kind as u8, reply.value));
+                if given != right {
+                    return Err(format!("{call:?} gives {reply:?}, the fresh office {right:?}"));
+                }
+                if after.chunks(10).any(|t| t[1] != 0) && reply.number == 0 {
+                    return Err(format!("a mark stands after {call:?}"));
+                }
+            }
+            _ => {}
+        }
+        let now = stored(after);
+        match (0..self.items.len()).find(|&i| self.stays[i] && !now[i]) {
+            Some(i) => Err(format!("after {call:?} figure {i} is no longer stored")),
+            None => Ok(()),
+        }
+    }
+}
+
+/// The figures that an entry leads to.
+fn led_to(items: &[Item], entry: usize) -> Vec<bool> {
+    let mut led = vec![false; items.len()];
+    for (i, item) in items.iter().enumerate() {
+        let parents = item.figure.iter().flat_map(|f| &f.parents);
+        led[i] = parents.into_iter().any(|&p| p == entry || led[p]);
+    }
+    led
+}
+
+#[cfg(test)]
+mod tests {
+    use super::*;
+    use crate::engine::Engine;
+    use crate::guarded::Guarded;
+    use crate::mock::{Mock, Wrong};
+    use crate::model::table::{decode, from_pair};
+    use crate::model::value::Value;
+
+    /// Every cause from 8 to 14 of a call on an accepted sheet, each tested as far as it goes.
+    fn all_causes(call: &Call, items: &[Item], index: &[u8], table: &[u8]) -> Vec<usize> {
+        let n = items.len();
+        let item = match *call {
+            Call::Post { item, .. } | Call::Keep { item } | Call::Drop { item } => item,
+            Call::Step { item } | Call::Ask { item } => item,
+        };
+        let long = (index.len() == 4 * n, table.len() == 10 * n);
+        let figure = items.get(item as usize).map(|i| i.figure.is_some());
+        let marked = table.get(10 * (item as usize % 4096) + 1).is_some_and(|&m| m != 0);
+        let tests = [
+            (8, long != (true, true)),
+            (9, long.0 && index != index_of(items)),
+            (10, long.1 && decode(items, table).is_none()),
+            (11, item >= n as u64),
+            (
+                12,
+                match call {
+                    Call::Post { .. } => figure == Some(true),
+                    Call::Keep { .. } | Call::Drop { .. } => figure == Some(false),
+                    _ => false,
+                },
+            ),
+            (
+                13,
+                match *call {
+                    Call::Post { kind, number, .. } => {
+                        matches!(from_pair(kind, number), None | Some(Value::Out))
+                    }
+                    _ => false,
+                },
+            ),
+            (14, matches!(call, Call::Step { .. }) && item < n as u64 && long.1 && !marked),
+        ];
+        tests.iter().filter(|t| t.1).map(|t| t.0).collect()
+    }
+
+    /// Counts the pairs of causes that one call has, the lowest first.
+    struct Recorder {
+        met: [[u64; 16]; 16],
+    }
+
+    impl Engine for Recorder {
+        fn open(
+            &mut self,
+            full: bool,
+            sheet: &mut Guarded,
+            index: &mut Guarded,
+            table: &mut Guarded,
+        ) -> Reply {
+            Mock(Wrong::Nothing).open(full, sheet, index, table)
+        }
+
+        fn call(
+            &mut self,
+            call: &Call,
+            sheet: &mut Guarded,
+            index: &mut Guarded,
+            table: &mut Guarded,
+        ) -> Reply {
+            let items = read_sheet(sheet.bytes());
+            let causes = match &items {
+                Ok(items) => all_causes(call, items, index.bytes(), table.bytes()),
+                Err(_) => vec![],
+            };
+            let reply = Mock(Wrong::Nothing).call(call, sheet, index, table);
+            if items.is_ok() {
+                assert_eq!(reply.number, causes.first().map_or(0, |&n| n as u64));
+            }
+            causes.iter().for_each(|&b| self.met[reply.number as usize][b] += 1);
+            reply
+        }
+
+        fn print(&mut self, kind: u64, number: i64, scratch: &mut Guarded) -> i64 {
+            Mock(Wrong::Nothing).print(kind, number, scratch)
+        }
+    }
+
+    /// Calls with two causes are met, so that the order of the numbers is compared.
+    #[test]
+    fn pairs_of_causes_are_met() {
+        let mut recorder = Recorder { met: [[0; 16]; 16] };
+        for list in 0..1_500 {
+            let mut c = Comparison::new(&mut recorder, Rng::part(7, list));
+            run_list(&mut c).unwrap();
+        }
+        for low in 8..=11 {
+            for high in low + 1..=14 {
+                // An item of n or more is neither entry nor figure, and has no mark.
+                if low == 11 && high != 13 {
+                    continue;
+                }
+                let met = recorder.met[low][high];
+                assert!(met >= 3, "{low} with {high}: {met}");
+            }
+        }
+        assert!(recorder.met[12][13] >= 3);
+    }
+}

@@ -1,0 +1,297 @@
+//! A stand-in for the engine, to try the comparison itself: the model's reader with another
+//! machine, which fills cells from a whole solution and catches up in one ascending sweep.
+//! It can be made wrong in one respect.
+
+use crate::engine::{DayProgram, Engine};
+use crate::guarded::Guarded;
+use crate::model::calls::{self, Call, Reply};
+use crate::model::day::run_day;
+use crate::model::printer;
+use crate::model::sheet::{read_sheet, Item, Spread};
+use crate::model::table::{decode, encode, to_pair, Cell, Mark};
+use crate::model::value::{apply, in_range, Value, WHOLE};
+
+#[derive(Clone, Copy, PartialEq, Eq, Debug)]
+pub enum Wrong {
+    Nothing,
+    RoundsTowardZero,
+    TestsRangeAtEachAddition,
+    ClearsMarkBeforeTelling,
+    WorksOutStoredNull,
+    KeepLosesNotice,
+    DeferIgnoresNotice,
+    RenewClearsNotice,
+    StepGoesOnToTelling,
+    AskLooksUpFirst,
+    PostAlwaysMarks,
+    Says14BeforeTheTable,
+    CutsItemTo32Bits,
+    RefusedOpeningWrites,
+    AskChangesSheet,
+    WritesPastTheTable,
+    PrinterClearsTheRest,
+    PrinterSays15First,
+}
+
+pub struct Mock(pub Wrong);
+
+struct Sweep<'a> {
+    items: &'a [Item],
+    cells: Vec<Cell>,
+    wrong: Wrong,
+}
+
+impl Sweep<'_> {
+    fn rule(&self, rule: u8, parents: &[Value]) -> Value {
+        let numbers: Vec<i128> = parents
+            .iter()
+            .filter_map(|v| if let Value::Number(x) = v { Some(*x as i128) } else { None })
+            .collect();
+        let right = apply(rule, parents);
+        match (self.wrong, rule) {
+            (Wrong::RoundsTowardZero, 5) if matches!(right, Value::Number(_)) => {
+                Value::Number((numbers[0] * numbers[1] / WHOLE as i128) as i64)
+            }
+            (Wrong::TestsRangeAtEachAddition, 1) => {
+                let mut sum = 0;
+                for x in numbers {
+                    sum += x;
+                    if !in_range(sum) {
+                        return Value::Out;
+                    }
+                }
+                right
+            }
+            _ => right,
+        }
+    }
+
+    fn unstored(&self, i: usize) -> bool {
+        let null = self.wrong == Wrong::WorksOutStoredNull
+            && self.items[i].figure.is_some()
+            && self.cells[i] == Cell { stored: Some(Value::Null), mark: Mark::None };
+        null || self.cells[i].stored.is_none()
+    }
+
+    /// What a look-up of each item up to one of them gives.
+    fn all(&self, last: usize) -> Vec<(Value, bool)> {
+        let mut given: Vec<(Value, bool)> = Vec::new();
+        for i in 0..=last {
+            let notice = self.cells[i].mark == Mark::Notice;
+            given.push(if self.unstored(i) {
+                let (value, flagged) = self.by_parents(i, &given);
+                (value, flagged || notice)
+            } else {
+                (self.cells[i].stored.unwrap(), notice)
+            });
+        }
+        given
+    }
+
+    fn by_parents(&self, i: usize, given: &[(Value, bool)]) -> (Value, bool) {
+        let figure = self.items[i].figure.as_ref().unwrap();
+        let values: Vec<Value> = figure.parents.iter().map(|&p| given[p].0).collect();
+        (self.rule(figure.rule, &values), figure.parents.iter().any(|&p| given[p].1))
+    }
+
+    /// Stores each unstored figure with keep 1 that a look-up of these items reaches.
+    fn fill(&mut self, from: &[usize], given: &[(Value, bool)]) {
+        let mut reached = vec![false; given.len()];
+        from.iter().for_each(|&i| reached[i] = true);
+        for i in (0..given.len()).rev() {
+            if !reached[i] || !self.unstored(i) {
+                continue;
+            }
+            let figure = self.items[i].figure.as_ref().unwrap();
+            figure.parents.iter().for_each(|&p| reached[p] = true);
+            if figure.keep {
+                self.store(i, given[i]);
+            }
+        }
+    }
+
+    fn store(&mut self, i: usize, (value, flagged): (Value, bool)) {
+        self.cells[i].stored = Some(value);
+        if flagged && self.wrong != Wrong::KeepLosesNotice {
+            self.cells[i].mark = Mark::Notice;
+        }
+    }
+
+    fn look_up(&mut self, i: usize) -> (Value, bool) {
+        let given = self.all(i);
+        self.fill(&[i], &given);
+        given[i]
+    }
+
+    fn work_out(&mut self, i: usize) -> Value {
+        let parents = &self.items[i].figure.as_ref().unwrap().parents;
+        let given = self.all(*parents.iter().max().unwrap());
+        self.fill(parents, &given);
+        self.by_parents(i, &given).0
+    }
+
+    fn step(&mut self, i: usize) {
+        if self.cells[i].mark == Mark::Refresh {
+            let value = self.work_out(i);
+            if self.cells[i].stored == Some(value) {
+                self.cells[i].mark = Mark::None;
+                return;
+            }
+            self.cells[i] = Cell { stored: Some(value), mark: Mark::Notice };
+            if self.wrong != Wrong::StepGoesOnToTelling {
+                return;
+            }
+        }
+        if self.wrong == Wrong::ClearsMarkBeforeTelling {
+            self.cells[i].mark = Mark::None;
+        }
+        for child in i + 1..self.items.len() {
+            let figure = self.items[child].figure.as_ref();
+            if figure.is_some_and(|f| f.parents.contains(&i)) {
+                self.tell(child, figure.unwrap().spread);
+            }
+        }
+        if self.wrong != Wrong::ClearsMarkBeforeTelling {
+            self.cells[i].mark = Mark::None;
+        }
+    }
+
+    fn tell(&mut self, child: usize, spread: Spread) {
+        let Cell { stored, mark } = self.cells[child];
+        let defers = mark != Mark::Notice || self.wrong == Wrong::DeferIgnoresNotice;
+        if stored.is_none() || spread == Spread::Forget {
+            self.cells[child] = Cell { stored: None, mark: Mark::Notice };
+        } else if spread == Spread::Defer && defers {
+            self.cells[child].mark = Mark::Refresh;
+        } else {
+            let value = self.work_out(child);
+            if stored != Some(value) {
+                self.cells[child] = Cell { stored: Some(value), mark: Mark::Notice };
+            } else if mark == Mark::Refresh || self.wrong == Wrong::RenewClearsNotice {
+                self.cells[child].mark = Mark::None;
+            }
+        }
+    }
+
+    fn sweep(&mut self) {
+        for i in 0..self.items.len() {
+            while self.cells[i].mark != Mark::None {
+                self.step(i);
+            }
+        }
+    }
+
+    fn give(&mut self, call: &Call) -> Reply {
+        let accepted = Reply { number: 0, offset: 0, kind: 0, value: 0 };
+        match *call {
+            Call::Post { item, kind, number } => {
+                let cell = &mut self.cells[item as usize];
+                let value = if kind == 1 { Value::Null } else { Value::Number(number) };
+                if cell.stored != Some(value) || self.wrong == Wrong::PostAlwaysMarks {
+                    *cell = Cell { stored: Some(value), mark: Mark::Notice };
+                }
+            }
+            Call::Keep { item } => {
+                let i = item as usize;
+                if self.cells[i].stored.is_none() {
+                    let given = self.look_up(i);
+                    self.store(i, given);
+                }
+            }
+            Call::Drop { item } => {
+                let cell = &mut self.cells[item as usize];
+                cell.stored = None;
+                cell.mark = if cell.mark == Mark::None { Mark::None } else { Mark::Notice };
+            }
+            Call::Step { item } => self.step(item as usize),
+            Call::Ask { item } => {
+                let early = self.wrong == Wrong::AskLooksUpFirst;
+                let first = if early { Some(self.look_up(item as usize)) } else { None };
+                self.sweep();
+                let last = self.look_up(item as usize);
+                let (kind, value) = to_pair(first.unwrap_or(last).0);
+                return Reply { kind: kind as u64, value, ..accepted };
+            }
+        }
+        accepted
+    }
+}
+
+/// The call with its item cut to its low 32 bits.
+fn cut_item(call: &Call) -> Call {
+    let cut = |item: u64| item & 0xFFFF_FFFF;
+    match *call {
+        Call::Post { item, kind, number } => Call::Post { item: cut(item), kind, number },
+        Call::Keep { item } => Call::Keep { item: cut(item) },
+        Call::Drop { item } => Call::Drop { item: cut(item) },
+        Call::Step { item } => Call::Step { item: cut(item) },
+        Call::Ask { item } => Call::Ask { item: cut(item) },
+    }
+}
+
+impl Engine for Mock {
+    fn open(
+        &mut self,
+        full: bool,
+        sheet: &mut Guarded,
+        index: &mut Guarded,
+        table: &mut Guarded,
+    ) -> Reply {
+        let reply = calls::open(full, sheet.bytes(), index.bytes_mut(), table.bytes_mut());
+        if reply.number != 0 && self.0 == Wrong::RefusedOpeningWrites {
+            index.bytes_mut().fill(0);
+        }
+        reply
+    }
+
+    fn call(
+        &mut self,
+        call: &Call,
+        sheet: &mut Guarded,
+        index: &mut Guarded,
+        table: &mut Guarded,
+    ) -> Reply {
+        let wrong = self.0;
+        let call = &if wrong == Wrong::CutsItemTo32Bits { cut_item(call) } else { *call };
+        // The model is asked only whether the call is refused.
+        let refusal = calls::call(call, sheet.bytes(), index.bytes(), &mut table.bytes().to_vec());
+        if refusal.number == 10 && wrong == Wrong::Says14BeforeTheTable {
+            return match call {
+                Call::Step { .. } => Reply { number: 14, ..refusal },
+                _ => refusal,
+            };
+        }
+        if refusal.number != 0 {
+            return refusal;
+        }
+        let items = read_sheet(sheet.bytes()).unwrap();
+        let cells = decode(&items, table.bytes()).unwrap();
+        let mut machine = Sweep { items: &items, cells, wrong };
+        let reply = machine.give(call);
+        table.bytes_mut().copy_from_slice(&encode(&machine.cells));
+        match (wrong, call) {
+            (Wrong::AskChangesSheet, Call::Ask { .. }) => sheet.bytes_mut()[0] = 9,
+            (Wrong::WritesPastTheTable, Call::Drop { .. }) => table.break_guard(),
+            _ => {}
+        }
+        reply
+    }
+
+    fn print(&mut self, kind: u64, number: i64, scratch: &mut Guarded) -> i64 {
+        let length = scratch.length();
+        if self.0 == Wrong::PrinterSays15First && length < printer::SCRATCH {
+            return -15;
+        }
+        let written = printer::print(kind, number, scratch.bytes_mut());
+        if self.0 == Wrong::PrinterClearsTheRest && written > 0 {
+            scratch.bytes_mut()[written as usize..].fill(0);
+        }
+        written
+    }
+}
+
+impl DayProgram for Mock {
+    fn run(&mut self, sheet: Option<&[u8]>, day: Option<&[u8]>) -> Result<Vec<u8>, String> {
+        Ok(run_day(sheet.unwrap_or(&[]), day.unwrap_or(&[])))
+    }
+}

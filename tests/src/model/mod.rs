@@ -1,0 +1,11 @@
+//! The second implementation: the paper's definitions in plain steps.
+
+pub mod calls;
+pub mod day;
+pub mod field;
+pub mod fresh;
+pub mod machine;
+pub mod printer;
+pub mod sheet;
+pub mod table;
+pub mod value;

@@ -1,0 +1,299 @@
+//! The sheet: its items, or the first field at fault.
+
+use super::field::{field_at, u16_at, Field};
+use super::value::count_fits;
+
+pub const EDITION: u16 = 1;
+pub const MAX_ITEMS: usize = 1_024;
+pub const MAX_LEVEL: usize = 64;
+
+/// A refusal: its number and the offset that goes with it.
+#[derive(Clone, Copy, PartialEq, Eq, Debug)]
+pub struct Fault {
+    pub number: u64,
+    pub offset: u64,
+}
+
+#[derive(Clone, Debug, PartialEq, Eq)]
+pub struct Item {
+    /// Where the item's field begins in the sheet.
+    pub offset: usize,
+    pub name: Vec<u8>,
+    pub level: usize,
+    /// None for an entry.
+    pub figure: Option<Figure>,
+}
+
+#[derive(Clone, Debug, PartialEq, Eq)]
+pub struct Figure {
+    pub rule: u8,
+    pub keep: bool,
+    pub spread: Spread,
+    pub parents: Vec<usize>,
+}
+
+#[derive(Clone, Copy, Debug, PartialEq, Eq)]
+pub enum Spread {
+    Defer,
+    Renew,
+    Forget,
+}
+
+/// The items of a sheet, or the first field at fault with its lowest number.
+pub fn read_sheet(bytes: &[u8]) -> Result<Vec<Item>, Fault> {
+    let head = cut(bytes, 0)?;
+    let count = read_head(&head).map_err(|number| fault(number, 0))?;
+    let mut items: Vec<Item> = Vec::new();
+    let mut offset = head.end();
+    for _ in 0..count {
+        let field = cut(bytes, offset)?;
+        let item = read_item(&field, &items).map_err(|number| fault(number, offset))?;
+        items.push(item);
+        offset = field.end();
+    }
+    let last = cut(bytes, offset)?;
+    if last.tag != 4 {
+        return Err(fault(2, offset));
+    }
+    if !last.content.is_empty() {
+        return Err(fault(3, offset));
+    }
+    if last.end() != bytes.len() {
+        return Err(fault(2, last.end()));
+    }
+    Ok(items)
+}
+
+fn fault(number: u64, offset: usize) -> Fault {
+    Fault { number, offset: offset as u64 }
+}
+
+/// The field at an offset, or refusal 1.
+fn cut(bytes: &[u8], offset: usize) -> Result<Field<'_>, Fault> {
+    field_at(bytes, offset).ok_or(fault(1, offset))
+}
+
+/// The item count.
+fn read_head(field: &Field) -> Result<usize, u64> {
+    if field.tag != 1 {
+        return Err(2);
+    }
+    if field.content.len() != 4 {
+        return Err(3);
+    }
+    let edition = u16_at(field.content, 0);
+    let count = u16_at(field.content, 2) as usize;
+    if edition != EDITION || !(1..=MAX_ITEMS).contains(&count) {
+        return Err(4);
+    }
+    Ok(count)
+}
+
+/// The next item, after those before it.
+fn read_item(field: &Field, before: &[Item]) -> Result<Item, u64> {
+    match field.tag {
+        2 => Ok(Item {
+            offset: field.offset,
+            name: read_name(field.content)?,
+            level: 0,
+            figure: None,
+        }),
+        3 => read_figure(field, before),
+        _ => Err(2),
+    }
+}
+
+fn read_name(bytes: &[u8]) -> Result<Vec<u8>, u64> {
+    let right = (1..=16).contains(&bytes.len()) && bytes.iter().all(|b| (33..=126).contains(b));
+    if right {
+        Ok(bytes.to_vec())
+    } else {
+        Err(3)
+    }
+}
+
+fn read_figure(field: &Field, before: &[Item]) -> Result<Item, u64> {
+    let content = field.content;
+    if content.len() < 4 {
+        return Err(3);
+    }
+    let (rule, keep, spread, count) = (content[0], content[1], content[2], content[3] as usize);
+    if content.len() < 4 + 2 * count {
+        return Err(3);
+    }
+    let name = read_name(&content[4 + 2 * count..])?;
+    if !count_fits(rule, count) || keep > 1 || spread > 2 {
+        return Err(5);
+    }
+    let parents: Vec<usize> = (0..count).map(|k| u16_at(content, 4 + 2 * k) as usize).collect();
+    if parents.iter().any(|&p| p >= before.len()) {
+        return Err(6);
+    }
+    let level = 1 + parents.iter().map(|&p| before[p].level).max().unwrap();
+    if level > MAX_LEVEL {
+        return Err(7);
+    }
+    let spread = [Spread::Defer, Spread::Renew, Spread::Forget][spread as usize];
+    let figure = Figure { rule, keep: keep == 1, spread, parents };
+    Ok(Item { offset: field.offset, name, level, figure: Some(figure) })
+}
+
+/// The index as an opening writes it.
+pub fn index_of(items: &[Item]) -> Vec<u8> {
+    items.iter().flat_map(|item| (item.offset as u32).to_le_bytes()).collect()
+}
+
+/// The example sheet of the paper.
+pub const EXAMPLE: [u8; 46] = [
+    0x01, 0x04, 0x00, 0x01, 0x00, 0x05, 0x00, 0x02, 0x01, 0x00, 0x41, 0x02, 0x01, 0x00, 0x4C, 0x02,
+    0x01, 0x00, 0x53, 0x03, 0x09, 0x00, 0x01, 0x01, 0x00, 0x02, 0x00, 0x00, 0x02, 0x00, 0x54, 0x03,
+    0x09, 0x00, 0x02, 0x00, 0x00, 0x02, 0x03, 0x00, 0x01, 0x00, 0x42, 0x04, 0x00, 0x00,
+];
+
+#[cfg(test)]
+mod tests {
+    use super::*;
+
+    /// A field in bytes.
+    fn field(tag: u8, content: &[u8]) -> Vec<u8> {
+        let mut bytes = vec![tag];
+        bytes.extend((content.len() as u16).to_le_bytes());
+        bytes.extend(content);
+        bytes
+    }
+
+    fn head(edition: u16, count: u16) -> Vec<u8> {
+        let mut content = edition.to_le_bytes().to_vec();
+        content.extend(count.to_le_bytes());
+        field(1, &content)
+    }
+
+    fn entry() -> Vec<u8> {
+        field(2, b"A")
+    }
+
+    fn figure(rule: u8, keep: u8, spread: u8, parents: &[u16], name: &[u8]) -> Vec<u8> {
+        let mut content = vec![rule, keep, spread, parents.len() as u8];
+        content.extend(parents.iter().flat_map(|p| p.to_le_bytes()));
+        content.extend(name);
+        field(3, &content)
+    }
+
+    fn end() -> Vec<u8> {
+        field(4, &[])
+    }
+
+    fn refused(parts: &[Vec<u8>]) -> (u64, u64) {
+        let f = read_sheet(&parts.concat()).unwrap_err();
+        (f.number, f.offset)
+    }
+
+    fn accepted(parts: &[Vec<u8>]) -> Vec<Item> {
+        read_sheet(&parts.concat()).unwrap()
+    }
+
+    #[test]
+    fn the_example() {
+        let items = read_sheet(&EXAMPLE).unwrap();
+        let offsets: Vec<usize> = items.iter().map(|i| i.offset).collect();
+        assert_eq!(offsets, [7, 11, 15, 19, 31]);
+        assert_eq!(items[3].figure.as_ref().unwrap().parents, [0, 2]);
+        assert!(items[3].figure.as_ref().unwrap().keep);
+        assert_eq!(items[4].figure.as_ref().unwrap().parents, [3, 1]);
+        assert_eq!(items[4].level, 2);
+        assert_eq!(index_of(&items)[16..], [31, 0, 0, 0]);
+    }
+
+    #[test]
+    fn every_cut_of_the_example_gives_1() {
+        let starts = [0, 7, 11, 15, 19, 31, 43, 46];
+        for length in 0..EXAMPLE.len() {
+            let f = read_sheet(&EXAMPLE[..length]).unwrap_err();
+            let start = starts.iter().rev().find(|&&s| s <= length).unwrap();
+            assert_eq!((f.number, f.offset), (1, *start as u64), "length {length}");
+        }
+    }
+
+    #[test]
+    fn tags() {
+        assert_eq!(refused(&[field(2, &[1, 0, 1, 0])]), (2, 0));
+        assert_eq!(refused(&[head(1, 1), field(4, &[])]), (2, 7));
+        assert_eq!(refused(&[head(1, 1), field(1, b"A")]), (2, 7));
+        assert_eq!(refused(&[head(1, 1), entry(), entry()]), (2, 11));
+        assert_eq!(refused(&[head(1, 1), entry(), end(), vec![0]]), (2, 14));
+        assert_eq!(refused(&[head(1, 1), entry(), end(), end()]), (2, 14));
+    }
+
+    #[test]
+    fn lengths_and_names() {
+        assert_eq!(refused(&[field(1, &[1, 0, 1])]), (3, 0));
+        assert_eq!(refused(&[field(1, &[1, 0, 1, 0, 0])]), (3, 0));
+        assert_eq!(refused(&[head(1, 1), field(2, b"")]), (3, 7));
+        assert_eq!(refused(&[head(1, 1), field(2, &[65; 17])]), (3, 7));
+        assert_eq!(refused(&[head(1, 1), field(2, &[32])]), (3, 7));
+        assert_eq!(refused(&[head(1, 1), field(2, &[65, 127])]), (3, 7));
+        accepted(&[head(1, 1), field(2, &[33; 16]), end()]);
+        accepted(&[head(1, 1), field(2, &[126]), end()]);
+        assert_eq!(refused(&[head(1, 2), entry(), field(3, &[1, 0, 0])]), (3, 11));
+        assert_eq!(refused(&[head(1, 2), entry(), figure(1, 0, 0, &[0], b"")]), (3, 11));
+        assert_eq!(refused(&[head(1, 2), entry(), figure(1, 0, 0, &[0], &[65; 17])]), (3, 11));
+        assert_eq!(refused(&[head(1, 2), entry(), figure(1, 0, 0, &[0], &[31])]), (3, 11));
+        assert_eq!(refused(&[head(1, 2), entry(), field(3, &[1, 0, 0, 255, 0, 0, 65])]), (3, 11));
+        accepted(&[head(1, 2), entry(), figure(1, 0, 0, &[0], &[65; 16]), end()]);
+        assert_eq!(refused(&[head(1, 1), entry(), field(4, &[0])]), (3, 11));
+    }
+
+    #[test]
+    fn edition_and_count() {
+        assert_eq!(refused(&[head(0, 1)]), (4, 0));
+        assert_eq!(refused(&[head(2, 1)]), (4, 0));
+        assert_eq!(refused(&[head(257, 1)]), (4, 0));
+        assert_eq!(refused(&[head(1, 0)]), (4, 0));
+        let many: Vec<u8> = (0..1025).flat_map(|_| entry()).collect();
+        assert_eq!(refused(&[head(1, 1025), many.clone(), end()]), (4, 0));
+        let fitting = many[4..].to_vec();
+        assert_eq!(accepted(&[head(1, 1024), fitting, end()]).len(), 1024);
+    }
+
+    #[test]
+    fn rule_keep_spread_count() {
+        let bad = |f: Vec<u8>| assert_eq!(refused(&[head(1, 2), entry(), f]), (5, 11));
+        bad(figure(0, 0, 0, &[0], b"F"));
+        bad(figure(9, 0, 0, &[0], b"F"));
+        bad(figure(1, 2, 0, &[0], b"F"));
+        bad(figure(1, 0, 3, &[0], b"F"));
+        bad(figure(1, 0, 0, &[], b"F"));
+        bad(figure(1, 0, 0, &[0; 17], b"F"));
+        bad(figure(2, 0, 0, &[0], b"F"));
+        bad(figure(6, 0, 0, &[0, 0], b"F"));
+        accepted(&[head(1, 2), entry(), figure(1, 1, 2, &[0; 16], b"F"), end()]);
+        accepted(&[head(1, 2), entry(), figure(6, 1, 2, &[0; 3], b"F"), end()]);
+    }
+
+    #[test]
+    fn parents_and_the_lowest_number() {
+        assert_eq!(refused(&[head(1, 2), entry(), figure(1, 0, 0, &[1], b"F")]), (6, 11));
+        assert_eq!(refused(&[head(1, 2), entry(), figure(1, 0, 0, &[256], b"F")]), (6, 11));
+        assert_eq!(refused(&[head(1, 1), figure(1, 0, 0, &[0], b"F")]), (6, 7));
+        // Rule and parent wrong: 5. Name, rule and parent wrong: 3.
+        assert_eq!(refused(&[head(1, 2), entry(), figure(9, 0, 0, &[1], b"F")]), (5, 11));
+        assert_eq!(refused(&[head(1, 2), entry(), figure(9, 0, 0, &[1], b" ")]), (3, 11));
+        // A later field at fault does not count.
+        assert_eq!(refused(&[head(1, 2), figure(1, 0, 0, &[0], b"F"), vec![9]]), (6, 7));
+    }
+
+    /// A chain of figures up to a level.
+    pub fn chain(levels: u16) -> Vec<Vec<u8>> {
+        let mut parts = vec![head(1, levels + 1), entry()];
+        parts.extend((0..levels).map(|p| figure(1, 0, 0, &[p, p], b"F")));
+        parts.push(end());
+        parts
+    }
+
+    #[test]
+    fn levels_64_and_65() {
+        assert_eq!(accepted(&chain(64))[64].level, 64);
+        let offset: usize = chain(65)[..66].iter().map(Vec::len).sum();
+        assert_eq!(refused(&chain(65)), (7, offset as u64));
+    }
+}

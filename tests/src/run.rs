@@ -1,0 +1,181 @@
+//! A whole run: lists of calls, pairs of offices, days.
+
+use crate::engine::{DayProgram, Engine};
+use crate::harness::compare::Comparison;
+use crate::harness::days::{compare_fixed_days, compare_random_day};
+use crate::harness::fixed::run_fixed;
+use crate::harness::lists::run_list;
+use crate::harness::offices::run_offices;
+use crate::harness::tally::Tally;
+use crate::rng::Rng;
+
+pub struct Plan {
+    pub seed: u64,
+    /// Whether the comparisons that are the same in every run come first.
+    pub fixed: bool,
+    /// Lists are run until so many of their calls are compared.
+    pub calls: u64,
+    pub offices: u64,
+    pub days: u64,
+    /// Only this part of the run, as a failure names it.
+    pub only: Option<u64>,
+    /// Print the number of each part before it is run, for an engine that ends the program.
+    pub trace: bool,
+}
+
+/// Each kind of part has its own numbers, so that one part can be run alone.
+const OFFICES: u64 = 1 << 40;
+const DAYS: u64 = 2 << 40;
+const FIXED: u64 = 3 << 40;
+const FIXED_DAYS: u64 = FIXED + 1;
+
+/// Everything compared, or the first difference.
+pub fn run(
+    plan: &Plan,
+    engine: &mut dyn Engine,
+    mut day: Option<&mut dyn DayProgram>,
+) -> Result<Tally, String> {
+    let mut c = Comparison::new(engine, Rng::new(0));
+    if let Some(part) = plan.only {
+        run_part(plan, part, &mut c, &mut day)?;
+        return Ok(c.tally);
+    }
+    if plan.fixed {
+        run_part(plan, FIXED, &mut c, &mut day)?;
+    }
+    for pair in 0..plan.offices {
+        run_part(plan, OFFICES + pair, &mut c, &mut day)?;
+    }
+    let (mut list, others) = (0, c.tally.calls());
+    while c.tally.calls() < others + plan.calls {
+        run_part(plan, list, &mut c, &mut day)?;
+        list += 1;
+    }
+    if day.is_some() {
+        if plan.fixed {
+            run_part(plan, FIXED_DAYS, &mut c, &mut day)?;
+        }
+        for number in 0..plan.days {
+            run_part(plan, DAYS + number, &mut c, &mut day)?;
+        }
+    }
+    match c.tally.never_met() {
+        missing if missing.is_empty() => Ok(c.tally),
+        missing => Err(format!("never given: {}\n{}", missing.join(", "), c.tally)),
+    }
+}
+
+fn run_part(
+    plan: &Plan,
+    part: u64,
+    c: &mut Comparison,
+    day: &mut Option<&mut dyn DayProgram>,
+) -> Result<(), String> {
+    let seed = plan.seed;
+    if plan.trace {
+        println!("part {part}");
+    }
+    c.rng = Rng::part(seed, part);
+    let result = match (part, day) {
+        (FIXED, _) => run_fixed(c),
+        (FIXED_DAYS, Some(program)) => compare_fixed_days(*program, &mut c.tally),
+        (DAYS.., Some(program)) => compare_random_day(*program, &mut c.rng, &mut c.tally),
+        (DAYS.., None) => Err("no day program is given".to_string()),
+        (OFFICES.., _) => run_offices(c),
+        _ => run_list(c),
+    };
+    let calls = c.tally.calls();
+    result.map_err(|e| format!("{e}\nafter {calls} calls; alone: --seed {seed} --part {part}"))
+}
+
+#[cfg(test)]
+mod tests {
+    use super::*;
+    use crate::mock::{Mock, Wrong};
+
+    const SHORT: Plan = Plan {
+        seed: 5,
+        fixed: false,
+        calls: 5_000,
+        offices: 10,
+        days: 0,
+        only: None,
+        trace: false,
+    };
+
+    fn try_mock(plan: &Plan, wrong: Wrong) -> Result<Tally, String> {
+        run(plan, &mut Mock(wrong), Some(&mut Mock(Wrong::Nothing)))
+    }
+
+    #[test]
+    fn the_model_agrees_with_another_machine() {
+        let plan = Plan { fixed: true, calls: 15_000, offices: 100, days: 60, ..SHORT };
+        let tally = try_mock(&plan, Wrong::Nothing).unwrap();
+        assert!(tally.calls() >= 50_000);
+        assert!(tally.lists_from_tables * 6 > tally.lists);
+        assert!(tally.sheet_lines > 0 && tally.fault_lines > 0);
+    }
+
+    /// Each wrong engine is found within a few thousand calls.
+    #[test]
+    fn wrong_engines_are_found() {
+        use Wrong::*;
+        for wrong in [
+            RoundsTowardZero,
+            TestsRangeAtEachAddition,
+            ClearsMarkBeforeTelling,
+            WorksOutStoredNull,
+            KeepLosesNotice,
+            DeferIgnoresNotice,
+            RenewClearsNotice,
+            StepGoesOnToTelling,
+            AskLooksUpFirst,
+            PostAlwaysMarks,
+            Says14BeforeTheTable,
+            CutsItemTo32Bits,
+            RefusedOpeningWrites,
+            AskChangesSheet,
+            WritesPastTheTable,
+            PrinterClearsTheRest,
+            PrinterSays15First,
+        ] {
+            let found = try_mock(&SHORT, wrong).err().unwrap_or_default();
+            assert!(found.contains("--seed 5 --part"), "{wrong:?} was not found: {found}");
+            println!("{wrong:?}: {}", found.lines().last().unwrap());
+        }
+    }
+
+    /// The part that a failure names fails alone too.
+    #[test]
+    fn a_part_can_be_run_again() {
+        let found = try_mock(&SHORT, Wrong::DeferIgnoresNotice).unwrap_err();
+        let part = found.rsplit("--part ").next().unwrap().parse().unwrap();
+        let plan = Plan { only: Some(part), ..SHORT };
+        let again = run(&plan, &mut Mock(Wrong::DeferIgnoresNotice), None).unwrap_err();
+        assert_eq!(found.lines().next(), again.lines().next());
+    }
+
+    struct Silent;
+
+    impl DayProgram for Silent {
+        fn run(&mut self, _: Option<&[u8]>, _: Option<&[u8]>) -> Result<Vec<u8>, String> {
+            Ok(vec![])
+        }
+    }
+
+    #[test]
+    fn a_wrong_day_program_is_found() {
+        let plan = Plan { calls: 0, days: 10, ..SHORT };
+        let found = run(&plan, &mut Mock(Wrong::Nothing), Some(&mut Silent)).unwrap_err();
+        assert!(found.contains("--seed 5 --part"), "{found}");
+    }
+
+    #[cfg(engine)]
+    #[test]
+    fn the_linked_engine_agrees() {
+        let plan = Plan { fixed: true, calls: 20_000, offices: 100, ..SHORT };
+        if let Err(difference) = run(&plan, &mut crate::ffi::Linked, None) {
+            panic!("{difference}");
+        }
+    }
+}
