@@ -14,7 +14,8 @@ use Rattle.circuit.specs.Calls.{Call, Test, test, firstCause, tests, Outcome, e
 use Rattle.sheet.specs.Layout.{machineSheet}
 use Rattle.sheet.specs.Read.{Placed, SheetRead, opens, refused, readSheet, layoutOf}
 use Rattle.sheet.specs.Index.{indexWidth, indexBytes}
-use Rattle.table.specs.Table.{width, encodeTable, decodeTable, tableForm}
+use Rattle.table.specs.Record.{width}
+use Rattle.table.specs.Bytes.{encodeTable, decodeTable, tableForm}
 
 -- What a call gives: its number and offset, the kind and the number of an accepted ask's value (0 and 0 otherwise), and the
 -- index and the table afterwards.
@@ -45,8 +46,8 @@ accepted v x t = record { number = 0; offset = 0; kind = kindRead v; value = num
 unfoldable pub sameBytes : List ℕ → List ℕ → Bool
 sameBytes [] [] = true
 sameBytes [] (b ∷ bs) = false
-sameBytes (a ∷ as) [] = false
-sameBytes (a ∷ as) (b ∷ bs) = eqb a b && sameBytes as bs
+sameBytes (a ∷ rest) [] = false
+sameBytes (a ∷ rest) (b ∷ bs) = eqb a b && sameBytes rest bs
 
 -- 8: index not 4n bytes, or table not 10n
 abbrev pub lengthsWrong : List Placed → List ℕ → List ℕ → Bool
