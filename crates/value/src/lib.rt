@@ -7,7 +7,7 @@ ghost use lib.IntN.{pos, _-ℤ_, _*ℤ_};
 ghost use lib.Signed.{leZ};
 ghost use Rattle.circuit.specs.Value as circuit;
 ghost use Rattle.circuit.specs.Rules as rules;
-ghost use Rattle.circuit.proofs.RuleLaws.{allWellFormed};
+ghost use Rattle.circuit.specs.WellFormed.{allWellFormed};
 ghost use Rattle.value.specs.Meaning.{meaning, partsOf, partsMeaning, operationMeaning, valueAt, firstValues, allows, Applied};
 ghost use Rattle.value.specs.Tally.{Room, empty, counted, taken, takenAll};
 
