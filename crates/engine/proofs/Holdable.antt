@@ -36,7 +36,7 @@ all-formed w (p ∷ ps) h = and-true _ _ (h p (inl refl)) (all-formed w ps (λ q
 -- the value of an allowed cell is well formed
 allowed-formed : (f : Bool) (c : Cell) → mayHold f c ≡ true → wellFormed (valueIn c) ≡ true
 allowed-formed true c e = e
-allowed-formed false c e = and-right _ _ e
+allowed-formed false c e = and-right (entryForm c && not (isOut (valueIn c))) (wellFormed (valueIn c)) e
 
 -- a figure may hold any well-formed value
 figure-holds : (f : Bool) (v : Value) (m : Mark) → f ≡ true → wellFormed v ≡ true → mayHold f (held v m) ≡ true
@@ -52,7 +52,11 @@ figure-unk false b e = cc
 remark : (f : Bool) (v : Value) (m n : Mark) → entryForm (held v n) ≡ true → mayHold f (held v m) ≡ true → mayHold f (held v n) ≡ true
 remark true v m n e h = h
 remark false v m n e h =
-    and-true _ _ (and-true _ _ e (and-right _ _ (and-left _ _ h))) (and-right _ _ h)
+    let stored : (entryForm (held v m) && not (isOut v)) ≡ true
+    = and-left (entryForm (held v m) && not (isOut v)) (wellFormed v) h in
+    and-true (entryForm (held v n) && not (isOut v)) (wellFormed v)
+    (and-true (entryForm (held v n)) (not (isOut v)) e (and-right (entryForm (held v m)) (not (isOut v)) stored))
+    (and-right (entryForm (held v m) && not (isOut v)) (wellFormed v) h)
 
 module _ (S : Sheet) (ordered : Ordered S) where
   -- an update by an allowed cell
@@ -128,9 +132,9 @@ module _ (S : Sheet) (ordered : Ordered S) where
 
   stored-told : (s : Spread) (T : Table) (c : ℕ) (v : Value) (m : Mark) → isFigure (itemAt S c) ≡ true → T c ≡ held v m → Holdable S T → Holdable S (tellStored s S T c v m)
   stored-told defer T c v unmarked k e h =
-      upd-holdable T c _ (λ low. figure-holds _ v refresh k (allowed-formed _ (held v unmarked) (rw e at (h c low)))) h
+      upd-holdable T c _ (λ low. figure-holds _ v refresh k (allowed-formed (isFigure (itemAt S c)) (held v unmarked) (rw e at (h c low)))) h
   stored-told defer T c v refresh k e h =
-      upd-holdable T c _ (λ low. figure-holds _ v refresh k (allowed-formed _ (held v refresh) (rw e at (h c low)))) h
+      upd-holdable T c _ (λ low. figure-holds _ v refresh k (allowed-formed (isFigure (itemAt S c)) (held v refresh) (rw e at (h c low)))) h
   stored-told defer T c v notice k e h = renewed-holdable T c v notice _ k e h
   stored-told renew T c v m k e h = renewed-holdable T c v m _ k e h
   stored-told forget T c v m k e h = upd-holdable T c _ (λ low. figure-unk _ _ k) h
@@ -171,8 +175,8 @@ module _ (S : Sheet) (ordered : Ordered S) where
       unkCleared false a b e = e
 
       go : (c : Cell) → mayHold (isFigure (itemAt S i)) c ≡ true → mayHold (isFigure (itemAt S i)) (clearCell c) ≡ true
-      go (unk f) e = unkCleared _ f false e
-      go (held v m) e = remark _ v m unmarked refl e
+      go (unk f) e = unkCleared (isFigure (itemAt S i)) f false e
+      go (held v m) e = remark (isFigure (itemAt S i)) v m unmarked refl e
 
   -- a refreshed item is a figure
   refreshed-figure : (f : Bool) (v : Value) → mayHold f (held v refresh) ≡ true → f ≡ true
@@ -196,3 +200,74 @@ module _ (S : Sheet) (ordered : Ordered S) where
 
   pub catchUp-holdable : (T : Table) → Holdable S T → Holdable S (catchUp S T)
   catchUp-holdable T h = catchUp-closed S (Holdable S) (λ U i low m g. step-holdable U i low g) T h
+
+-- what a post may store
+posted-holdable : (kind : ℕ) (z : ℤ) (v : Value) → postedValue kind z ≡ some v → (wellFormed v ≡ true) × (isOut v ≡ false)
+unfolding postedValue
+posted-holdable kind z v e = first (eqb kind 1) (sameNumber z (pos 0)) (eqb kind 3) (inRange z) refl e
+  where
+    first : (a b c d : Bool) → inRange z ≡ d → cond a (cond b (some null) none) (cond c (cond d (some (num z)) none) none) ≡ some v → (wellFormed v ≡ true) × (isOut v ≡ false)
+    first true true c d r q = let s : null ≡ v = cc in (ap wellFormed (sym s), ap isOut (sym s))
+    first true false c d r q = let bad : _≡_ {A = ℕ} 0 1 = cc in absurd (omega arith)
+    first false b true true r q = let s : num z ≡ v = cc in (ap wellFormed (sym s) ∙ r, ap isOut (sym s))
+    first false b true false r q = let bad : _≡_ {A = ℕ} 0 1 = cc in absurd (omega arith)
+    first false b false d r q = let bad : _≡_ {A = ℕ} 0 1 = cc in absurd (omega arith)
+
+noted : (f : Bool) (v : Value) → wellFormed v ≡ true → isOut v ≡ false → mayHold f (held v notice) ≡ true
+noted true v w o = w
+noted false v w o = and-true (true && not (isOut v)) (wellFormed v) (ap not o) w
+
+pub post-holdable : (S : Sheet) (T : Table) (i : ℕ) (v : Value) → wellFormed v ≡ true → isOut v ≡ false → Holdable S T → Holdable S (storePosting T i v)
+unfolding storePosting
+post-holdable S T i v w o h = upd-cases (Allowed S) T i (postCell (T i) v) (λ low. go (T i) (h i low)) (λ j n. h j)
+  where
+    go : (c : Cell) → mayHold (isFigure (itemAt S i)) c ≡ true → mayHold (isFigure (itemAt S i)) (postCell c v) ≡ true
+    go (unk f) e = noted (isFigure (itemAt S i)) v w o
+    go (held u m) e = pick (same u v)
+      where
+        pick : (b : Bool) → mayHold (isFigure (itemAt S i)) (cond b (held u m) (held v notice)) ≡ true
+        pick true = e
+        pick false = noted (isFigure (itemAt S i)) v w o
+
+-- every call keeps the cells allowed
+pub perform-holdable : (S : Sheet) → Ordered S → (T : Table) (c : Call) → Holdable S T → Holdable S (perform S T c .table)
+unfolding effect
+perform-holdable S ordered T c h = go (firstCause (tests S T c)) refl
+  where
+    posted : (i : ℕ) (o : Option Value) (kind : ℕ) (z : ℤ) → postedValue kind z ≡ o → Holdable S (postIt T i o)
+    posted i none kind z e = h
+    posted i (some v) kind z e =
+        let p = posted-holdable kind z v e in post-holdable S T i v (p .0) (p .1) h
+
+    done : (c : Call) → firstCause (tests S T c) ≡ 0 → Holdable S (effect S T c .table)
+    done (post i kind z) e = posted i (postedValue kind z) kind z refl
+    done (keep i) e = keep-holdable S ordered T i (keep-passed S T i e .1) h
+    done (drop i) e = drop-holdable S ordered T i (drop-passed S T i e .1) h
+    done (step i) e = step-holdable S ordered T i (step-passed S T i e .0) h
+    done (ask i) e = look-holdable S ordered (catchUp S T) i (catchUp-holdable S ordered T h)
+
+    go : (k : ℕ) → firstCause (tests S T c) ≡ k → Holdable S (perform S T c .table)
+    go zero e = rw (accepted-effect S T c e) (done c e)
+    go (suc k) e = rw (refused-table S T c k e) h
+
+-- so does a list of calls
+pub run-holdable : (S : Sheet) → Ordered S → (cs : List Call) (T : Table) → Holdable S T → Holdable S (run S T cs)
+unfolding run
+run-holdable S ordered [] T h = h
+run-holdable S ordered (c ∷ cs) T h =
+    run-holdable S ordered cs (perform S T c .table) (perform-holdable S ordered T c h)
+
+-- both openings have them
+pub bare-holdable : (S : Sheet) → Holdable S (openBare S)
+bare-holdable S i low = go (itemAt S i)
+  where
+    go : (it : Item) → mayHold (isFigure it) (Rattle.circuit.specs.Table.bareCell it) ≡ true
+    go entry = refl
+    go (figure op k s ps) = refl
+
+pub full-holdable : (S : Sheet) → Holdable S (openFull S)
+full-holdable S i low = go (isFigure (itemAt S i))
+  where
+    go : (f : Bool) → mayHold f (held null unmarked) ≡ true
+    go true = refl
+    go false = refl
