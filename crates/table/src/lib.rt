@@ -1,1 +1,0 @@
-// The work table in bytes: 10 for each item.
