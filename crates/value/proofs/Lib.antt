@@ -1,3 +1,4 @@
 pub mod Signed
 pub mod Tallies
 pub mod Parents
+pub mod Cases

@@ -7,7 +7,7 @@ use Rattle.value.proofs.scaled.Reads as scaled-reads
 
 -- src/lib.rt:446:26
 sub-scaled : tie.Need-sub-scaled
-sub-scaled c = ?
+sub-scaled c = let h = c .if1 .taken in ?
 
 -- src/lib.rt:446:25
 cast-scaled : tie.Need-cast-scaled
@@ -39,7 +39,7 @@ returns c = ?
 
 -- src/lib.rt:449:12
 cast-scaled-3 : tie.Need-cast-scaled-3
-cast-scaled-3 c = ?
+cast-scaled-3 c = let h = c .if1 .left in ?
 
 -- src/lib.rt:449:22
 cast-scaled-4 : tie.Need-cast-scaled-4
