@@ -7,3 +7,6 @@ pub mod Fill
 pub mod Closure
 pub mod Accepted
 pub mod Invariant
+pub mod Tell
+pub mod CatchUp
+pub mod Memo
