@@ -4,6 +4,7 @@ use mathlib.Core.Path.{_≡_, refl, sym, ap, subst, _∙_}
 use mathlib.Core.Bool.{Bool, true, false, cond, not}
 use mathlib.Core.List.{List, [], _∷_}
 use native.Mathlib.Omega.{arith}
+use lib.IntN.{ℤ}
 use borrow.Author.Tests.{leb-false, not-false}
 use Rattle.circuit.specs.Sheet.{Sheet, size, itemAt, isFigure}
 use Rattle.circuit.specs.Table.{Table, isMarked}
@@ -25,6 +26,15 @@ number-cause S T c e = go (firstCause (tests S T c)) e
     go zero e′ = refl
     go (suc k) e′ = e′
 
+-- an accepted call gives number 0
+pub effect-number : (S : Sheet) (T : Table) (c : Call) → effect S T c .number ≡ 0
+unfolding effect
+effect-number S T (post i kind z) = refl
+effect-number S T (keep i) = refl
+effect-number S T (drop i) = refl
+effect-number S T (step i) = refl
+effect-number S T (ask i) = refl
+
 -- a call that met no cause has its effect
 pub accepted-effect : (S : Sheet) (T : Table) (c : Call) → firstCause (tests S T c) ≡ 0 → perform S T c ≡ effect S T c
 unfolding perform
@@ -37,6 +47,12 @@ refused-table S T c k e = ap (λ n. unless n S T c .table) e
 
 abbrev Passed : Sheet → Table → Call → Type 0
 Passed S T c = firstCause (tests S T c) ≡ 0
+
+pub post-passed : (S : Sheet) (T : Table) (i kind : ℕ) (z : ℤ) → Passed S T (post i kind z) → (i < size S) × (isFigure (itemAt S i) ≡ false)
+unfolding tests
+post-passed S T i kind z e =
+    let first = no-cause 10 _ _ e in
+    (leb-false (size S) i (first .0), no-cause 11 _ _ (first .1) .0)
 
 pub keep-passed : (S : Sheet) (T : Table) (i : ℕ) → Passed S T (keep i) → (i < size S) × (isFigure (itemAt S i) ≡ true)
 unfolding tests

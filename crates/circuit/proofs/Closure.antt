@@ -15,14 +15,6 @@ use Rattle.circuit.specs.Sheet.{Sheet, Item, Spread, defer, renew, forge
 use Rattle.circuit.specs.Table.{Table, Cell, Mark, unmarked, refresh, notice, unk, held, upd, noticeIf, isMarked}
 use Rattle.circuit.specs.Machine.{Looked, looked, gather, workOut, lookCell, lookFor, lookUp, work, flagged, storeIf, storeResult, tellChild, tellCell, tellStored, tellIf, tellBelow, tell, clearMark, clearCell, stepItem, stepCell, stepMark, renewed, orNext, lowestMarked, stepLowest, catchUpIn, catchUp}
 
--- a property of the cell at j after a store at i: of the stored cell where j is i, and of the old one elsewhere
-pub upd-elim : (Q : Cell → Type 0) (T : Table) (i j : ℕ) (c : Cell) → (j ≡ i → Q c) → ((j ≡ i → ⊥) → Q (T j)) → Q (upd T i c j)
-upd-elim Q T i j c here there = go (eqb j i) refl
-  where
-    go : (b : Bool) → eqb j i ≡ b → Q (cond b c (T j))
-    go true e = here (eqb-true j i e)
-    go false e = there (eqb-false j i e)
-
 -- a member of the list is listed
 pub member-listed : (i : ℕ) (ps : List ℕ) → member i ps ≡ true → Listed i ps
 unfolding member
@@ -128,60 +120,3 @@ catchUp-closed S P steps T h = within (2 * size S) T h
     within : (fuel : ℕ) (U : Table) → P U → P (catchUpIn fuel S U)
     within zero U hU = hU
     within (suc fuel) U hU = byLowest fuel (λ W hW. within fuel W hW) U hU (lowestMarked U (size S)) refl
-
--- Filling: each cell stays as it is, or was UNK and is stored, without refresh.
-pub data Filling : Cell → Cell → Type 0 where
-  stays : {c : Cell} → Filling c c
-  plain : {b : Bool} {v : Value} → Filling (unk b) (held v unmarked)
-  noticed : {b : Bool} {v : Value} → Filling (unk b) (held v notice)
-
-stored : (b f : Bool) (v : Value) → Filling (unk b) (held v (noticeIf f))
-stored b true v = noticed
-stored b false v = plain
-
-abbrev pub Filled : Table → Table → Type 0
-Filled T U = (j : ℕ) → Filling (T j) (U j)
-
-filling-trans : {a b c : Cell} → Filling a b → Filling b c → Filling a c
-filling-trans stays q = q
-filling-trans plain stays = plain
-filling-trans noticed stays = noticed
-
-pub filled-trans : {T U W : Table} → Filled T U → Filled U W → Filled T W
-filled-trans p q j = filling-trans (p j) (q j)
-
-filled-store : (T U : Table) (i : ℕ) (b f : Bool) (v : Value) → Filled T U → T i ≡ unk b → Filled T (upd U i (held v (noticeIf f)))
-filled-store T U i b f v filled e j =
-    upd-elim (λ c. Filling (T j) c) U i j _ (λ q. subst (λ c. Filling c (held v (noticeIf f))) (sym (ap T q ∙ e)) (stored b f v)) (λ q. filled j)
-
-gather-filled : (look : Table → ℕ → Looked) → ((T : Table) (p : ℕ) → Filled T (look T p .table))
-    → (T : Table) (ps : List ℕ) → Filled T (gather look T ps .table)
-unfolding gather
-gather-filled look fills T [] = λ j. stays
-gather-filled look fills T (p ∷ ps) =
-    filled-trans {U = look T p .table} (fills T p) (gather-filled look fills (look T p .table) ps)
-
-filled-storeIf : (T : Table) (i : ℕ) (f kept : Bool) (r : Looked) → T i ≡ unk f → Filled T (r .table)
-    → Filled T (storeIf kept i (flagged f r) .table)
-filled-storeIf T i f true r e worked = filled-store T (r .table) i f (r .flag || f) (r .value) worked e
-filled-storeIf T i f false r e worked = worked
-
-lookFor-filled : (S : Sheet) (fuel : ℕ) (T : Table) (i : ℕ) → Filled T (lookFor fuel S T i .table)
-unfolding lookFor workOut
-lookFor-filled S zero T i = λ j. stays
-lookFor-filled S (suc fuel) T i =
-    go (T i) refl (gather-filled (lookFor fuel S) (λ U p. lookFor-filled S fuel U p) T (parents S i))
-  where
-    go : (c : Cell) → T i ≡ c → Filled T (workOut (lookFor fuel S) S T i .table)
-        → Filled T (lookCell (lookFor fuel S) S T i c .table)
-    go (held v m) e worked = λ j. stays
-    go (unk f) e worked = filled-storeIf T i f (keptOf (itemAt S i)) (workOut (lookFor fuel S) S T i) e worked
-
--- looking up and working out fill the table
-pub lookUp-filled : (S : Sheet) (T : Table) (i : ℕ) → Filled T (lookUp S T i .table)
-unfolding lookUp
-lookUp-filled S T i = lookFor-filled S (suc i) T i
-
-pub work-filled : (S : Sheet) (T : Table) (i : ℕ) → Filled T (work S T i .table)
-unfolding work workOut
-work-filled S T i = gather-filled (lookUp S) (λ U p. lookUp-filled S U p) T (parents S i)

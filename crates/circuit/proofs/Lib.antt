@@ -10,3 +10,9 @@ pub mod Invariant
 pub mod Tell
 pub mod CatchUp
 pub mod Memo
+pub mod Quiet
+pub mod Entries
+pub mod Offices
+pub mod Steps
+pub mod Retention
+pub mod Demand

@@ -8,3 +8,4 @@ pub mod Calls
 pub mod Fresh
 pub mod Words
 pub mod WellFormed
+pub mod Demand

@@ -1,0 +1,323 @@
+-- What stays stored. After a post to e on a table without marks, and until the next posting, every item that is neither e
+-- nor led to by e carries no mark, and holds the solution's value where it is stored; what was stored there and is not
+-- dropped stays stored. Assumes that the sheet is ordered.
+use Prim.Native.Nat.{ℕ, zero, suc, _<_}
+use mathlib.Core.Path.{_≡_, refl, sym, ap, subst, _∙_}
+use mathlib.Core.Bool.{Bool, true, false, cond, _||_}
+use mathlib.Core.Logic.{_⊎_, inl, inr}
+use mathlib.Core.List.{List, [], _∷_, _++_, map}
+use mathlib.Core.Option.{Option, none, some}
+use native.Mathlib.Omega.{arith}
+use lib.Dec.{eqb}
+use lib.IntN.{ℤ}
+use borrow.Author.Tests.{eqb-false}
+use Rattle.circuit.specs.Value.{Value, null}
+use Rattle.circuit.specs.Circuit.{Circuit, IsSolution, Listed}
+use Rattle.circuit.specs.Sheet.{Sheet, Item, entry, figure, itemAt, isFigure, size, parents, parentsOf, Ordered, Entries, circuitOf, evaluate}
+use Rattle.circuit.specs.Table.{Table, Cell, Mark, unmarked, refresh, notice, unk, held, upd, isStored, valueIn, isMarked, cellForm}
+use Rattle.circuit.specs.Machine.{lookUp, work, keepFigure, dropFigure, dropCell, stepItem, catchUp, storePosting, postCell}
+use Rattle.circuit.specs.Calls.{Call, post, keep, drop, step, ask, postedValue, postIt, postingOf, tests, firstCause, effect, unless, perform, run, made, madeBy, ifAccepted, postings, drops}
+use Rattle.circuit.specs.Demand.{Retained}
+use Rattle.circuit.specs.Words.{Formed, Holds, Quiet, LeadsTo, direct, further, droppedIn}
+use Rattle.circuit.proofs.View.{Seen, seen, view, result, strong, view-at}
+use Rattle.circuit.proofs.Fill.{Filling, stays, fills, Fill, Looks, upd-cases, upd-other, look-right, work-right, keep-fill}
+use Rattle.circuit.proofs.Solution.{map-listed, solution, solution-solves}
+use Rattle.circuit.proofs.Invariant.{Invariant}
+use Rattle.circuit.proofs.Quiet.{result-solved, quiet-stored}
+use Rattle.circuit.proofs.Closure.{Closed, step-closed, catchUp-closed}
+use Rattle.circuit.proofs.Accepted.{effect-number, keep-passed, drop-passed, step-passed, ask-passed}
+
+-- k is neither e nor led to by e
+abbrev pub Outside : Sheet → ℕ → ℕ → Type 0
+Outside S e k = (k ≡ e → ⊥) × (LeadsTo S e k → ⊥)
+
+-- the parents of an item outside are outside
+pub parent-outside : (S : Sheet) (e k p : ℕ) → Outside S e k → Listed p (parents S k) → Outside S e p
+parent-outside S e k p outside l =
+    (λ q. outside .1 (direct (subst (λ x. Listed x (parents S k)) q l)), λ led. outside .1 (further led l))
+
+-- a cell outside: without a mark, and if it is stored it holds v; an entry is stored
+pub data Calm (it : Item) (v : Value) : Cell → Type 0 where
+  away : isFigure it ≡ true → Calm it v (unk false)
+  there : Calm it v (held v unmarked)
+
+-- what a cell outside becomes: it stays, or was UNK and holds v
+data Onward (v : Value) : Cell → Cell → Type 0 where
+  same : {c : Cell} → Onward v c c
+  filled : Onward v (unk false) (held v unmarked)
+
+onward-trans : {v : Value} {a b c : Cell} → Onward v a b → Onward v b c → Onward v a c
+onward-trans same q = q
+onward-trans filled same = filled
+
+calm-onward : {it : Item} {v : Value} {a b : Cell} → Calm it v a → Onward v a b → Calm it v b
+calm-onward c same = c
+calm-onward c filled = there
+
+onward-stored : {v : Value} {a b : Cell} → Onward v a b → isStored a ≡ true → isStored b ≡ true
+onward-stored same h = h
+onward-stored filled h = refl
+
+calm-unmarked : {it : Item} {v : Value} {c : Cell} → Calm it v c → isMarked c ≡ false
+calm-unmarked (away k) = refl
+calm-unmarked there = refl
+
+calm-value : {it : Item} {v : Value} {c : Cell} → Calm it v c → isStored c ≡ true → valueIn c ≡ v
+calm-value (away k) h = let bad : _≡_ {A = ℕ} 0 1 = cc in absurd (omega arith)
+calm-value there h = refl
+
+calm-entry : {it : Item} {v : Value} {c : Cell} → Calm it v c → isFigure it ≡ false → valueIn c ≡ v
+calm-entry (away k) h = let bad : _≡_ {A = ℕ} 0 1 = cc in absurd (omega arith)
+calm-entry there h = refl
+
+-- a cell without a mark that holds v if it is stored
+pub calm-cell : (it : Item) (v : Value) (c : Cell) → isMarked c ≡ false → (isStored c ≡ true → valueIn c ≡ v)
+    → (isFigure it ≡ false → isStored c ≡ true) → Calm it v c
+calm-cell entry v (unk true) m h f = let bad : _≡_ {A = ℕ} 0 1 = cc in absurd (omega arith)
+calm-cell entry v (unk false) m h f = let bad : _≡_ {A = ℕ} 0 1 = cc (f refl) in absurd (omega arith)
+calm-cell (figure op kept spread ps) v (unk true) m h f = let bad : _≡_ {A = ℕ} 0 1 = cc in absurd (omega arith)
+calm-cell (figure op kept spread ps) v (unk false) m h f = away refl
+calm-cell it v (held w unmarked) m h f = rw (h refl) there
+calm-cell it v (held w refresh) m h f = let bad : _≡_ {A = ℕ} 0 1 = cc in absurd (omega arith)
+calm-cell it v (held w notice) m h f = let bad : _≡_ {A = ℕ} 0 1 = cc in absurd (omega arith)
+
+or-false : (a b : Bool) → a || b ≡ false → (a ≡ false) × (b ≡ false)
+or-false true b e = let bad : _≡_ {A = ℕ} 0 1 = cc in absurd (omega arith)
+or-false false b e = (refl, e)
+
+append-nil : {A : Type 0} (xs ys : List A) → xs ++ ys ≡ [] → (xs ≡ []) × (ys ≡ [])
+append-nil [] ys e = (refl, e)
+append-nil (x ∷ xs) ys e = let bad : _≡_ {A = ℕ} 0 1 = cc in absurd (omega arith)
+
+-- two solutions, under entries that agree outside, agree outside
+pub outside-agree : (S : Sheet) (ordered : Ordered S) (e : ℕ) (E D : Entries) (m w : ℕ → Value)
+    → IsSolution (circuitOf S ordered E) m → IsSolution (circuitOf S ordered D) w
+    → ((i : ℕ) → i < size S → isFigure (itemAt S i) ≡ false → Outside S e i → E i ≡ D i)
+    → (k : ℕ) → k < size S → Outside S e k → m k ≡ w k
+outside-agree S ordered e E D m w solvesM solvesW agree =
+    strong (λ k. k < size S → Outside S e k → m k ≡ w k) rise
+  where
+    rise : (k : ℕ) → ((p : ℕ) → p < k → p < size S → Outside S e p → m p ≡ w p) → k < size S → Outside S e k → m k ≡ w k
+    rise k lower low outside = solvesM k ∙ byItem (itemAt S k) refl ∙ sym (solvesW k)
+      where
+        parents-agree : map m (parents S k) ≡ map w (parents S k)
+        parents-agree =
+            map-listed (parents S k)
+            (λ p l. let o : p < k = ordered k p l in lower p o (omega arith) (parent-outside S e k p outside l))
+
+        byItem : (it : Item) → itemAt S k ≡ it → evaluate it (E k) (map m (parents S k)) ≡ evaluate it (D k) (map w (parents S k))
+        byItem entry h = agree k low (rw h) outside
+        byItem (figure op kept spread ps) h = ap (evaluate (figure op kept spread ps) (E k)) parents-agree
+
+module _ (S : Sheet) (ordered : Ordered S) (e : ℕ) (E : Entries) (m : ℕ → Value) (solves : IsSolution (circuitOf S ordered E) m) where
+  -- every cell outside is calm
+  abbrev pub Confined : Table → Type 0
+  Confined T = (k : ℕ) → k < size S → Outside S e k → Calm (itemAt S k) (m k) (T k)
+
+  abbrev Further : Table → Table → Type 0
+  Further T U = (k : ℕ) → k < size S → Outside S e k → Onward (m k) (T k) (U k)
+
+  confined-further : (T U : Table) → Confined T → Further T U → Confined U
+  confined-further T U confined further′ k low outside = calm-onward (confined k low outside) (further′ k low outside)
+
+  further-trans : (T U W : Table) → Further T U → Further U W → Further T W
+  further-trans T U W p q k low outside = onward-trans (p k low outside) (q k low outside)
+
+  -- a look-up of an item outside gives the solution's value, without a flag
+  pub view-outside : (T : Table) → Confined T → (k : ℕ) → k < size S → Outside S e k → view S T k ≡ seen (m k) false
+  view-outside T confined = strong (λ k. k < size S → Outside S e k → view S T k ≡ seen (m k) false) rise
+    where
+      rise : (k : ℕ) → ((p : ℕ) → p < k → p < size S → Outside S e p → view S T p ≡ seen (m p) false) → k < size S → Outside S e k
+          → view S T k ≡ seen (m k) false
+      rise k lower low outside = go (T k) refl (confined k low outside)
+        where
+          known : isFigure (itemAt S k) ≡ true → result S T k ≡ seen (m k) false
+          known fig =
+              result-solved S ordered E m solves T k fig
+              (λ p l. let o : p < k = ordered k p l in lower p o (omega arith) (parent-outside S e k p outside l))
+
+          go : (c : Cell) → T k ≡ c → Calm (itemAt S k) (m k) c → view S T k ≡ seen (m k) false
+          go (unk false) h (away f) =
+              view-at S ordered T k h ∙ ap (λ r. seen (r .value) (r .flag || false)) (known f)
+          go (held v unmarked) h there = view-at S ordered T k h
+
+  fill-further : (T U : Table) → Confined T → Fill S T U → Further T U
+  fill-further T U confined fill k low outside = go (T k) refl (confined k low outside) (fill k)
+    where
+      go : (c : Cell) → T k ≡ c → Calm (itemAt S k) (m k) c → Filling S T k (U k) → Onward (m k) c (U k)
+      go c h calm (stays q) = subst (λ x. Onward (m k) c x) (sym (q ∙ h)) same
+      go (held v unmarked) h there (fills f r u q) = let bad : _≡_ {A = ℕ} 0 1 = cc in absurd (omega arith)
+      go (unk false) h (away r) (fills f r′ u q) = rw (q, view-outside T confined k low outside) filled
+
+  -- stores at items that are not outside
+  further-closed : (T : Table) → Confined T → Closed S (λ i. Outside S e i → ⊥) (Further T)
+  further-closed T confined =
+      record {
+        works = λ U i low far.
+            further-trans T U (work S U i .table) far
+            (fill-further U (work S U i .table) (confined-further T U confined far) (work-right S ordered U i .fill));
+        stores = λ U i c inside far.
+            upd-cases (λ k x. k < size S → Outside S e k → Onward (m k) (T k) x) U i c
+            (λ low outside. absurd (inside outside))
+            (λ k n low outside. far k low outside);
+      }
+
+  step-further : (T : Table) (i : ℕ) → i < size S → isMarked (T i) ≡ true → Confined T → Further T (stepItem S T i)
+  step-further T i low marked confined =
+      step-closed S (λ j. Outside S e j → ⊥) (Further T) (further-closed T confined) i low inside
+      (λ c l outside. inside (parent-outside S e c i outside l)) T (λ k l outside. same)
+    where
+      inside : Outside S e i → ⊥
+      inside outside =
+          let free : isMarked (T i) ≡ false = calm-unmarked (confined i low outside) in
+          let bad : _≡_ {A = ℕ} 0 1 = cc in
+          omega arith
+
+  catchUp-further : (T : Table) → Confined T → Further T (catchUp S T)
+  catchUp-further T confined =
+      catchUp-closed S (Further T)
+      (λ U i low marked far. further-trans T U (stepItem S U i) far (step-further U i low marked (confined-further T U confined far)))
+      T (λ k low outside. same)
+
+  -- what a call leaves outside: calm cells, and what was stored and is not dropped
+  record Left (dropped : ℕ → Bool) (T U : Table) : Type 0 where
+    calm : Confined U
+    stored : (k : ℕ) → k < size S → Outside S e k → dropped k ≡ false → isStored (T k) ≡ true → isStored (U k) ≡ true
+
+  left-further : (dropped : ℕ → Bool) (T U : Table) → Confined T → Further T U → Left dropped T U
+  left-further dropped T U confined far =
+      record {
+        calm = confined-further T U confined far;
+        stored = λ k low outside d h. onward-stored (far k low outside) h;
+      }
+
+  drop-left : (T : Table) (i : ℕ) → isFigure (itemAt S i) ≡ true → Confined T → Left (λ k. eqb k i) T (dropFigure T i)
+  unfolding dropFigure
+  drop-left T i fig confined =
+      record {
+        calm =
+            upd-cases (λ k x. k < size S → Outside S e k → Calm (itemAt S k) (m k) x) T i (dropCell (T i))
+            (λ low outside. go (confined i low outside))
+            (λ k n low outside. confined k low outside);
+        stored =
+            upd-cases (λ k x. k < size S → Outside S e k → eqb k i ≡ false → isStored (T k) ≡ true → isStored x ≡ true) T i (dropCell (T i))
+            (λ low outside d h. absurd (eqb-false i i d refl))
+            (λ k n low outside d h. h);
+      }
+    where
+      go : {c : Cell} → Calm (itemAt S i) (m i) c → Calm (itemAt S i) (m i) (dropCell c)
+      go (away f) = away f
+      go there = away fig
+
+  posted-left : (dropped : ℕ → Bool) (T : Table) (i : ℕ) (o : Option Value) → Confined T → postingOf i o ≡ [] → Left dropped T (postIt T i o)
+  posted-left dropped T i none confined h = left-further dropped T T confined (λ k low outside. same)
+  posted-left dropped T i (some v) confined h = let bad : _≡_ {A = ℕ} 0 1 = cc in absurd (omega arith)
+
+  -- an accepted call that makes no posting
+  accepted-left : (T : Table) (c : Call) → Confined T → firstCause (tests S T c) ≡ 0 → madeBy c ≡ [] → Left (drops c) T (effect S T c .table)
+  unfolding effect
+  accepted-left T (post i kind z) confined h none′ =
+      posted-left (drops (post i kind z)) T i (postedValue kind z) confined none′
+  accepted-left T (keep i) confined h none′ =
+      left-further (drops (keep i)) T (keepFigure S T i) confined
+      (fill-further T (keepFigure S T i) confined (keep-fill S ordered T i (keep-passed S T i h .1)))
+  accepted-left T (drop i) confined h none′ = drop-left T i (drop-passed S T i h .1) confined
+  accepted-left T (step i) confined h none′ =
+      left-further (drops (step i)) T (stepItem S T i) confined
+      (step-further T i (step-passed S T i h .0) (step-passed S T i h .1) confined)
+  accepted-left T (ask i) confined h none′ =
+      let U : Table = catchUp S T in
+      let far : Further T U = catchUp-further T confined in
+      left-further (drops (ask i)) T (lookUp S U i .table) confined
+      (further-trans T U (lookUp S U i .table) far
+      (fill-further U (lookUp S U i .table) (confined-further T U confined far) (look-right S ordered U i .fill)))
+
+  -- a call that makes no posting
+  perform-left : (T : Table) (c : Call) → made S T c ≡ [] → Confined T → Left (drops c) T (perform S T c .table)
+  unfolding made perform
+  perform-left T c none-made confined = go (firstCause (tests S T c)) refl none-made
+    where
+      go : (n : ℕ) → firstCause (tests S T c) ≡ n → ifAccepted (unless n S T c .number) (madeBy c) ≡ []
+          → Left (drops c) T (unless n S T c .table)
+      go zero h none′ = accepted-left T c confined h (rw (effect-number S T c) at none′)
+      go (suc n) h none′ = left-further (drops c) T T confined (λ k low outside. same)
+
+  -- a list of calls that makes no posting
+  run-left : (cs : List Call) (T : Table) → postings S T cs ≡ [] → Confined T → Left (droppedIn cs) T (run S T cs)
+  unfolding postings run droppedIn
+  run-left [] T none-made confined = left-further (droppedIn []) T T confined (λ k low outside. same)
+  run-left (c ∷ cs) T none-made confined =
+      let parts = append-nil (made S T c) (postings S (perform S T c .table) cs) none-made in
+      let first = perform-left T c (parts .0) confined in
+      let rest = run-left cs (perform S T c .table) (parts .1) (first .calm) in
+      record {
+        calm = rest .calm;
+        stored = λ k low outside d h.
+            rest .stored k low outside (or-false (drops c k) (droppedIn cs k) d .1)
+            (first .stored k low outside (or-false (drops c k) (droppedIn cs k) d .0) h);
+      }
+
+stored-entry : (it : Item) (c : Cell) → cellForm it c ≡ true → isFigure it ≡ false → isStored c ≡ true
+stored-entry entry (unk f) h g = let bad : _≡_ {A = ℕ} 0 1 = cc in absurd (omega arith)
+stored-entry (figure op kept spread ps) (unk f) h g = let bad : _≡_ {A = ℕ} 0 1 = cc in absurd (omega arith)
+stored-entry it (held v m) h g = refl
+
+-- a post changes its own cell only
+post-other : (S : Sheet) (T : Table) (e kind : ℕ) (z : ℤ) (k : ℕ) → (k ≡ e → ⊥) → perform S T (post e kind z) .table k ≡ T k
+unfolding perform effect storePosting
+post-other S T e kind z k other = go (firstCause (tests S T (post e kind z)))
+  where
+    stores : (o : Option Value) → postIt T e o k ≡ T k
+    stores none = refl
+    stores (some v) = upd-other T e (postCell (T e) v) k other
+
+    go : (n : ℕ) → unless n S T (post e kind z) .table k ≡ T k
+    go zero = stores (postedValue kind z)
+    go (suc n) = refl
+
+-- What stays stored, on any table that has the invariant and no mark: after an accepted post to e and a list of calls that
+-- makes no posting, of every item that is neither e nor led to by e.
+pub retention : (S : Sheet) (ordered : Ordered S) (T : Table) → Invariant S T → Formed S T → Quiet S T
+    → (e kind : ℕ) (z : ℤ) (cs : List Call) → postings S (perform S T (post e kind z) .table) cs ≡ []
+    → (k : ℕ) → k < size S → Outside S e k
+    → Retained S ordered T cs (run S (perform S T (post e kind z) .table) cs) k
+retention S ordered T invariant formed quiet e kind z cs none-made k low outside =
+    record {
+      stored = λ h d. left .stored k low outside d (rw (post-other S T e kind z k (outside .0)) h);
+      before = λ h D holds w solvesW. value h ∙ agrees D w solvesW (λ i l f o. holds i l f);
+      now = λ h D holds w solvesW. value h ∙ agrees D w solvesW (λ i l f o. held-on i l f o ∙ holds i l f);
+      unchanged = λ g h. value h ∙ sym (was k low g);
+      unmarked = calm-unmarked (left .calm k low outside);
+    }
+  where
+    E : Entries
+    E = λ i. valueIn (T i)
+
+    m : ℕ → Value
+    m = solution (circuitOf S ordered E)
+
+    solves : IsSolution (circuitOf S ordered E) m
+    solves = solution-solves (circuitOf S ordered E)
+
+    was : (i : ℕ) → i < size S → isStored (T i) ≡ true → valueIn (T i) ≡ m i
+    was = quiet-stored S ordered E m solves T invariant formed quiet (λ i l f. refl)
+
+    posted : Confined S ordered e E m solves (perform S T (post e kind z) .table)
+    posted i l o =
+        rw (post-other S T e kind z i (o .0))
+        (calm-cell (itemAt S i) (m i) (T i) (quiet i l) (was i l) (stored-entry (itemAt S i) (T i) (formed i l)))
+
+    left : Left S ordered e E m solves (droppedIn cs) (perform S T (post e kind z) .table) (run S (perform S T (post e kind z) .table) cs)
+    left = run-left S ordered e E m solves cs (perform S T (post e kind z) .table) none-made posted
+
+    value : isStored (run S (perform S T (post e kind z) .table) cs k) ≡ true → valueIn (run S (perform S T (post e kind z) .table) cs k) ≡ m k
+    value h = calm-value (left .calm k low outside) h
+
+    -- an entry other than e holds what it held
+    held-on : (i : ℕ) → i < size S → isFigure (itemAt S i) ≡ false → Outside S e i → E i ≡ valueIn (run S (perform S T (post e kind z) .table) cs i)
+    held-on i l f o =
+        was i l (stored-entry (itemAt S i) (T i) (formed i l) f) ∙ sym (calm-entry (left .calm i l o) f)
+
+    agrees : (D : Entries) (w : ℕ → Value) → IsSolution (circuitOf S ordered D) w
+        → ((i : ℕ) → i < size S → isFigure (itemAt S i) ≡ false → Outside S e i → E i ≡ D i) → m k ≡ w k
+    agrees D w solvesW equal = outside-agree S ordered e E D m w solves solvesW equal k low outside
