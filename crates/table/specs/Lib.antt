@@ -1,0 +1,3 @@
+pub mod Rows
+pub mod Record
+pub mod Bytes

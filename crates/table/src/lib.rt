@@ -1,0 +1,1 @@
+// The work table in bytes: 10 for each item.
