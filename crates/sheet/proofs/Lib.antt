@@ -1,0 +1,3 @@
+pub mod Scan
+pub mod Items
+pub mod Exactly
