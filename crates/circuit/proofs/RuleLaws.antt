@@ -215,12 +215,13 @@ pub total-size : (zs : List ℤ) (z : ℤ) → allInRange zs ≡ true → natAbs
 unfolding total allInRange
 total-size [] z e = omega (arith, zero-mul limit)
 total-size (y ∷ zs) z e =
-    omega
-    (arith,
-    total-size zs (z +ℤ y) (and-right (inRange y) (allInRange zs) e),
-    add-size z y,
-    inRange-size y (and-left (inRange y) (allInRange zs) e),
-    suc-mul (length zs) limit)
+    omega (
+      arith,
+      total-size zs (z +ℤ y) (and-right (inRange y) (allInRange zs) e),
+      add-size z y,
+      inRange-size y (and-left (inRange y) (allInRange zs) e),
+      suc-mul (length zs) limit,
+    )
 
 -- ---- a quotient rounded down
 
@@ -244,6 +245,7 @@ floor-above (negsuc n) d h = go (n / d) refl
     neg : (k : ℕ) → k ≤ n → ltZ (negsuc n) (negℤ (pos k)) ≡ true
     neg zero l = refl
     neg (suc k) l = lt-ltb k n l
+
     go : (q : ℕ) → n / d ≡ q → ltZ (negsuc n) (sucℤ (negsuc q) *ℤ pos d) ≡ true
     go zero e = refl
     go (suc q) e = neg (suc q * d) (omega (arith, div-mul-le-self n d, ap (λ (k : ℕ). k * d) e))

@@ -13,7 +13,7 @@ use Rattle.circuit.specs.Value.{Value, null, out, num, isOut, same, wellFormed,
 use Rattle.circuit.specs.WellFormed.{allWellFormed}
 use Rattle.circuit.specs.Circuit.{Listed}
 use Rattle.circuit.specs.Sheet.{Sheet, Item, entry, figure, Spread, defer, renew, forget, size, itemAt, isFigure, parentsOf, parents, spreadOf, isChild, evaluate, Ordered}
-use Rattle.circuit.specs.Table.{Table, Cell, Mark, unmarked, refresh, notice, unk, held, upd, noticeIf, isMarked, valueIn, entryForm, openBare, openFull}
+use Rattle.circuit.specs.Table.{Table, Cell, Mark, unmarked, refresh, notice, unk, held, upd, noticeIf, isMarked, valueIn, entryForm}
 use Rattle.circuit.specs.Machine.{Looked, lookUp, work, storePosting, postCell, keepFigure, dropFigure, dropCell, renewed, tellChild, tellCell, tellStored, tellIf, tellBelow, tell, clearMark, clearCell, stepItem, stepCell, stepMark, catchUp}
 use Rattle.circuit.specs.Calls.{Call, post, keep, drop, step, ask, postedValue, effect, perform, unless, tests, firstCause, run, postIt}
 use Rattle.circuit.proofs.RuleLaws.{apply-wellFormed, and-true, and-left, and-right}
@@ -23,6 +23,7 @@ use Rattle.circuit.proofs.Closure.{catchUp-closed, member-listed}
 use Rattle.circuit.proofs.Accepted.{accepted-effect, refused-table, keep-passed, drop-passed, step-passed}
 use Rattle.table.specs.Record.{mayHold}
 use Rattle.table.specs.Bytes.{Holdable}
+use Rattle.table.proofs.Records.{holds-wellFormed}
 
 abbrev Allowed : Sheet → ℕ → Cell → Type 0
 Allowed S j c = j < size S → mayHold (isFigure (itemAt S j)) c ≡ true
@@ -32,11 +33,6 @@ all-formed : (w : ℕ → Value) (ps : List ℕ) → ((p : ℕ) → Listed p ps 
 unfolding allWellFormed
 all-formed w [] h = refl
 all-formed w (p ∷ ps) h = and-true _ _ (h p (inl refl)) (all-formed w ps (λ q l. h q (inr l)))
-
--- the value of an allowed cell is well formed
-allowed-formed : (f : Bool) (c : Cell) → mayHold f c ≡ true → wellFormed (valueIn c) ≡ true
-allowed-formed true c e = e
-allowed-formed false c e = and-right (entryForm c && not (isOut (valueIn c))) (wellFormed (valueIn c)) e
 
 -- a figure may hold any well-formed value
 figure-holds : (f : Bool) (v : Value) (m : Mark) → f ≡ true → wellFormed v ≡ true → mayHold f (held v m) ≡ true
@@ -77,7 +73,7 @@ module _ (S : Sheet) (ordered : Ordered S) where
           go : (c : Cell) → T i ≡ c → wellFormed (view S T i .value) ≡ true
           go (held v m) e =
               let a : mayHold (isFigure (itemAt S i)) (held v m) ≡ true = rw e at (h i low) in
-              rw (ap (λ s. s .value) (view-at S ordered T i e)) (allowed-formed (isFigure (itemAt S i)) (held v m) a)
+              rw (ap (λ s. s .value) (view-at S ordered T i e)) (holds-wellFormed (isFigure (itemAt S i)) (held v m) a)
           go (unk f) e =
               rw (ap (λ s. s .value) (view-at S ordered T i e))
               (figure-formed (itemAt S i) _
@@ -127,14 +123,14 @@ module _ (S : Sheet) (ordered : Ordered S) where
     where
       go : i < size S → (b : Bool) → mayHold (isFigure (itemAt S i)) (cond b (held v n) (held (work S T i .value) notice)) ≡ true
       go low true =
-          figure-holds _ v n k (allowed-formed (isFigure (itemAt S i)) (held v m) (rw e at (h i low)))
+          figure-holds _ v n k (holds-wellFormed (isFigure (itemAt S i)) (held v m) (rw e at (h i low)))
       go low false = figure-holds _ _ notice k (work-formed T i low h)
 
   stored-told : (s : Spread) (T : Table) (c : ℕ) (v : Value) (m : Mark) → isFigure (itemAt S c) ≡ true → T c ≡ held v m → Holdable S T → Holdable S (tellStored s S T c v m)
   stored-told defer T c v unmarked k e h =
-      upd-holdable T c _ (λ low. figure-holds _ v refresh k (allowed-formed (isFigure (itemAt S c)) (held v unmarked) (rw e at (h c low)))) h
+      upd-holdable T c _ (λ low. figure-holds _ v refresh k (holds-wellFormed (isFigure (itemAt S c)) (held v unmarked) (rw e at (h c low)))) h
   stored-told defer T c v refresh k e h =
-      upd-holdable T c _ (λ low. figure-holds _ v refresh k (allowed-formed (isFigure (itemAt S c)) (held v refresh) (rw e at (h c low)))) h
+      upd-holdable T c _ (λ low. figure-holds _ v refresh k (holds-wellFormed (isFigure (itemAt S c)) (held v refresh) (rw e at (h c low)))) h
   stored-told defer T c v notice k e h = renewed-holdable T c v notice _ k e h
   stored-told renew T c v m k e h = renewed-holdable T c v m _ k e h
   stored-told forget T c v m k e h = upd-holdable T c _ (λ low. figure-unk _ _ k) h
@@ -256,18 +252,3 @@ unfolding run
 run-holdable S ordered [] T h = h
 run-holdable S ordered (c ∷ cs) T h =
     run-holdable S ordered cs (perform S T c .table) (perform-holdable S ordered T c h)
-
--- both openings have them
-pub bare-holdable : (S : Sheet) → Holdable S (openBare S)
-bare-holdable S i low = go (itemAt S i)
-  where
-    go : (it : Item) → mayHold (isFigure it) (Rattle.circuit.specs.Table.bareCell it) ≡ true
-    go entry = refl
-    go (figure op k s ps) = refl
-
-pub full-holdable : (S : Sheet) → Holdable S (openFull S)
-full-holdable S i low = go (isFigure (itemAt S i))
-  where
-    go : (f : Bool) → mayHold f (held null unmarked) ≡ true
-    go true = refl
-    go false = refl

@@ -1,1 +1,2 @@
 pub mod Holdable
+pub mod Bridge

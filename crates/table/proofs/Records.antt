@@ -77,10 +77,12 @@ parts figure r t =
       kind = kinds (kindIn r) (and-left (leb (kindIn r) 3) (leb (markIn r) 2) both);
       mark = codes (markIn r) (and-right (leb (kindIn r) 3) (leb (markIn r) 2) both);
       may = and-right (leb (kindIn r) 3 && leb (markIn r) 2) (allowed figure (kindIn r) (markIn r)) coded;
-      numeral = and-right (codesForm figure (kindIn r) (markIn r)) (numberForm (kindIn r) (numberIn r)) t }
+      numeral = and-right (codesForm figure (kindIn r) (markIn r)) (numberForm (kindIn r) (numberIn r)) t;
+    }
   where
     coded : codesForm figure (kindIn r) (markIn r) ≡ true
     coded = and-left (codesForm figure (kindIn r) (markIn r)) (numberForm (kindIn r) (numberIn r)) t
+
     both : leb (kindIn r) 3 && leb (markIn r) 2 ≡ true
     both = and-left (leb (kindIn r) 3 && leb (markIn r) 2) (allowed figure (kindIn r) (markIn r)) coded
 

@@ -51,8 +51,10 @@ row-rows w f (suc n) e i h = go (λ lt. row-rows w f n before i lt) (eqb i n) re
   where
     before : (j : ℕ) → j < n → length (f j) ≡ w
     before j hj = e j (omega arith)
+
     len : length (rowsBelow f n) ≡ w * n
     len = length-rows w f n before
+
     go : (i < n → row w (rowsBelow f n) i ≡ f i) → (b : Bool) → eqb i n ≡ b → row w (rowsBelow f n ++ f n) i ≡ f i
     go earlier true t =
         rw (eqb-true i n t, drop-at (rowsBelow f n) (f n) (w * n) len) (take-all w (f n) (omega (arith, e n (omega arith))))
@@ -105,6 +107,7 @@ row-setRow-other w bs i j r e apart =
       where
         less : k < w
         less = omega (arith, length-take w (drop (w * j) (setRow w bs i r)))
+
         go : (b : Bool) → ltb j i ≡ b → getD (row w (setRow w bs i r) j) k 0 ≡ getD (row w bs j) k 0
         go true t =
             let room : w * j + w ≤ w * i = row-before w (ltb-true j i t) in
@@ -117,7 +120,7 @@ row-setRow-other w bs i j r e apart =
 
 -- the rows with r for row i are the list with r stored as row i
 pub rows-setRow : (w : ℕ) (f : ℕ → List ℕ) (n i : ℕ) (r : List ℕ) → ((j : ℕ) → j < n → length (f j) ≡ w) → length r ≡ w → i < n
-  → rowsBelow (λ j. cond (eqb j i) r (f j)) n ≡ setRow w (rowsBelow f n) i r
+    → rowsBelow (λ j. cond (eqb j i) r (f j)) n ≡ setRow w (rowsBelow f n) i r
 rows-setRow w f n i r e len h =
     rows-ext n same ∙ rows-row w (setRow w (rowsBelow f n) i r) n (length-setRow w (rowsBelow f n) i r ∙ length-rows w f n e)
   where

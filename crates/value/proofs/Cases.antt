@@ -86,17 +86,18 @@ count-first t z f e = rw (back z f, eq-eqb (t .count) 0 e)
 
 pub count-next : (t : Tally) (z low high : ℤ) → Room t → circuit.inRange z ≡ true → SFits w64 (t .total) → SFits w64 z → SFits w64 (t .least) → SFits w64 (t .greatest) → SFits w64 low → SFits w64 high → (t .count ≡ 0 → ⊥) → low ≡ rules.lesser (toZ w64 (ofZ w64 (t .least))) (toZ w64 (ofZ w64 z)) → high ≡ rules.greater (toZ w64 (ofZ w64 (t .greatest))) (toZ w64 (ofZ w64 z)) → _≡_ {A = Tally} (record { out = t .out; count = t .count + 1; total = toZ w64 (ofZ w64 (toZ w64 (ofZ w64 (t .total)) +ℤ toZ w64 (ofZ w64 z))); least = toZ w64 (ofZ w64 low); greatest = toZ w64 (ofZ w64 high) }) (counted t z)
 count-next t z low high room e ft fz fl fg flow fhigh h l g =
-    rw
-    (back low flow,
-    back high fhigh,
-    l,
-    g,
-    back (t .total) ft,
-    back (t .least) fl,
-    back (t .greatest) fg,
-    back z fz,
-    back (t .total +ℤ z) (sum-fits (t .total) z (room .total) e),
-    ne-eqb (t .count) 0 h)
+    rw (
+      back low flow,
+      back high fhigh,
+      l,
+      g,
+      back (t .total) ft,
+      back (t .least) fl,
+      back (t .greatest) fg,
+      back z fz,
+      back (t .total +ℤ z) (sum-fits (t .total) z (room .total) e),
+      ne-eqb (t .count) 0 h,
+    )
 
 pub next-fits : (t : Tally) (z : ℤ) → Room t → circuit.inRange z ≡ true → SFits w64 (t .total) → SFits w64 z → SFits w64 (toZ w64 (ofZ w64 (t .total)) +ℤ toZ w64 (ofZ w64 z))
 next-fits t z room e f g = rw (back (t .total) f, back z g) (sum-fits (t .total) z (room .total) e)

@@ -50,17 +50,18 @@ takenAll-total : (vs : List Value) (t : Tally) → allWellFormed vs ≡ true →
 unfolding takenAll allWellFormed
 takenAll-total [] t e = omega (arith, zero-mul limit)
 takenAll-total (v ∷ vs) t e =
-    omega
-    (arith,
-    takenAll-total vs (taken t v) (and-right (wellFormed v) (allWellFormed vs) e),
-    taken-total t v (and-left (wellFormed v) (allWellFormed vs) e),
-    suc-mul (length vs) limit)
+    omega (
+      arith,
+      takenAll-total vs (taken t v) (and-right (wellFormed v) (allWellFormed vs) e),
+      taken-total t v (and-left (wellFormed v) (allWellFormed vs) e),
+      suc-mul (length vs) limit,
+    )
 
 pub room : (vs : List Value) → length vs < 16 → allWellFormed vs ≡ true → Room (takenAll empty vs)
 room vs h e =
     record {
       count = omega (arith, takenAll-count vs empty);
-      total = omega (arith, takenAll-total vs empty e, mul-le-mul-right {m = length vs} {n = 15} limit (omega arith))
+      total = omega (arith, takenAll-total vs empty e, mul-le-mul-right {m = length vs} {n = 15} limit (omega arith));
     }
 
 -- ---- what a tally says
@@ -100,6 +101,7 @@ further (num z ∷ vs) t e = go (further vs next (ne-eqb (t .count + 1) 0 λ q. 
   where
     next : Tally
     next = record { out = t .out; count = t .count + 1; total = t .total +ℤ z; least = lesser (t .least) z; greatest = greater (t .greatest) z }
+
     go : Further next (takenAll next vs) (numbers vs) → Further t (takenAll (counted t z) vs) (z ∷ numbers vs)
     go f = rw e (record { count = omega (arith, f .count); total = f .total; least = f .least; greatest = f .greatest })
 
@@ -117,6 +119,7 @@ fresh (num z ∷ vs) t e = go (further vs first refl)
   where
     first : Tally
     first = record { out = t .out; count = 1; total = z; least = z; greatest = z }
+
     go : Further first (takenAll first vs) (numbers vs) → Fresh (takenAll (counted t z) vs) (z ∷ numbers vs)
     go f = rw e (some z (numbers vs) (omega (arith, f .count)) (f .total) (f .least) (f .greatest))
 
