@@ -1,3 +1,4 @@
 pub mod Scan
 pub mod Items
 pub mod Exactly
+pub mod Index
