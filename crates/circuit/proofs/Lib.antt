@@ -12,6 +12,8 @@ pub mod CatchUp
 pub mod Memo
 pub mod Quiet
 pub mod Entries
+pub mod Reading
+pub mod Sound
 pub mod Offices
 pub mod Steps
 pub mod Retention

@@ -19,11 +19,11 @@ use Rattle.circuit.specs.Machine.{lookUp, work, keepFigure, dropFigure, 
 use Rattle.circuit.specs.Calls.{Call, post, keep, drop, step, ask, postedValue, postIt, postingOf, tests, firstCause, effect, unless, perform, run, made, madeBy, ifAccepted, postings, drops}
 use Rattle.circuit.specs.Demand.{Retained}
 use Rattle.circuit.specs.Words.{Formed, Holds, Quiet, LeadsTo, direct, further, droppedIn}
-use Rattle.circuit.proofs.View.{Seen, seen, view, result, strong, view-at}
+use Rattle.circuit.proofs.View.{Seen, seen, anyFlag, view, result, strong, any-none, view-at}
 use Rattle.circuit.proofs.Fill.{Filling, stays, fills, Fill, Looks, upd-cases, upd-other, look-right, work-right, keep-fill}
 use Rattle.circuit.proofs.Solution.{map-listed, solution, solution-solves}
 use Rattle.circuit.proofs.Invariant.{Invariant}
-use Rattle.circuit.proofs.Quiet.{result-solved, quiet-stored}
+use Rattle.circuit.proofs.Reading.{quiet-exact, exact-solution}
 use Rattle.circuit.proofs.Closure.{Closed, step-closed, catchUp-closed}
 use Rattle.circuit.proofs.Accepted.{effect-number, keep-passed, drop-passed, step-passed, ask-passed}
 
@@ -88,6 +88,25 @@ or-false false b e = (refl, e)
 append-nil : {A : Type 0} (xs ys : List A) → xs ++ ys ≡ [] → (xs ≡ []) × (ys ≡ [])
 append-nil [] ys e = (refl, e)
 append-nil (x ∷ xs) ys e = let bad : _≡_ {A = ℕ} 0 1 = cc in absurd (omega arith)
+
+-- what a figure gives does not depend on what an entry would hold
+evaluate-figure : (it : Item) (u v : Value) (vs : List Value) → isFigure it ≡ true → evaluate it u vs ≡ evaluate it v vs
+evaluate-figure entry u v vs h = let bad : _≡_ {A = ℕ} 0 1 = cc in absurd (omega arith)
+evaluate-figure (figure op kept spread ps) u v vs h = refl
+
+-- a figure whose parents' look-ups are the solution's, without a flag, is worked out to the solution's, without a flag
+result-solved : (S : Sheet) (ordered : Ordered S) (E : Entries) (m : ℕ → Value) → IsSolution (circuitOf S ordered E) m
+    → (T : Table) (k : ℕ) → isFigure (itemAt S k) ≡ true
+    → ((p : ℕ) → Listed p (parents S k) → view S T p ≡ seen (m p) false) → result S T k ≡ seen (m k) false
+result-solved S ordered E m solves T k fig parent =
+    rw (values, flags)
+    (ap (λ v. seen v false) (evaluate-figure (itemAt S k) null (E k) (map m (parents S k)) fig ∙ sym (solves k)))
+  where
+    values : map (λ p. view S T p .value) (parents S k) ≡ map m (parents S k)
+    values = map-listed (parents S k) (λ p l. ap (λ s. s .value) (parent p l))
+
+    flags : anyFlag (view S T) (parents S k) ≡ false
+    flags = any-none (view S T) (parents S k) (λ p l. ap (λ s. s .flag) (parent p l))
 
 -- two solutions, under entries that agree outside, agree outside
 pub outside-agree : (S : Sheet) (ordered : Ordered S) (e : ℕ) (E D : Entries) (m w : ℕ → Value)
@@ -262,6 +281,14 @@ stored-entry entry (unk f) h g = let bad : _≡_ {A = ℕ} 0 1 = cc in absurd (o
 stored-entry (figure op kept spread ps) (unk f) h g = let bad : _≡_ {A = ℕ} 0 1 = cc in absurd (omega arith)
 stored-entry it (held v m) h g = refl
 
+-- what is stored is what a look-up gives
+stored-value : (S : Sheet) → Ordered S → (T : Table) (k : ℕ) → isStored (T k) ≡ true → valueIn (T k) ≡ view S T k .value
+stored-value S ordered T k = go (T k) refl
+  where
+    go : (c : Cell) → T k ≡ c → isStored c ≡ true → valueIn c ≡ view S T k .value
+    go (unk f) h s = let bad : _≡_ {A = ℕ} 0 1 = cc in absurd (omega arith)
+    go (held v m) h s = sym (ap (λ r. r .value) (view-at S ordered T k h))
+
 -- a post changes its own cell only
 post-other : (S : Sheet) (T : Table) (e kind : ℕ) (z : ℤ) (k : ℕ) → (k ≡ e → ⊥) → perform S T (post e kind z) .table k ≡ T k
 unfolding perform effect storePosting
@@ -300,7 +327,9 @@ retention S ordered T invariant formed quiet e kind z cs none-made k low outside
     solves = solution-solves (circuitOf S ordered E)
 
     was : (i : ℕ) → i < size S → isStored (T i) ≡ true → valueIn (T i) ≡ m i
-    was = quiet-stored S ordered E m solves T invariant formed quiet (λ i l f. refl)
+    was i l h =
+        stored-value S ordered T i h
+        ∙ exact-solution S ordered E m solves T formed (λ j b f. refl) (quiet-exact S ordered T invariant quiet) i l
 
     posted : Confined S ordered e E m solves (perform S T (post e kind z) .table)
     posted i l o =

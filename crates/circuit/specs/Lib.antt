@@ -8,4 +8,5 @@ pub mod Calls
 pub mod Fresh
 pub mod Words
 pub mod WellFormed
+pub mod Offices
 pub mod Demand

@@ -1,0 +1,243 @@
+-- Every call keeps a table sound, refused calls included: it has the invariant, it is well formed, and its entries hold
+-- what the fresh office holds that heard the same calls. Both openings are sound. Assumes that the sheet is ordered,
+-- where it says so.
+use Prim.Native.Nat.{ℕ, zero, suc, _<_, _≤_}
+use native.Mathlib.Omega.{arith}
+use mathlib.Core.Path.{_≡_, refl, sym, ap, subst, _∙_}
+use mathlib.Core.Logic.{_⊎_, inl, inr, _≢_}
+use mathlib.Core.Bool.{Bool, true, false, cond, _||_}
+use mathlib.Core.List.{List, [], _∷_, map}
+use mathlib.Core.Option.{Option, none, some}
+use lib.Dec.{eqb}
+use lib.IntN.{ℤ}
+use borrow.Author.Tests.{eqb-true, eqb-false, leb-false}
+use Rattle.circuit.specs.Value.{Value, null, same}
+use Rattle.circuit.specs.Circuit.{Listed}
+use Rattle.circuit.specs.Sheet.{Sheet, Item, entry, figure, size, itemAt, beyond, isFigure, parentsOf, parents, Ordered, Entries}
+use Rattle.circuit.specs.Table.{Table, Cell, Mark, unmarked, refresh, notice, unk, held, upd, valueIn, entryForm, cellForm, bareCell, openBare, openFull}
+use Rattle.circuit.specs.Machine.{lookUp, work, postCell, storePosting, keepFigure, dropFigure, renewed, tell, clearCell, clearMark, stepCell, stepItem, catchUp}
+use Rattle.circuit.specs.Calls.{Call, post, keep, drop, step, ask, Test, test, tests, firstCause, isNone, postedValue, postIt, effect, unless, perform, run}
+use Rattle.circuit.specs.Fresh.{Event, called, blank, setEntry, setIf, hear, hearAll, freshRun}
+use Rattle.circuit.specs.Words.{Formed, Holds}
+use Rattle.circuit.proofs.RuleLaws.{same-true}
+use Rattle.circuit.proofs.Fill.{upd-same, upd-other, upd-cases, Filling, stays, fills, Fill, look-right, work-right, keep-fill}
+use Rattle.circuit.proofs.Invariant.{Invariant, changes-kept, fill-changes, post-changes, drop-changes, bare-invariant, full-invariant}
+use Rattle.circuit.proofs.Tell.{step-kept}
+use Rattle.circuit.proofs.CatchUp.{catchUp-kept}
+use Rattle.circuit.proofs.Closure.{Closed, tell-closed, catchUp-closed}
+use Rattle.circuit.proofs.Accepted.{keep-passed, drop-passed}
+
+-- what every call keeps
+pub record Sound (S : Sheet) (E : Entries) (T : Table) : Type 0 where
+  pub invariant : Invariant S T
+  pub formed : Formed S T
+  pub holds : Holds S T E
+
+-- a well-formed entry stays one, with its value
+abbrev EntryKept : Cell → Cell → Type 0
+EntryKept c d = entryForm c ≡ true → (entryForm d ≡ true) × (valueIn d ≡ valueIn c)
+
+kept-same : (c d : Cell) → d ≡ c → EntryKept c d
+kept-same c d e form = rw e (form, refl)
+
+kept-cleared : (c : Cell) → EntryKept c (clearCell c)
+kept-cleared (unk f) form = (form, refl)
+kept-cleared (held v m) form = (refl, refl)
+
+figure-form : (it : Item) (c : Cell) → isFigure it ≡ true → cellForm it c ≡ true
+figure-form entry c e = let z : _≡_ {A = ℕ} 0 1 = cc in absurd (omega arith)
+figure-form (figure op kept spread ps) c e = refl
+
+entry-form : (it : Item) (c : Cell) → isFigure it ≡ false → cellForm it c ≡ entryForm c
+entry-form entry c e = refl
+entry-form (figure op kept spread ps) c e = let z : _≡_ {A = ℕ} 0 1 = cc in absurd (omega arith)
+
+parent-figure : (it : Item) (p : ℕ) → Listed p (parentsOf it) → isFigure it ≡ true
+parent-figure entry p l = absurd l
+parent-figure (figure op kept spread ps) p l = refl
+
+-- entries that are kept keep the rest
+entries-kept : (S : Sheet) (E : Entries) (T U : Table) → Sound S E T → Invariant S U → ((j : ℕ) → isFigure (itemAt S j) ≡ false → EntryKept (T j) (U j)) → Sound S E U
+entries-kept S E T U sound invariant kept =
+    record { invariant = invariant; formed = formedAt; holds = λ j l e. both j l e .1 ∙ sound .holds j l e }
+  where
+    both : (j : ℕ) → j < size S → isFigure (itemAt S j) ≡ false → (entryForm (U j) ≡ true) × (valueIn (U j) ≡ valueIn (T j))
+    both j l e = kept j e (sym (entry-form (itemAt S j) (T j) e) ∙ sound .formed j l)
+
+    formedAt : Formed S U
+    formedAt j l = go (isFigure (itemAt S j)) refl
+      where
+        go : (b : Bool) → isFigure (itemAt S j) ≡ b → cellForm (itemAt S j) (U j) ≡ true
+        go true e = figure-form (itemAt S j) (U j) e
+        go false e = entry-form (itemAt S j) (U j) e ∙ both j l e .0
+
+-- a fill changes no entry
+fill-entry : (S : Sheet) (T U : Table) → Fill S T U → (j : ℕ) → isFigure (itemAt S j) ≡ false → U j ≡ T j
+fill-entry S T U fill j e = go (fill j)
+  where
+    go : Filling S T j (U j) → U j ≡ T j
+    go (stays q) = q
+    go (fills f k q h) = let z : _≡_ {A = ℕ} 0 1 = cc in absurd (omega arith)
+
+-- a store at a figure changes no entry
+figure-entry : (S : Sheet) (T : Table) (i : ℕ) (c : Cell) → isFigure (itemAt S i) ≡ true → (j : ℕ) → isFigure (itemAt S j) ≡ false → upd T i c j ≡ T j
+figure-entry S T i c k j e = upd-other T i c j differ
+  where
+    differ : j ≡ i → ⊥
+    differ q = let z : _≡_ {A = ℕ} 0 1 = (let r : isFigure (itemAt S i) ≡ false = rw q at e in cc) in omega arith
+
+module _ (S : Sheet) (ordered : Ordered S) (E : Entries) where
+  pub fill-sound : (T U : Table) → Fill S T U → Sound S E T → Sound S E U
+  fill-sound T U fill sound =
+      entries-kept S E T U sound (changes-kept S ordered T U (sound .invariant) (fill-changes S ordered T U fill))
+      (λ j e. kept-same (T j) (U j) (fill-entry S T U fill j e))
+
+  -- telling changes no entry
+  tell-entry : (T : Table) (i : ℕ) (j : ℕ) → isFigure (itemAt S j) ≡ false → tell S T i j ≡ T j
+  tell-entry T i =
+      tell-closed S (λ c. isFigure (itemAt S c) ≡ true) (λ U. (j : ℕ) → isFigure (itemAt S j) ≡ false → U j ≡ T j)
+      (record {
+        works = λ U c l h j e. fill-entry S U (work S U c .table) (work-right S ordered U c .fill) j e ∙ h j e;
+        stores = λ U c x k h j e. figure-entry S U c x k j e ∙ h j e;
+      })
+      i (λ c l. parent-figure (itemAt S c) i l) T (λ j e. refl)
+
+  clear-entry : (U : Table) (i j : ℕ) → EntryKept (U j) (clearMark U i j)
+  unfolding clearMark
+  clear-entry U i j =
+      upd-cases (λ k c. EntryKept (U k) c) U i (clearCell (U i)) (kept-cleared (U i)) (λ k n. kept-same (U k) (U k) refl) j
+
+  -- a step changes no entry but for its mark
+  step-entry : (T : Table) (i j : ℕ) → isFigure (itemAt S j) ≡ false → EntryKept (T j) (stepItem S T i j)
+  unfolding stepItem
+  step-entry T i j k = go (T i) refl
+    where
+      told : EntryKept (T j) (clearMark (tell S T i) i j)
+      told = subst (λ c. EntryKept c (clearMark (tell S T i) i j)) (tell-entry T i j k) (clear-entry (tell S T i) i j)
+
+      go : (c : Cell) → T i ≡ c → EntryKept (T j) (stepCell S T i c j)
+      go (unk true) e = told
+      go (unk false) e = kept-same (T j) (T j) refl
+      go (held v unmarked) e = kept-same (T j) (T j) refl
+      go (held v notice) e = told
+      go (held v refresh) e =
+          upd-cases (λ q c. isFigure (itemAt S q) ≡ false → EntryKept (T q) c) (work S T i .table) i _ never
+          (λ q n o. kept-same (T q) (work S T i .table q) (fill-entry S T (work S T i .table) (work-right S ordered T i .fill) q o))
+          j k
+        where
+          never : isFigure (itemAt S i) ≡ false → EntryKept (T i) (cond (same v (work S T i .value)) (held v unmarked) (held (work S T i .value) notice))
+          never o form =
+              let z : _≡_ {A = ℕ} 0 1 = (let r : entryForm (held v refresh) ≡ true = rw e at form in cc) in
+              absurd (omega arith)
+
+  pub step-sound : (T : Table) (i : ℕ) → Sound S E T → Sound S E (stepItem S T i)
+  step-sound T i sound =
+      entries-kept S E T (stepItem S T i) sound (step-kept S ordered T i (sound .invariant)) (λ j e. step-entry T i j e)
+
+  pub catchUp-sound : (T : Table) → Sound S E T → Sound S E (catchUp S T)
+  catchUp-sound T sound = catchUp-closed S (Sound S E) (λ U i l m h. step-sound U i h) T sound
+
+  pub drop-sound : (T : Table) (i : ℕ) → isFigure (itemAt S i) ≡ true → Sound S E T → Sound S E (dropFigure T i)
+  unfolding dropFigure
+  drop-sound T i k sound =
+      entries-kept S E T (dropFigure T i) sound
+      (changes-kept S ordered T (dropFigure T i) (sound .invariant) (drop-changes S ordered T i k))
+      (λ j e. kept-same (T j) (dropFigure T i j) (figure-entry S T i _ k j e))
+
+  -- A posting sets the entry's value.
+  pub post-sound : (T : Table) (i : ℕ) (v : Value) → isFigure (itemAt S i) ≡ false → Sound S E T → Sound S (setEntry E i v) (storePosting T i v)
+  unfolding storePosting
+  post-sound T i v k sound =
+      record {
+        invariant = changes-kept S ordered T (storePosting T i v) (sound .invariant) (post-changes S ordered T i v k);
+        formed = upd-cases (λ j c. j < size S → cellForm (itemAt S j) c ≡ true) T i (postCell (T i) v) formedHere (λ j n l. sound .formed j l);
+        holds = holdsAt;
+      }
+    where
+      valued : (c : Cell) → valueIn (postCell c v) ≡ v
+      valued (unk f) = refl
+      valued (held w m) = go (same w v) refl
+        where
+          go : (b : Bool) → same w v ≡ b → valueIn (cond b (held w m) (held v notice)) ≡ v
+          go true e = same-true w v e
+          go false e = refl
+
+      shaped : (c : Cell) → entryForm c ≡ true → entryForm (postCell c v) ≡ true
+      shaped (unk f) e = refl
+      shaped (held w m) e = go (same w v)
+        where
+          go : (b : Bool) → entryForm (cond b (held w m) (held v notice)) ≡ true
+          go true = e
+          go false = refl
+
+      formedHere : i < size S → cellForm (itemAt S i) (postCell (T i) v) ≡ true
+      formedHere l =
+          entry-form (itemAt S i) (postCell (T i) v) k
+          ∙ shaped (T i) (sym (entry-form (itemAt S i) (T i) k) ∙ sound .formed i l)
+
+      holdsAt : (j : ℕ) → j < size S → isFigure (itemAt S j) ≡ false → valueIn (upd T i (postCell (T i) v) j) ≡ setEntry E i v j
+      holdsAt j l e = go (eqb j i)
+        where
+          go : (b : Bool) → valueIn (cond b (postCell (T i) v) (T j)) ≡ cond b v (E j)
+          go true = valued (T i)
+          go false = sound .holds j l e
+
+  -- a post, refused or not
+  post-heard : (T : Table) (i kind : ℕ) (z : ℤ) → Sound S E T → Sound S (hear S E (called (post i kind z))) (perform S T (post i kind z) .table)
+  unfolding perform tests firstCause effect hear
+  post-heard T i kind z sound = go (beyond S i) (isFigure (itemAt S i)) (postedValue kind z) refl refl
+    where
+      go : (b f : Bool) (o : Option Value) → isFigure (itemAt S i) ≡ f → postedValue kind z ≡ o → Sound S (cond (b || f) E (setIf E i o)) (unless (cond b 11 (cond f 12 (cond (isNone o) 13 0))) S T (post i kind z) .table)
+      go true f o e h = sound
+      go false true o e h = sound
+      go false false none e h = sound
+      go false false (some v) e h = rw h (post-sound T i v e sound)
+
+  -- the other calls, refused or not: the fresh office hears nothing in them
+  heard : (T : Table) (c : Call) → Sound S E T → (firstCause (tests S T c) ≡ 0 → Sound S E (effect S T c .table)) → Sound S E (perform S T c .table)
+  unfolding perform
+  heard T c sound accepted = go (firstCause (tests S T c)) refl
+    where
+      go : (k : ℕ) → firstCause (tests S T c) ≡ k → Sound S E (unless k S T c .table)
+      go zero e = accepted e
+      go (suc k) e = sound
+
+  -- every call keeps the table sound, with the entries that the fresh office holds after hearing it
+  pub perform-sound : (T : Table) (c : Call) → Sound S E T → Sound S (hear S E (called c)) (perform S T c .table)
+  unfolding hear effect
+  perform-sound T (post i kind z) sound = post-heard T i kind z sound
+  perform-sound T (keep i) sound =
+      heard T (keep i) sound (λ e. fill-sound T (keepFigure S T i) (keep-fill S ordered T i (keep-passed S T i e .1)) sound)
+  perform-sound T (drop i) sound = heard T (drop i) sound (λ e. drop-sound T i (drop-passed S T i e .1) sound)
+  perform-sound T (step i) sound = heard T (step i) sound (λ e. step-sound T i sound)
+  perform-sound T (ask i) sound =
+      heard T (ask i) sound
+      (λ e. fill-sound (catchUp S T) (lookUp S (catchUp S T) i .table) (look-right S ordered (catchUp S T) i .fill) (catchUp-sound T sound))
+
+-- and so does every list of calls
+pub run-sound : (S : Sheet) → Ordered S → (cs : List Call) (E : Entries) (T : Table) → Sound S E T → Sound S (freshRun S E cs) (run S T cs)
+unfolding hearAll run
+run-sound S ordered [] E T sound = sound
+run-sound S ordered (c ∷ cs) E T sound =
+    run-sound S ordered cs (hear S E (called c)) (perform S T c .table) (perform-sound S ordered E T c sound)
+
+-- both openings are sound
+pub bare-sound : (S : Sheet) → Sound S blank (openBare S)
+bare-sound S =
+    record { invariant = bare-invariant S; formed = λ i l. form (itemAt S i); holds = λ i l e. value (itemAt S i) e }
+  where
+    form : (it : Item) → cellForm it (bareCell it) ≡ true
+    form entry = refl
+    form (figure op kept spread ps) = refl
+
+    value : (it : Item) → isFigure it ≡ false → valueIn (bareCell it) ≡ null
+    value entry e = refl
+    value (figure op kept spread ps) e = refl
+
+pub full-sound : (S : Sheet) → Ordered S → Sound S blank (openFull S)
+full-sound S ordered =
+    record { invariant = full-invariant S ordered; formed = λ i l. form (itemAt S i); holds = λ i l e. refl }
+  where
+    form : (it : Item) → cellForm it (held null unmarked) ≡ true
+    form entry = refl
+    form (figure op kept spread ps) = refl
