@@ -10,8 +10,6 @@ pub mod Invariant
 pub mod Tell
 pub mod CatchUp
 pub mod Memo
-pub mod Quiet
-pub mod Entries
 pub mod Reading
 pub mod Sound
 pub mod Offices

@@ -1,2 +1,3 @@
 pub mod Holdable
 pub mod Bridge
+pub mod Demands

@@ -9,8 +9,8 @@ use lib.IntN.{ℤ, pos}
 use lib.ListN.{length}
 use Rattle.circuit.specs.Value.{Value, kindOf, numberOf}
 use Rattle.circuit.specs.Sheet.{Sheet}
-use Rattle.circuit.specs.Table.{Table, openBare, openFull}
 use Rattle.circuit.specs.Calls.{Call, Test, test, firstCause, tests, Outcome, effect}
+use Rattle.circuit.specs.Offices.{Opening, opened}
 use Rattle.sheet.specs.Layout.{machineSheet}
 use Rattle.sheet.specs.Read.{Placed, SheetRead, opens, refused, readSheet, layoutOf}
 use Rattle.sheet.specs.Index.{indexWidth, indexBytes}
@@ -97,19 +97,12 @@ callRead (opens edition ps) x t c =
 unfoldable pub callOn : List ℕ → List ℕ → List ℕ → Call → Given
 callOn s x t c = callRead (readSheet s) x t c
 
--- the two openings
-pub data Opening : Type 0 where
-  bare full : Opening
-
-abbrev pub openedTable : Opening → Sheet → Table
-openedTable bare S = openBare S
-openedTable full S = openFull S
-
+-- an opening, bare or full
 abbrev pub openRead : Opening → SheetRead → List ℕ → List ℕ → Given
 openRead how (refused k at) x t = refusal k at x t
 openRead how (opens edition ps) x t =
     unlessRefused (firstCause (openingTests ps x t)) x t
-    (accepted none (indexBytes ps) (encodeTable (sheetRead edition ps) (openedTable how (sheetRead edition ps))))
+    (accepted none (indexBytes ps) (encodeTable (sheetRead edition ps) (opened how (sheetRead edition ps))))
 
 unfoldable pub openOn : Opening → List ℕ → List ℕ → List ℕ → Given
 openOn how s x t = openRead how (readSheet s) x t
