@@ -1,15 +1,14 @@
 -- What an accepted call has passed, and what it does. Assumes nothing.
 use Prim.Native.Nat.{ℕ, zero, suc, _<_}
-use mathlib.Core.Path.{_≡_, refl, sym, ap, subst, _∙_}
-use mathlib.Core.Bool.{Bool, true, false, cond, not}
-use mathlib.Core.List.{List, [], _∷_}
+use mathlib.Core.Path.{_≡_, refl, ap}
+use mathlib.Core.Bool.{Bool, true, false}
+use mathlib.Core.List.{List, _∷_}
 use native.Mathlib.Omega.{arith}
 use lib.IntN.{ℤ}
 use borrow.Author.Tests.{leb-false, not-false}
 use Rattle.circuit.specs.Sheet.{Sheet, size, itemAt, isFigure}
 use Rattle.circuit.specs.Table.{Table, isMarked}
-use Rattle.circuit.specs.Machine.{keepFigure, dropFigure, stepItem, catchUp, lookUp}
-use Rattle.circuit.specs.Calls.{Call, post, keep, drop, step, ask, Test, test, tests, firstCause, effect, unless, perform, Outcome}
+use Rattle.circuit.specs.Calls.{Call, post, keep, drop, step, ask, Test, test, tests, firstCause, effect, unless, perform}
 
 -- no cause holds: the first does not, and none of the others
 pub no-cause : (k : ℕ) (b : Bool) (ts : List Test) → firstCause (test (suc k) b ∷ ts) ≡ 0 → (b ≡ false) × (firstCause ts ≡ 0)

@@ -1,27 +1,28 @@
--- Catching up ends, on every table: stepping the lowest marked item until none is marked is one ascending sweep
--- (`catchUp-sweep`), no mark stands afterwards (`catchUp-quiet`), and more steps than the bound change nothing
--- (`catchUp-enough`). On a table without marks it does nothing, and a look-up sets no mark there. Assumes that the sheet
--- is ordered, and nothing about the table.
+-- Catching up ends, on every table (`catchUp-ends`): stepping the lowest marked item until none is marked is one
+-- ascending sweep (`catchUp-sweep`), no mark stands afterwards (`catchUp-quiet`), and more steps than the bound change
+-- nothing (`catchUp-enough`). The step of a notice leaves its item without a mark (`step-clears`). On a table without
+-- marks catching up does nothing, and a look-up sets no mark there, so asking again steps nothing (`asked-still`).
+-- Assumes that the sheet is ordered, where it says so, and nothing about the table.
 use Prim.Native.Nat.{ℕ, zero, suc, _<_, _≤_, _+_, _*_}
 use native.Mathlib.Omega.{arith}
-use mathlib.Core.Path.{_≡_, refl, sym, ap, subst, _∙_}
+use mathlib.Core.Path.{_≡_, refl, sym, ap, _∙_}
 use mathlib.Core.Logic.{_⊎_, inl, inr, _≢_}
-use mathlib.Core.Bool.{Bool, true, false, cond, _||_}
-use mathlib.Core.List.{List, [], _∷_}
+use mathlib.Core.Bool.{Bool, true, false, cond}
 use mathlib.Core.Option.{Option, none, some}
 use lib.Dec.{eqb}
 use borrow.Author.Tests.{eqb-true, eqb-false}
 use Rattle.circuit.specs.Value.{Value, same}
-use Rattle.circuit.specs.Circuit.{Listed}
-use Rattle.circuit.specs.Sheet.{Sheet, size, itemAt, parents, Ordered}
-use Rattle.circuit.specs.Table.{Table, Cell, Mark, unmarked, refresh, notice, unk, held, upd, isNotice, noticeIf, isMark, isMarked}
-use Rattle.circuit.specs.Machine.{work, lookUp, renewed, tell, clearCell, clearMark, stepCell, stepItem, orNext, lowestMarked, stepLowest, catchUpIn, catchUp, stepIf, stepMarked, sweepBelow, sweep}
-use Rattle.circuit.specs.Words.{Quiet}
+use Rattle.circuit.specs.Sheet.{Sheet, size, parents, Ordered}
+use Rattle.circuit.specs.Table.{Table, Cell, Mark, unmarked, refresh, notice, unk, held, isNotice, noticeIf, isMark, isMarked, markOf}
+use Rattle.circuit.specs.Machine.{work, lookUp, tell, clearCell, clearMark, stepCell, stepItem, orNext, lowestMarked, stepLowest, catchUpIn, catchUp, stepIf, stepMarked, sweepBelow, sweep}
+use Rattle.circuit.specs.Calls.{ask, perform, effect}
+use Rattle.circuit.specs.Words.{Quiet, CaughtUp, still, stepped}
 use Rattle.circuit.proofs.View.{view, result, strong, any-none, view-at}
-use Rattle.circuit.proofs.Fill.{upd-same, upd-other, upd-cases, Filling, stays, fills, Fill, look-right, work-right}
+use Rattle.circuit.proofs.Fill.{upd-same, upd-other, Filling, stays, fills, Fill, look-right, work-right}
 use Rattle.circuit.proofs.Invariant.{Invariant}
 use Rattle.circuit.proofs.Tell.{step-kept}
-use Rattle.circuit.proofs.Closure.{Closed, step-closed, catchUp-closed}
+use Rattle.circuit.proofs.Closure.{step-closed, catchUp-closed}
+use Rattle.circuit.proofs.Accepted.{number-cause, accepted-effect}
 
 -- no item below k is marked
 abbrev pub QuietBelow : Table → ℕ → Type 0
@@ -58,6 +59,35 @@ lowest-some T k quiet marked (suc n) l = go (eqb k n) refl (λ h. lowest-some T 
     go false e rest =
         let other : k ≢ n = eqb-false k n e in
         rw (rest (omega arith))
+
+-- where none is found, none is marked; below the item that is found, none is
+pub none-quiet : (T : Table) (k : ℕ) → lowestMarked T k ≡ none → QuietBelow T k
+unfolding lowestMarked
+none-quiet T zero e = λ j l. absurd (omega arith)
+none-quiet T (suc k) e = go (lowestMarked T k) (isMarked (T k)) refl refl e (λ h. none-quiet T k h)
+  where
+    go : (o : Option ℕ) (b : Bool) → lowestMarked T k ≡ o → isMarked (T k) ≡ b → orNext o b k ≡ none → (lowestMarked T k ≡ none → QuietBelow T k) → QuietBelow T (suc k)
+    go (some i) b h m q rest = let z : _≡_ {A = ℕ} 0 1 = cc in absurd (omega arith)
+    go none true h m q rest = let z : _≡_ {A = ℕ} 0 1 = cc in absurd (omega arith)
+    go none false h m q rest = λ j l. which j l (eqb j k) refl
+      where
+        which : (j : ℕ) → j < suc k → (b : Bool) → eqb j k ≡ b → isMarked (T j) ≡ false
+        which j l true e = rw (eqb-true j k e) m
+        which j l false e =
+            let other : j ≢ k = eqb-false j k e in
+            rest h j (omega arith)
+
+pub some-quiet : (T : Table) (k i : ℕ) → lowestMarked T k ≡ some i → QuietBelow T i
+unfolding lowestMarked
+some-quiet T zero i e = let z : _≡_ {A = ℕ} 0 1 = cc e in absurd (omega arith)
+some-quiet T (suc k) i e = go (lowestMarked T k) (isMarked (T k)) refl e (λ h. some-quiet T k i h)
+  where
+    go : (o : Option ℕ) (b : Bool) → lowestMarked T k ≡ o → orNext o b k ≡ some i → (lowestMarked T k ≡ some i → QuietBelow T i) → QuietBelow T i
+    go (some j) b h q rest = rest (h ∙ q)
+    go none true h q rest =
+        let here : k ≡ i = cc in
+        rw (← here) (none-quiet T k h)
+    go none false h q rest = let z : _≡_ {A = ℕ} 0 1 = cc in absurd (omega arith)
 
 module _ (S : Sheet) (ordered : Ordered S) where
   -- below the lowest mark nothing is flagged
@@ -119,9 +149,17 @@ module _ (S : Sheet) (ordered : Ordered S) where
   unfolding stepMarked
   unmarked-step T i e = rw e
 
-  notice-step : (T : Table) (i : ℕ) (v : Value) → T i ≡ held v notice → isMarked (stepItem S T i i) ≡ false
+  -- the step of a notice leaves no mark on its item, whatever its telling stored there
+  pub step-clears : (T : Table) (i : ℕ) → isNotice (markOf (T i)) ≡ true → isMarked (stepItem S T i i) ≡ false
   unfolding stepItem
-  notice-step T i v e = rw e (tell-clears T i)
+  step-clears T i own = go (T i) refl
+    where
+      go : (c : Cell) → T i ≡ c → isMarked (stepCell S T i c i) ≡ false
+      go (unk true) e = tell-clears T i
+      go (unk false) e = let z : _≡_ {A = ℕ} 0 1 = (let m : isNotice (markOf (unk false)) ≡ true = rw e at own in cc) in absurd (omega arith)
+      go (held v unmarked) e = rw e
+      go (held v notice) e = tell-clears T i
+      go (held v refresh) e = let z : _≡_ {A = ℕ} 0 1 = (let m : isNotice (markOf (held v refresh)) ≡ true = rw e at own in cc) in absurd (omega arith)
 
   -- what one step leaves at its item: no mark, or a stored value with notice
   step-own : (T : Table) (i : ℕ) → isMarked (T i) ≡ true → (isMarked (stepItem S T i i) ≡ false) ⊎ ((v : Value) × (stepItem S T i i ≡ held v notice))
@@ -177,7 +215,7 @@ module _ (S : Sheet) (ordered : Ordered S) where
                 catch-step T k (suc fuel) low quiet m
                 ∙ catch-step U k fuel low (step-below T k low quiet) marked
                 ∙ ap (catchUpIn fuel S) (sym both);
-            clear = rw both (notice-step U k v e);
+            clear = rw both (step-clears U k (rw e));
           }
 
       first : (b : Bool) → isMarked (T k) ≡ b → Advance k fuel T
@@ -248,3 +286,25 @@ module _ (S : Sheet) (ordered : Ordered S) where
   -- catching up keeps the invariant
   pub catchUp-kept : (T : Table) → Invariant S T → Invariant S (catchUp S T)
   catchUp-kept T kept = catchUp-closed S (Invariant S) (λ U i l m h. step-kept S ordered U i h) T kept
+
+  -- it is what the words say, and so it ends
+  pub catchUp-ends : (T : Table) → CaughtUp S T (catchUp S T)
+  unfolding catchUp catchUpIn
+  catchUp-ends T = within (2 * size S) T (catchUp-quiet T)
+    where
+      byLowest : (fuel : ℕ) (U : Table) (o : Option ℕ) → ((X : Table) → Quiet S (catchUpIn fuel S X) → CaughtUp S X (catchUpIn fuel S X)) → lowestMarked U (size S) ≡ o → Quiet S (stepLowest (catchUpIn fuel S) S U o) → CaughtUp S U (stepLowest (catchUpIn fuel S) S U o)
+      byLowest fuel U none rest e quiet = still e
+      byLowest fuel U (some i) rest e quiet = stepped i e (rest (stepItem S U i) quiet)
+
+      within : (fuel : ℕ) (U : Table) → Quiet S (catchUpIn fuel S U) → CaughtUp S U (catchUpIn fuel S U)
+      within zero U quiet = still (lowest-none U (size S) quiet)
+      within (suc fuel) U quiet = byLowest fuel U (lowestMarked U (size S)) (λ X h. within fuel X h) refl quiet
+
+  -- an accepted ask leaves no mark, so that asking again steps nothing
+  pub asked-quiet : (T : Table) (i : ℕ) → perform S T (ask i) .number ≡ 0 → Quiet S (perform S T (ask i) .table)
+  unfolding effect
+  asked-quiet T i e =
+      rw (accepted-effect S T (ask i) (number-cause S T (ask i) e)) (look-quiet (catchUp S T) i (catchUp-quiet T))
+
+  pub asked-still : (T : Table) (i : ℕ) → perform S T (ask i) .number ≡ 0 → catchUp S (perform S T (ask i) .table) ≡ perform S T (ask i) .table
+  asked-still T i e = catchUp-still (perform S T (ask i) .table) (asked-quiet T i e)

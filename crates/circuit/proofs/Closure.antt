@@ -1,19 +1,19 @@
 -- What telling, stepping and catching up keep: a property of tables that looking up, working out and storing at some items
 -- keep. Assumes nothing.
 use Prim.Native.Nat.{ℕ, zero, suc, _<_, _*_}
-use mathlib.Core.Path.{_≡_, refl, sym, ap, subst, _∙_}
-use mathlib.Core.Bool.{Bool, true, false, cond, _||_}
+use mathlib.Core.Path.{_≡_, refl}
+use mathlib.Core.Bool.{Bool, true, false, _||_}
 use mathlib.Core.Logic.{_⊎_, inl, inr}
 use mathlib.Core.List.{List, [], _∷_}
 use mathlib.Core.Option.{Option, none, some}
 use native.Mathlib.Omega.{arith}
 use lib.Dec.{eqb}
-use borrow.Author.Tests.{eqb-true, eqb-false, eq-eqb}
-use Rattle.circuit.specs.Value.{Value, null, same}
+use borrow.Author.Tests.{eqb-true}
+use Rattle.circuit.specs.Value.{Value, same}
 use Rattle.circuit.specs.Circuit.{Listed}
-use Rattle.circuit.specs.Sheet.{Sheet, Item, Spread, defer, renew, forget, size, itemAt, parents, keptOf, spreadOf, isChild, member}
-use Rattle.circuit.specs.Table.{Table, Cell, Mark, unmarked, refresh, notice, unk, held, upd, noticeIf, isMarked}
-use Rattle.circuit.specs.Machine.{Looked, looked, gather, workOut, lookCell, lookFor, lookUp, work, flagged, storeIf, storeResult, tellChild, tellCell, tellStored, tellIf, tellBelow, tell, clearMark, clearCell, stepItem, stepCell, stepMark, renewed, orNext, lowestMarked, stepLowest, catchUpIn, catchUp}
+use Rattle.circuit.specs.Sheet.{Sheet, Spread, defer, renew, forget, size, itemAt, parents, spreadOf, isChild, member}
+use Rattle.circuit.specs.Table.{Table, Cell, Mark, unmarked, refresh, notice, unk, held, upd, isMarked}
+use Rattle.circuit.specs.Machine.{work, tellChild, tellCell, tellStored, tellIf, tellBelow, tell, clearMark, stepItem, stepCell, renewed, orNext, lowestMarked, stepLowest, catchUpIn, catchUp}
 
 -- a member of the list is listed
 pub member-listed : (i : ℕ) (ps : List ℕ) → member i ps ≡ true → Listed i ps

@@ -10,7 +10,7 @@ use Rattle.circuit.specs.Table.{Table}
 use Rattle.circuit.specs.Calls.{Call, post, run, postings}
 use Rattle.circuit.specs.Fresh.{blank, freshRun}
 use Rattle.circuit.specs.Words.{Holds}
-use Rattle.circuit.specs.Offices.{Opening, opened}
+use Rattle.circuit.specs.Offices.{opened}
 use Rattle.circuit.specs.Demand.{Demand}
 use Rattle.circuit.proofs.Accepted.{number-cause, post-passed}
 use Rattle.circuit.proofs.Sound.{Sound, run-sound}

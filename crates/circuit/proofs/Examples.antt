@@ -1,4 +1,5 @@
--- Two worked cases, computed by the definitions: a chain of two figures that is caught up in part, and the example day.
+-- Worked cases, computed by the definitions: a chain of two figures that is caught up in part; a figure that its own
+-- telling stores; a stored NULL; the example day.
 -- Assumes nothing.
 use Prim.Native.Nat.{ℕ}
 use mathlib.Core.Path.{_≡_, refl}
@@ -8,8 +9,8 @@ use mathlib.Core.Option.{Option, none, some}
 use lib.IntN.{ℤ, pos, negsuc}
 use Rattle.circuit.specs.Value.{Value, null, num, inRange, limit}
 use Rattle.circuit.specs.Rules.{sum, difference, apply, numbers, total, anyOut}
-use Rattle.circuit.specs.Sheet.{Sheet, entry, figure, defer, member}
-use Rattle.circuit.specs.Table.{Table, Cell, held, unk, unmarked, notice, openBare}
+use Rattle.circuit.specs.Sheet.{Sheet, entry, figure, defer, renew, member}
+use Rattle.circuit.specs.Table.{Table, Cell, held, unk, unmarked, notice, openBare, openFull}
 use Rattle.circuit.specs.Machine.{gather, workOut, lookFor, lookUp, work, storePosting, keepFigure, dropFigure, tellChild, tellBelow, tell, clearMark, stepItem, lowestMarked, catchUpIn, catchUp}
 use Rattle.circuit.specs.Calls.{Call, post, keep, drop, step, ask, Outcome, perform, run, tests, firstCause, effect, postedValue}
 
@@ -31,6 +32,27 @@ chain-kept = refl
 pub chain-read : perform chain chainTable (ask 2) .reading ≡ some (num (pos 6))
 unfolding chain chainCalls chainTable run perform tests firstCause effect postedValue keepFigure storePosting stepItem tell tellBelow tellChild clearMark lookUp lookFor work workOut gather apply numbers total anyOut inRange limit member catchUp catchUpIn lowestMarked
 chain-read = refl
+
+-- entry 0, figure 1 = sum of item 0, kept; figure 2 = sum of item 1, which renews
+unfoldable pub keptChain : Sheet
+keptChain = entry ∷ figure sum true defer (0 ∷ []) ∷ figure sum false renew (1 ∷ []) ∷ []
+
+-- Figure 1 is UNK with notice, entry 0 carries notice, and telling the stored figure 2 looks figure 1 up.
+unfoldable pub keptCalls : List Call
+keptCalls = post 0 3 (pos 1) ∷ keep 2 ∷ drop 1 ∷ step 0 ∷ post 0 3 (pos 3) ∷ step 1 ∷ []
+
+-- The telling stores figure 1, and its mark is cleared after that.
+pub kept-cleared : run keptChain (openBare keptChain) keptCalls 1 ≡ held (num (pos 3)) unmarked
+unfolding keptChain keptCalls run perform tests firstCause effect postedValue keepFigure dropFigure storePosting stepItem tell tellBelow tellChild clearMark lookUp lookFor work workOut gather apply numbers total anyOut inRange limit member
+kept-cleared = refl
+
+-- Figure 1 holds NULL with refresh when figure 2 is kept, and NULL is what figure 2 then reads, as the entry is NULL again.
+unfoldable pub nullCalls : List Call
+nullCalls = post 0 3 (pos 5) ∷ step 0 ∷ drop 2 ∷ keep 2 ∷ post 0 1 (pos 0) ∷ step 0 ∷ step 1 ∷ []
+
+pub null-read : perform chain (run chain (openFull chain) nullCalls) (ask 2) .reading ≡ some null
+unfolding chain nullCalls run perform tests firstCause effect postedValue keepFigure dropFigure storePosting stepItem tell tellBelow tellChild clearMark lookUp lookFor work workOut gather apply numbers total anyOut inRange limit member catchUp catchUpIn lowestMarked
+null-read = refl
 
 -- the example sheet: entries 0, 1, 2; figure 3 = sum of items 0 and 2, kept; figure 4 = item 3 minus item 1
 unfoldable pub daySheet : Sheet

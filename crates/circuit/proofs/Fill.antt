@@ -5,18 +5,18 @@
 use Prim.Native.Nat.{ℕ, zero, suc, _<_, _≤_}
 use native.Mathlib.Nat.{not-suc-le-zero}
 use native.Mathlib.Omega.{arith}
-use mathlib.Core.Path.{_≡_, refl, sym, ap, ap₂, _∙_, fun-ext}
-use mathlib.Core.Logic.{_⊎_, inl, inr}
+use mathlib.Core.Path.{_≡_, refl, sym, ap, ap₂, _∙_}
+use mathlib.Core.Logic.{inl, inr}
 use mathlib.Core.Bool.{Bool, true, false, cond, _||_}
 use mathlib.Core.List.{List, [], _∷_, map}
 use lib.Dec.{eqb}
 use borrow.Author.Tests.{eqb-true, eqb-false, eq-eqb, ne-eqb}
-use Rattle.circuit.specs.Value.{Value, null}
+use Rattle.circuit.specs.Value.{null}
 use Rattle.circuit.specs.Circuit.{Listed}
-use Rattle.circuit.specs.Sheet.{Sheet, Item, entry, figure, itemAt, isFigure, keptOf, parentsOf, parents, evaluate, Ordered}
-use Rattle.circuit.specs.Table.{Table, Cell, Mark, unmarked, refresh, notice, unk, held, upd, isNotice, noticeIf}
-use Rattle.circuit.specs.Machine.{Looked, looked, Gathered, gathered, gather, workOut, storeIf, flagged, storeResult, lookCell, lookFor, lookUp, work, keepCell, keepFigure}
-use Rattle.circuit.proofs.View.{Seen, seen, anyFlag, worked, seenCell, view, result, strong, any-ext, values-ext, worked-ext, view-is, view-at, view-unique}
+use Rattle.circuit.specs.Sheet.{Sheet, Item, entry, figure, itemAt, isFigure, keptOf, parents, evaluate, Ordered}
+use Rattle.circuit.specs.Table.{Table, Cell, unk, held, upd, isNotice, noticeIf}
+use Rattle.circuit.specs.Machine.{Looked, Gathered, gather, workOut, storeIf, flagged, lookCell, lookFor, lookUp, work, keepCell, keepFigure}
+use Rattle.circuit.proofs.View.{Seen, anyFlag, seenCell, view, result, any-ext, values-ext, worked-ext, view-is, view-at, view-unique}
 
 -- a store, read at its item and at another
 pub upd-same : (T : Table) (i : ℕ) (c : Cell) → upd T i c i ≡ c

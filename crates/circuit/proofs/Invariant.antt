@@ -2,20 +2,20 @@
 -- parent is flagged. Here is one law for what keeps it (`changes-kept`): a list of what may happen to a cell, after
 -- which every view is as it was or is flagged. Fills, postings, drops and the step of a refresh are of that kind. Both
 -- openings have the invariant. Assumes that the sheet is ordered, where it says so.
-use Prim.Native.Nat.{ℕ, zero, suc, _<_, _≤_}
+use Prim.Native.Nat.{ℕ, _<_}
 use native.Mathlib.Omega.{arith}
-use mathlib.Core.Path.{_≡_, refl, sym, ap, subst, _∙_}
+use mathlib.Core.Path.{_≡_, refl, sym, ap, _∙_}
 use mathlib.Core.Logic.{_⊎_, inl, inr}
-use mathlib.Core.Bool.{Bool, true, false, cond, _||_, or-true, or-false}
+use mathlib.Core.Bool.{Bool, true, false, cond, _||_, or-true}
 use mathlib.Core.List.{List, [], _∷_, map}
 use Rattle.circuit.specs.Value.{Value, null, same}
 use Rattle.circuit.specs.Circuit.{Listed}
-use Rattle.circuit.specs.Sheet.{Sheet, Item, entry, figure, itemAt, isFigure, parentsOf, parents, evaluate, Ordered}
+use Rattle.circuit.specs.Sheet.{Sheet, Item, entry, figure, itemAt, isFigure, parentsOf, parents, Ordered}
 use Rattle.circuit.specs.Table.{Table, Cell, Mark, unmarked, refresh, notice, unk, held, upd, isNotice, noticeIf, bareCell, openBare, openFull}
-use Rattle.circuit.specs.Machine.{Looked, work, postCell, storePosting, keepFigure, droppedMark, dropCell, dropFigure, renewed}
-use Rattle.circuit.proofs.RuleLaws.{same-true, same-refl, all-null, allNull-map}
-use Rattle.circuit.proofs.View.{Seen, seen, anyFlag, worked, seenCell, view, result, strong, worked-ext, view-is, view-at, view-unique}
-use Rattle.circuit.proofs.Fill.{upd-same, upd-other, upd-cases, notice-is, Filling, stays, fills, Fill, Looks, work-right}
+use Rattle.circuit.specs.Machine.{Looked, work, postCell, storePosting, dropCell, dropFigure, renewed}
+use Rattle.circuit.proofs.RuleLaws.{same-true, all-null, allNull-map}
+use Rattle.circuit.proofs.View.{Seen, seen, anyFlag, worked, seenCell, view, result, strong, worked-ext, view-is, view-at}
+use Rattle.circuit.proofs.Fill.{upd-cases, notice-is, Filling, stays, fills, Fill, Looks, work-right}
 
 -- why figure k may hold v with mark m
 pub data Justified (S : Sheet) (T : Table) (k : ℕ) (v : Value) (m : Mark) : Type 0 where
@@ -150,20 +150,17 @@ module _ (S : Sheet) (ordered : Ordered S) where
           value = cc
       go (dropped w j q h) = let z : _≡_ {A = ℕ} 0 1 = cc in absurd (omega arith)
 
-  -- a fill, and then one store
-  pub store-changes : (T U : Table) (i : ℕ) (c : Cell) → Fill S T U → Change S T i c → Changes S T (upd U i c)
-  store-changes T U i c fill change = upd-cases (Change S T) U i c change (λ j n. fill-change j (fill j))
-    where
-      fill-change : (j : ℕ) → Filling S T j (U j) → Change S T j (U j)
-      fill-change j (stays e) = unchanged e
-      fill-change j (fills f k e h) = filled f e h
-
+  -- a fill
   pub fill-changes : (T U : Table) → Fill S T U → Changes S T U
   fill-changes T U fill j = go (fill j)
     where
       go : Filling S T j (U j) → Change S T j (U j)
       go (stays e) = unchanged e
       go (fills f k e h) = filled f e h
+
+  -- a fill, and then one store
+  pub store-changes : (T U : Table) (i : ℕ) (c : Cell) → Fill S T U → Change S T i c → Changes S T (upd U i c)
+  store-changes T U i c fill change = upd-cases (Change S T) U i c change (λ j n. fill-changes T U fill j)
 
   -- a stored item worked out anew, from mark m to n, where the two are notice or neither is
   pub renewed-changes : (T : Table) (i : ℕ) (v : Value) (m n : Mark) → T i ≡ held v m → isNotice n ≡ isNotice m → Changes S T (renewed i v n (work S T i))

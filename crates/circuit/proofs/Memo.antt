@@ -1,22 +1,26 @@
 -- What a look-up found may be remembered: a second look-up of the same item gives the same value and flag and changes
 -- nothing (`remember`), also after further look-ups (`remember-fill`) and after stores at higher items
 -- (`remember-store`). A store at c changes no look-up of an item below c, nor the cells that it fills (`look-store`).
+-- So an ask that is repeated gives the same answer and changes nothing (`asked-again`).
 -- Assumes that the sheet is ordered, where it says so.
 use Prim.Native.Nat.{ℕ, zero, suc, _<_, _≤_}
 use native.Mathlib.Omega.{arith}
 use mathlib.Core.Path.{_≡_, refl, sym, ap, _∙_, fun-ext}
-use mathlib.Core.Logic.{_⊎_, inl, inr, _≢_}
-use mathlib.Core.Bool.{Bool, true, false, cond, _||_}
+use mathlib.Core.Logic.{inl, inr}
+use mathlib.Core.Bool.{Bool, true, false, cond}
 use mathlib.Core.List.{List, [], _∷_}
 use lib.Dec.{eqb}
-use borrow.Author.Tests.{eqb-true, eqb-false, ne-eqb}
+use borrow.Author.Tests.{eqb-true}
 use Rattle.circuit.specs.Value.{Value}
 use Rattle.circuit.specs.Circuit.{Listed}
 use Rattle.circuit.specs.Sheet.{Sheet, itemAt, keptOf, parents, Ordered}
 use Rattle.circuit.specs.Table.{Table, Cell, Mark, unk, held, upd, noticeIf}
-use Rattle.circuit.specs.Machine.{Looked, looked, Gathered, gathered, gather, workOut, storeIf, flagged, lookCell, lookFor, lookUp, work}
+use Rattle.circuit.specs.Machine.{Looked, looked, gathered, gather, workOut, storeIf, flagged, lookCell, lookFor, lookUp, work, catchUp}
+use Rattle.circuit.specs.Calls.{ask, readingOf, tests, effect, perform}
 use Rattle.circuit.proofs.View.{view, strong, view-below}
 use Rattle.circuit.proofs.Fill.{upd-same, upd-other, Filling, stays, fills, Fill, fill-view, fill-trans, Looks, look-right, work-right, lookUp-is}
+use Rattle.circuit.proofs.CatchUp.{catchUp-quiet, catchUp-still, look-quiet}
+use Rattle.circuit.proofs.Accepted.{number-cause, accepted-effect}
 
 -- the look-up of j gives v and f, and changes nothing
 abbrev pub Remembered : Sheet → Table → ℕ → Value → Bool → Type 0
@@ -203,3 +207,21 @@ module _ (S : Sheet) (ordered : Ordered S) where
   unfolding work workOut
   work-store T c x j l =
       rw (gather-store (lookUp S) c x (parents S j) (λ U p m. look-store U c x p (omega (arith, ordered j p m))) T)
+
+  -- an ask that is repeated gives the same answer and changes nothing
+  pub asked-again : (T : Table) (i : ℕ) → perform S T (ask i) .number ≡ 0 → perform S (perform S T (ask i) .table) (ask i) ≡ perform S T (ask i)
+  unfolding effect tests
+  asked-again T i e =
+      rw first (accepted-effect S A (ask i) (number-cause S T (ask i) e) ∙ (rw caught (ap readingOf (remember C i))))
+    where
+      C : Table
+      C = catchUp S T
+
+      A : Table
+      A = lookUp S C i .table
+
+      first : perform S T (ask i) ≡ readingOf (lookUp S C i)
+      first = accepted-effect S T (ask i) (number-cause S T (ask i) e)
+
+      caught : catchUp S A ≡ A
+      caught = catchUp-still S ordered A (look-quiet S ordered C i (catchUp-quiet S ordered T))

@@ -1,23 +1,21 @@
 -- Two offices agree (`two-offices`): for any two sound tables with the same entries, and any two lists of calls that make
 -- the same postings in order, every ask has the same answer in both, which is the fresh office's. The four pairs of
 -- openings are an instance (`two-openings`). Assumes that the sheet is ordered.
-use Prim.Native.Nat.{ℕ, zero, suc, _<_, _≤_}
-use native.Mathlib.Omega.{arith}
+use Prim.Native.Nat.{ℕ, zero, suc}
 use mathlib.Core.Path.{_≡_, refl, sym, ap, subst, _∙_}
 use mathlib.Core.Bool.{Bool, true, false, cond, _||_}
-use mathlib.Core.List.{List, [], _∷_, _++_, map}
+use mathlib.Core.List.{List, [], _∷_, _++_}
 use mathlib.Core.Option.{Option, none, some}
-use lib.IntN.{ℤ}
 use borrow.Author.Tests.{leb-false}
 use Rattle.circuit.specs.Value.{Value}
 use Rattle.circuit.specs.Sheet.{Sheet, size, itemAt, beyond, isFigure, Ordered, Entries}
 use Rattle.circuit.specs.Table.{Table}
 use Rattle.circuit.specs.Machine.{lookUp, catchUp}
-use Rattle.circuit.specs.Calls.{Call, post, keep, drop, step, ask, Outcome, outcome, tests, firstCause, isNone, postedValue, effect, unless, perform, run, Posting, postingOf, madeBy, ifAccepted, made, postings}
-use Rattle.circuit.specs.Fresh.{Event, called, blank, setEntry, setIf, hear, hearAll, give, freshAsk, freshRun}
+use Rattle.circuit.specs.Calls.{Call, post, keep, drop, step, ask, Outcome, tests, firstCause, isNone, postedValue, effect, unless, perform, run, Posting, postingOf, ifAccepted, made, postings}
+use Rattle.circuit.specs.Fresh.{called, blank, setEntry, setIf, hear, hearAll, give, freshAsk, freshRun}
 use Rattle.circuit.specs.Offices.{Answers, Agree, Opening, bare, full, opened}
 use Rattle.circuit.proofs.Solution.{give-solves}
-use Rattle.circuit.proofs.CatchUp.{catchUp-quiet, catchUp-still, look-quiet}
+use Rattle.circuit.proofs.CatchUp.{catchUp-quiet}
 use Rattle.circuit.proofs.Reading.{quiet-look}
 use Rattle.circuit.proofs.Sound.{Sound, catchUp-sound, run-sound, bare-sound, full-sound}
 

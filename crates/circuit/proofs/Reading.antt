@@ -1,18 +1,18 @@
 -- When a look-up gives the solution under the values that the table's entries hold: with no figure stored, whatever the
 -- marks (`bare-look`), and with the invariant and no mark (`quiet-look`). Assumes that the sheet is ordered and the table
 -- well formed.
-use Prim.Native.Nat.{ℕ, zero, suc, _<_, _≤_}
+use Prim.Native.Nat.{ℕ, _<_}
 use native.Mathlib.Omega.{arith}
 use mathlib.Core.Path.{_≡_, refl, sym, ap, _∙_}
 use mathlib.Core.Bool.{Bool, true, false}
-use mathlib.Core.List.{List, [], _∷_, map}
+use mathlib.Core.List.{map}
 use Rattle.circuit.specs.Value.{Value, null}
-use Rattle.circuit.specs.Circuit.{Listed, IsSolution}
+use Rattle.circuit.specs.Circuit.{IsSolution}
 use Rattle.circuit.specs.Sheet.{Sheet, Item, entry, figure, size, itemAt, isFigure, parentsOf, parents, evaluate, Ordered, Entries, circuitOf}
-use Rattle.circuit.specs.Table.{Table, Cell, Mark, unmarked, refresh, notice, unk, held, isMark, isMarked, valueIn, isStored, entryForm, cellForm}
+use Rattle.circuit.specs.Table.{Table, Cell, Mark, refresh, unk, held, isMarked, valueIn, isStored, cellForm}
 use Rattle.circuit.specs.Machine.{lookUp}
 use Rattle.circuit.specs.Words.{Formed, Quiet, Holds, Bare}
-use Rattle.circuit.proofs.View.{Seen, view, result, worked, seenCell, strong, any-none, values-ext, view-at}
+use Rattle.circuit.proofs.View.{view, result, strong, any-none, values-ext, view-at}
 use Rattle.circuit.proofs.Fill.{look-right}
 use Rattle.circuit.proofs.Invariant.{Justified, exact, due, awaits, Invariant}
 use Rattle.circuit.proofs.CatchUp.{quiet-flag}

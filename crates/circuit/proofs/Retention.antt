@@ -3,8 +3,7 @@
 -- dropped stays stored. Assumes that the sheet is ordered.
 use Prim.Native.Nat.{ℕ, zero, suc, _<_}
 use mathlib.Core.Path.{_≡_, refl, sym, ap, subst, _∙_}
-use mathlib.Core.Bool.{Bool, true, false, cond, _||_}
-use mathlib.Core.Logic.{_⊎_, inl, inr}
+use mathlib.Core.Bool.{Bool, true, false, _||_}
 use mathlib.Core.List.{List, [], _∷_, _++_, map}
 use mathlib.Core.Option.{Option, none, some}
 use native.Mathlib.Omega.{arith}
@@ -12,20 +11,20 @@ use lib.Dec.{eqb}
 use lib.IntN.{ℤ}
 use borrow.Author.Tests.{eqb-false}
 use Rattle.circuit.specs.Value.{Value, null}
-use Rattle.circuit.specs.Circuit.{Circuit, IsSolution, Listed}
-use Rattle.circuit.specs.Sheet.{Sheet, Item, entry, figure, itemAt, isFigure, size, parents, parentsOf, Ordered, Entries, circuitOf, evaluate}
-use Rattle.circuit.specs.Table.{Table, Cell, Mark, unmarked, refresh, notice, unk, held, upd, isStored, valueIn, isMarked, cellForm}
+use Rattle.circuit.specs.Circuit.{IsSolution, Listed}
+use Rattle.circuit.specs.Sheet.{Sheet, Item, entry, figure, itemAt, isFigure, size, parents, Ordered, Entries, circuitOf, evaluate}
+use Rattle.circuit.specs.Table.{Table, Cell, unmarked, refresh, notice, unk, held, isStored, valueIn, isMarked, cellForm}
 use Rattle.circuit.specs.Machine.{lookUp, work, keepFigure, dropFigure, dropCell, stepItem, catchUp, storePosting, postCell}
 use Rattle.circuit.specs.Calls.{Call, post, keep, drop, step, ask, postedValue, postIt, postingOf, tests, firstCause, effect, unless, perform, run, made, madeBy, ifAccepted, postings, drops}
 use Rattle.circuit.specs.Demand.{Retained}
-use Rattle.circuit.specs.Words.{Formed, Holds, Quiet, LeadsTo, direct, further, droppedIn}
-use Rattle.circuit.proofs.View.{Seen, seen, anyFlag, view, result, strong, any-none, view-at}
-use Rattle.circuit.proofs.Fill.{Filling, stays, fills, Fill, Looks, upd-cases, upd-other, look-right, work-right, keep-fill}
+use Rattle.circuit.specs.Words.{Formed, Quiet, LeadsTo, direct, further, droppedIn}
+use Rattle.circuit.proofs.View.{seen, anyFlag, view, result, strong, any-none, view-at}
+use Rattle.circuit.proofs.Fill.{Filling, stays, fills, Fill, upd-cases, upd-other, look-right, work-right, keep-fill}
 use Rattle.circuit.proofs.Solution.{map-listed, solution, solution-solves}
 use Rattle.circuit.proofs.Invariant.{Invariant}
 use Rattle.circuit.proofs.Reading.{quiet-exact, exact-solution}
 use Rattle.circuit.proofs.Closure.{Closed, step-closed, catchUp-closed}
-use Rattle.circuit.proofs.Accepted.{effect-number, keep-passed, drop-passed, step-passed, ask-passed}
+use Rattle.circuit.proofs.Accepted.{effect-number, keep-passed, drop-passed, step-passed}
 
 -- k is neither e nor led to by e
 abbrev pub Outside : Sheet → ℕ → ℕ → Type 0

@@ -1,30 +1,27 @@
 -- Every call keeps a table sound, refused calls included: it has the invariant, it is well formed, and its entries hold
 -- what the fresh office holds that heard the same calls. Both openings are sound. Assumes that the sheet is ordered,
 -- where it says so.
-use Prim.Native.Nat.{ℕ, zero, suc, _<_, _≤_}
+use Prim.Native.Nat.{ℕ, zero, suc, _<_}
 use native.Mathlib.Omega.{arith}
-use mathlib.Core.Path.{_≡_, refl, sym, ap, subst, _∙_}
-use mathlib.Core.Logic.{_⊎_, inl, inr, _≢_}
+use mathlib.Core.Path.{_≡_, refl, sym, subst, _∙_}
 use mathlib.Core.Bool.{Bool, true, false, cond, _||_}
-use mathlib.Core.List.{List, [], _∷_, map}
+use mathlib.Core.List.{List, [], _∷_}
 use mathlib.Core.Option.{Option, none, some}
 use lib.Dec.{eqb}
 use lib.IntN.{ℤ}
-use borrow.Author.Tests.{eqb-true, eqb-false, leb-false}
 use Rattle.circuit.specs.Value.{Value, null, same}
 use Rattle.circuit.specs.Circuit.{Listed}
-use Rattle.circuit.specs.Sheet.{Sheet, Item, entry, figure, size, itemAt, beyond, isFigure, parentsOf, parents, Ordered, Entries}
-use Rattle.circuit.specs.Table.{Table, Cell, Mark, unmarked, refresh, notice, unk, held, upd, valueIn, entryForm, cellForm, bareCell, openBare, openFull}
-use Rattle.circuit.specs.Machine.{lookUp, work, postCell, storePosting, keepFigure, dropFigure, renewed, tell, clearCell, clearMark, stepCell, stepItem, catchUp}
-use Rattle.circuit.specs.Calls.{Call, post, keep, drop, step, ask, Test, test, tests, firstCause, isNone, postedValue, postIt, effect, unless, perform, run}
-use Rattle.circuit.specs.Fresh.{Event, called, blank, setEntry, setIf, hear, hearAll, freshRun}
+use Rattle.circuit.specs.Sheet.{Sheet, Item, entry, figure, size, itemAt, beyond, isFigure, parentsOf, Ordered, Entries}
+use Rattle.circuit.specs.Table.{Table, Cell, unmarked, refresh, notice, unk, held, upd, valueIn, entryForm, cellForm, bareCell, openBare, openFull}
+use Rattle.circuit.specs.Machine.{lookUp, work, postCell, storePosting, keepFigure, dropFigure, tell, clearCell, clearMark, stepCell, stepItem, catchUp}
+use Rattle.circuit.specs.Calls.{Call, post, keep, drop, step, ask, tests, firstCause, isNone, postedValue, effect, unless, perform, run}
+use Rattle.circuit.specs.Fresh.{called, blank, setEntry, setIf, hear, hearAll, freshRun}
 use Rattle.circuit.specs.Words.{Formed, Holds}
 use Rattle.circuit.proofs.RuleLaws.{same-true}
-use Rattle.circuit.proofs.Fill.{upd-same, upd-other, upd-cases, Filling, stays, fills, Fill, look-right, work-right, keep-fill}
+use Rattle.circuit.proofs.Fill.{upd-other, upd-cases, Filling, stays, fills, Fill, look-right, work-right, keep-fill}
 use Rattle.circuit.proofs.Invariant.{Invariant, changes-kept, fill-changes, post-changes, drop-changes, bare-invariant, full-invariant}
 use Rattle.circuit.proofs.Tell.{step-kept}
-use Rattle.circuit.proofs.CatchUp.{catchUp-kept}
-use Rattle.circuit.proofs.Closure.{Closed, tell-closed, catchUp-closed}
+use Rattle.circuit.proofs.Closure.{tell-closed, catchUp-closed}
 use Rattle.circuit.proofs.Accepted.{keep-passed, drop-passed}
 
 -- what every call keeps

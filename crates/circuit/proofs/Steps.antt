@@ -1,7 +1,7 @@
 -- Steps end: on a sheet of n items any sequence of accepted steps is shorter than 3^n. Each item has a digit, the lowest
 -- item the most significant; a step of i lowers the digit of i and raises none below it. Assumes nothing.
 use Prim.Native.Nat.{ℕ, zero, suc, _+_, _*_, _^_, _<_, _≤_}
-use mathlib.Core.Path.{_≡_, refl, sym, ap, subst, _∙_}
+use mathlib.Core.Path.{_≡_, refl, ap}
 use mathlib.Core.Bool.{Bool, true, false, cond}
 use mathlib.Core.List.{List, [], _∷_, map}
 use native.Mathlib.Omega.{arith}
@@ -9,14 +9,13 @@ use native.Mathlib.Nat.{pow-zero, pow-succ'}
 use native.Mathlib.Decide.{decLt}
 use lib.ListN.{length}
 use Rattle.circuit.specs.Value.{Value, same}
-use Rattle.circuit.specs.Circuit.{Listed}
-use Rattle.circuit.specs.Sheet.{Sheet, size, Ordered, parents}
-use Rattle.circuit.specs.Table.{Table, Cell, Mark, unmarked, refresh, notice, unk, held, upd, isStored, isMarked, noticeIf}
-use Rattle.circuit.specs.Machine.{work, renewed, tell, clearCell, clearMark, stepItem, stepCell, stepMark}
-use Rattle.circuit.specs.Calls.{Call, step, perform, effect}
+use Rattle.circuit.specs.Sheet.{Sheet, size, Ordered}
+use Rattle.circuit.specs.Table.{Table, Cell, unmarked, refresh, notice, unk, held, upd, isStored, isMarked, noticeIf}
+use Rattle.circuit.specs.Machine.{work, tell, clearCell, clearMark, stepItem, stepCell}
+use Rattle.circuit.specs.Calls.{step, perform, effect}
 use Rattle.circuit.specs.Words.{AllAccepted}
 use Rattle.circuit.proofs.View.{view}
-use Rattle.circuit.proofs.Fill.{Filling, stays, fills, Fill, Looks, upd-same, upd-cases, work-right}
+use Rattle.circuit.proofs.Fill.{Filling, stays, fills, upd-same, upd-cases, work-right}
 use Rattle.circuit.proofs.Closure.{Closed, tell-closed}
 use Rattle.circuit.proofs.Accepted.{number-cause, accepted-effect, step-passed}
 

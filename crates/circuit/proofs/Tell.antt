@@ -4,22 +4,22 @@
 -- ordered, where it says so.
 use Prim.Native.Nat.{ℕ, zero, suc, _<_, _≤_}
 use native.Mathlib.Omega.{arith}
-use mathlib.Core.Path.{_≡_, refl, sym, ap, subst, _∙_}
+use mathlib.Core.Path.{_≡_, refl, sym, ap, _∙_}
 use mathlib.Core.Logic.{_⊎_, inl, inr, _≢_}
-use mathlib.Core.Bool.{Bool, true, false, cond, _||_, or-true, or-false}
-use mathlib.Core.List.{List, [], _∷_, map}
+use mathlib.Core.Bool.{Bool, true, false, cond, or-true, or-false}
+use mathlib.Core.List.{List, [], _∷_}
 use lib.Dec.{eqb}
 use lib.ListN.{List·getD-eq-default}
 use borrow.Author.Tests.{eqb-true, eqb-false, eq-eqb, ltb-true, ltb-false}
 use Rattle.circuit.specs.Value.{Value, null, same}
 use Rattle.circuit.specs.Circuit.{Listed}
-use Rattle.circuit.specs.Sheet.{Sheet, Item, entry, figure, Spread, defer, renew, forget, size, itemAt, isFigure, parentsOf, parents, spreadOf, member, isChild, evaluate, Ordered}
+use Rattle.circuit.specs.Sheet.{Sheet, Item, entry, Spread, defer, renew, forget, size, itemAt, parentsOf, parents, spreadOf, member, isChild, evaluate, Ordered}
 use Rattle.circuit.specs.Table.{Table, Cell, Mark, unmarked, refresh, notice, unk, held, upd, isNotice, noticeIf, markOf}
-use Rattle.circuit.specs.Machine.{Looked, work, renewed, refreshCleared, renewChild, deferChild, tellStored, tellCell, tellChild, tellIf, tellBelow, tell, clearCell, clearMark, stepMark, stepCell, stepItem}
+use Rattle.circuit.specs.Machine.{Looked, work, renewed, refreshCleared, tellStored, tellCell, tellChild, tellIf, tellBelow, tell, clearCell, clearMark, stepCell, stepItem}
 use Rattle.circuit.proofs.RuleLaws.{same-true}
-use Rattle.circuit.proofs.View.{Seen, seen, anyFlag, Flagged, worked, seenCell, view, result, strong, any-true, any-find, values-ext, view-is, view-at, result-below}
-use Rattle.circuit.proofs.Fill.{upd-same, upd-other, upd-cases, notice-is, Filling, stays, fills, Fill, fill-refl, fill-result, fill-view, Looks, work-right}
-use Rattle.circuit.proofs.Invariant.{Justified, exact, due, awaits, Invariant, Change, unchanged, filled, remarked, noticed, stored, dropped, Changes, changes-kept, store-changes, renewed-changes}
+use Rattle.circuit.proofs.View.{Seen, Flagged, seenCell, view, result, strong, any-true, any-find, values-ext, view-is, view-at, result-below}
+use Rattle.circuit.proofs.Fill.{upd-same, upd-other, notice-is, Filling, stays, fills, Fill, fill-refl, fill-result, Looks, work-right}
+use Rattle.circuit.proofs.Invariant.{Justified, exact, due, awaits, Invariant, Change, remarked, noticed, changes-kept, store-changes, renewed-changes}
 use Rattle.circuit.proofs.Closure.{member-listed}
 
 -- how the cell x of a told child c stands

@@ -6,12 +6,12 @@ use Prim.Native.Nat.{ℕ, zero, suc, _<_, _≤_}
 use native.Mathlib.Nat.{not-suc-le-zero}
 use native.Mathlib.Omega.{arith}
 use mathlib.Core.Path.{_≡_, refl, sym, ap, _∙_}
-use mathlib.Core.Logic.{_⊎_, inl, inr}
+use mathlib.Core.Logic.{inl, inr}
 use mathlib.Core.Bool.{Bool, true, false, _||_, or-true}
 use mathlib.Core.List.{List, [], _∷_, map}
 use Rattle.circuit.specs.Value.{Value, null}
 use Rattle.circuit.specs.Circuit.{Listed}
-use Rattle.circuit.specs.Sheet.{Sheet, Item, itemAt, parentsOf, parents, evaluate, Ordered}
+use Rattle.circuit.specs.Sheet.{Sheet, Item, itemAt, parentsOf, evaluate, Ordered}
 use Rattle.circuit.specs.Table.{Table, Cell, unk, held, isNotice}
 
 -- the value that a look-up gives, and its flag

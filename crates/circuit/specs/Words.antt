@@ -3,10 +3,12 @@ use Prim.Native.Nat.{ℕ, _<_}
 use mathlib.Core.Path.{_≡_}
 use mathlib.Core.Bool.{Bool, true, false, _||_}
 use mathlib.Core.List.{List, [], _∷_}
+use mathlib.Core.Option.{Option, none, some}
 use Rattle.circuit.specs.Value.{Value}
 use Rattle.circuit.specs.Circuit.{Listed}
 use Rattle.circuit.specs.Sheet.{Sheet, Entries, size, itemAt, isFigure, parents}
 use Rattle.circuit.specs.Table.{Table, isStored, isMarked, cellForm, valueIn}
+use Rattle.circuit.specs.Machine.{stepItem, lowestMarked}
 use Rattle.circuit.specs.Calls.{Call, perform, drops}
 
 -- the table is well formed for the sheet: each entry is stored, without refresh
@@ -16,6 +18,11 @@ Formed S T = (i : ℕ) → i < size S → cellForm (itemAt S i) (T i) ≡ true
 -- 01's "no mark stands"
 abbrev pub Quiet : Sheet → Table → Type 0
 Quiet S T = (i : ℕ) → i < size S → isMarked (T i) ≡ false
+
+-- 01's "step the lowest marked item until none is marked", from one table to another, without a bound
+pub data CaughtUp (S : Sheet) : Table → Table → Type 0 where
+  still : {T : Table} → lowestMarked T (size S) ≡ none → CaughtUp S T T
+  stepped : {T U : Table} (i : ℕ) → lowestMarked T (size S) ≡ some i → CaughtUp S (stepItem S T i) U → CaughtUp S T U
 
 -- the entries of the table hold E
 abbrev pub Holds : Sheet → Table → Entries → Type 0

@@ -2,3 +2,4 @@ pub mod Scan
 pub mod Items
 pub mod Exactly
 pub mod Index
+pub mod Tests

@@ -177,6 +177,53 @@ module _ (s : List ℕ) (edition : ℕ) where
       let i : placedAt ps j .item ≡ x .it = ap (λ p. p .item) o in
       record { read = rw (← l, ← b, i) (x .read); level-is = rw (o, ← l) }
 
+-- Where a scan stopped: at an item whose field was judged at fault, after items that were read.
+pub record Faulted (s : List ℕ) (edition n number offset : ℕ) : Type 0 where
+  pub at-item : ℕ
+  pub below : at-item < n
+  pub read : List Placed
+  pub scanned : scan s edition at-item ≡ going offset read
+  pub judged : judge (itemTests edition read) s (cutAt s offset) ≡ number
+  pub positive : 0 < number
+
+module _ (s : List ℕ) (edition : ℕ) where
+  field-faulted : (k number offset b : ℕ) (qs : List Placed) → scan s edition k ≡ going b qs → (c : Cut) → cutAt s b ≡ c
+      → (v : ℕ) → judge (itemTests edition qs) s c ≡ v → goOn v b (placeField s b qs c) ≡ stopped number offset → Faulted s edition (suc k) number offset
+  field-faulted k number offset b qs ek Absent ec zero ej e = absurd (omega arith)
+  field-faulted k number offset b qs ek Short ec zero ej e = absurd (omega arith)
+  field-faulted k number offset b qs ek (Field tag start len next) ec zero ej e = let z : _≡_ {A = ℕ} 0 1 = cc in absurd (omega arith)
+  field-faulted k number offset b qs ek c ec (suc v) ej e =
+      let n : suc v ≡ number = cc in
+      let o : b ≡ offset = cc in
+      record {
+        at-item = k;
+        below = omega arith;
+        read = qs;
+        scanned = rw o at ek;
+        judged = rw (← o) (ap (judge (itemTests edition qs) s) ec ∙ ej ∙ n);
+        positive = omega arith;
+      }
+
+  pub scan-faulted : (n number offset : ℕ) → scan s edition n ≡ stopped number offset → Faulted s edition n number offset
+  unfolding scan
+  scan-faulted zero number offset e = let z : _≡_ {A = ℕ} 0 1 = cc in absurd (omega arith)
+  scan-faulted (suc n) number offset e = go (scan s edition n) refl (scan-faulted n number offset) e
+    where
+      go : (r : Scan) → scan s edition n ≡ r → (scan s edition n ≡ stopped number offset → Faulted s edition n number offset)
+          → scanItem s edition r ≡ stopped number offset → Faulted s edition (suc n) number offset
+      go (stopped v o) er ih x =
+          let f = ih (er ∙ x) in
+          record {
+            at-item = f .at-item;
+            below = omega arith;
+            read = f .read;
+            scanned = f .scanned;
+            judged = f .judged;
+            positive = f .positive;
+          }
+      go (going b qs) er ih x =
+          field-faulted n number offset b qs er (cutAt s b) refl (judge (itemTests edition qs) s (cutAt s b)) refl x
+
 -- What it says that all tests of an item fail.
 
 pub record Passes (edition : ℕ) (ps : List Placed) (tag : ℕ) (content : List ℕ) : Type 0 where

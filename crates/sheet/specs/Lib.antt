@@ -3,3 +3,5 @@ pub mod Read
 pub mod Write
 pub mod Index
 pub mod Places
+pub mod Causes
+pub mod Opened

@@ -1,10 +1,11 @@
 -- What the functions on values ask, case by case, over plain variables. Assumes nothing.
-use Prim.Native.Nat.{ℕ, zero, suc, _+_, _≤_, _<_}
+use Prim.Native.Nat.{ℕ, _+_, _≤_, _<_, zero-le}
 use mathlib.Core.Path.{_≡_, refl, sym, ap, _∙_}
 use mathlib.Core.Bool.{Bool, true, false, cond, _&&_, _||_}
 use mathlib.Core.List.{List, [], _∷_}
 use mathlib.Core.Option.{Option, none, some}
 use native.Mathlib.Omega.{arith}
+use native.Mathlib.Numerals.{add-one}
 use borrow.Author.Tests.{eq-eqb, ne-eqb}
 use lib.Dec.{eqb}
 use lib.IntN.{ℤ, pos, negsuc, natAbs, negℤ, _+ℤ_, _-ℤ_}
@@ -13,17 +14,17 @@ use mir.Syntax.{w64}
 use mir.Val.{SFits, toZ, ofZ}
 use Rattle.circuit.specs.Value as circuit
 use Rattle.circuit.specs.Rules as rules
+use Rattle.circuit.specs.WellFormed.{allWellFormed}
+use Rattle.circuit.proofs.RuleLaws.{any-out, size-inRange}
 use Rattle.value.specs.declared.Amount.{Amount}
 use Rattle.value.specs.declared.Amount.the-variants.{Null, Out, Number}
 use Rattle.value.specs.declared.Value.{Value}
 use Rattle.value.specs.declared.Tally.{Tally}
-use Rattle.value.specs.Meaning.{amountMeaning, meaning, partsOf}
-use Rattle.value.specs.Tally.{Room, counted, taken}
-use Rattle.value.proofs.Signed.{back, above-low, below-low, same-bits, sum-fits}
-
--- what is read back from the bits of z, in the arguments of a test
-abbrev read : ℤ → ℤ
-read z = toZ w64 (ofZ w64 z)
+use Rattle.value.specs.Meaning.{amountMeaning, meaning, valueAt, firstValues}
+use Rattle.value.specs.Tally.{Room, empty, counted, taken, takenAll}
+use Rattle.value.proofs.Parents.{firstValues-length, firstValues-wellFormed, valueAt-wellFormed}
+use Rattle.value.proofs.Tallies.{takenAll-snoc, room}
+use Rattle.value.proofs.Signed.{back, above-low, below-low, same-bits, sum-fits, difference-fits}
 
 -- ---- the range
 
@@ -110,3 +111,117 @@ take-out t v p f g h = rw (back (t .total) f, back (t .least) g, back (t .greate
 
 pub take-number : (t : Tally) (v : Value) (z : ℤ) (r : Tally) → v .amount ≡ Number z → SFits w64 z → r ≡ counted t (toZ w64 (ofZ w64 z)) → r ≡ taken t (meaning v)
 take-number t v z r p f e = e ∙ rw (back z f, p)
+
+-- ---- a difference
+
+pub minus-fits : (x y : ℤ) → SFits w64 x → SFits w64 y → circuit.inRange x ≡ true → circuit.inRange y ≡ true → SFits w64 (toZ w64 (ofZ w64 x) -ℤ toZ w64 (ofZ w64 y))
+minus-fits x y f g a b = rw (back x f, back y g) (difference-fits x y a b)
+
+pub minus-is : (x y : ℤ) → SFits w64 x → SFits w64 y → circuit.inRange x ≡ true → circuit.inRange y ≡ true → toZ w64 (ofZ w64 (toZ w64 (ofZ w64 x) -ℤ toZ w64 (ofZ w64 y))) ≡ (x -ℤ y)
+minus-is x y f g a b = rw (back x f, back y g) (back (x -ℤ y) (difference-fits x y a b))
+
+-- ---- rules of two and three parents, on their values
+
+anyOut-two : (a b : circuit.Value) → rules.anyOut (a ∷ b ∷ []) ≡ (circuit.isOut a || circuit.isOut b)
+unfolding rules.anyOut
+anyOut-two a b = go (circuit.isOut a) (circuit.isOut b)
+  where
+    go : (s t : Bool) → (s || (t || false)) ≡ (s || t)
+    go true t = refl
+    go false true = refl
+    go false false = refl
+
+anyOut-three : (a b c : circuit.Value) → rules.anyOut (a ∷ b ∷ c ∷ []) ≡ (circuit.isOut a || (circuit.isOut b || circuit.isOut c))
+unfolding rules.anyOut
+anyOut-three a b c = ap (λ (t : Bool). circuit.isOut a || t) (anyOut-two b c)
+
+orZero-is : (v : circuit.Value) → rules.orZero v ≡ circuit.numberOf v
+orZero-is circuit.null = refl
+orZero-is circuit.out = refl
+orZero-is (circuit.num z) = refl
+
+-- the number of a well-formed value is within the range
+pub number-fits : (v : circuit.Value) (x : ℤ) → SFits w64 x → x ≡ circuit.numberOf v → circuit.wellFormed v ≡ true → circuit.inRange (toZ w64 (ofZ w64 x)) ≡ true
+number-fits v x f e w = rw (back x f, e) (go v w)
+  where
+    go : (v : circuit.Value) → circuit.wellFormed v ≡ true → circuit.inRange (circuit.numberOf v) ≡ true
+    go circuit.null w = size-inRange (pos 0) zero-le
+    go circuit.out w = size-inRange (pos 0) zero-le
+    go (circuit.num z) w = w
+
+module _ (a b : circuit.Value) (t : Bool) (et : t ≡ (circuit.isOut a || circuit.isOut b)) where
+  pub two-out : (op : rules.Operation) → t ≡ true → circuit.out ≡ rules.apply op (a ∷ b ∷ [])
+  two-out op h = sym (any-out op (a ∷ b ∷ []) (anyOut-two a b ∙ sym et ∙ h))
+
+  module _ (no : t ≡ false) where
+    none-out : rules.anyOut (a ∷ b ∷ []) ≡ false
+    none-out = anyOut-two a b ∙ sym et ∙ no
+
+    pub difference-null : (n : Bool) → n ≡ (circuit.isNull a && circuit.isNull b) → n ≡ true → circuit.null ≡ rules.apply rules.difference (a ∷ b ∷ [])
+    unfolding rules.apply
+    difference-null n en h = rw (none-out, sym en ∙ h)
+
+    pub share-null : (n : Bool) → n ≡ (circuit.isNull a || circuit.isNull b) → n ≡ true → circuit.null ≡ rules.apply rules.share (a ∷ b ∷ [])
+    unfolding rules.apply
+    share-null n en h = rw (none-out, sym en ∙ h)
+
+    pub at-least-null : (n : Bool) → n ≡ (circuit.isNull a || circuit.isNull b) → n ≡ true → circuit.null ≡ rules.apply rules.atLeast (a ∷ b ∷ [])
+    unfolding rules.apply
+    at-least-null n en h = rw (none-out, sym en ∙ h)
+
+    module _ (x y : ℤ) (ex : x ≡ circuit.numberOf a) (ey : y ≡ circuit.numberOf b) (fx : SFits w64 x) (fy : SFits w64 y) where
+      first-is : toZ w64 (ofZ w64 x) ≡ rules.orZero a
+      first-is = back x fx ∙ ex ∙ sym (orZero-is a)
+
+      second-is : toZ w64 (ofZ w64 y) ≡ rules.orZero b
+      second-is = back y fy ∙ ey ∙ sym (orZero-is b)
+
+      pub difference-is : (n : Bool) → n ≡ (circuit.isNull a && circuit.isNull b) → n ≡ false → (d : ℤ) (r : circuit.Value) → SFits w64 d → d ≡ (toZ w64 (ofZ w64 x) -ℤ toZ w64 (ofZ w64 y)) → r ≡ circuit.ranged (toZ w64 (ofZ w64 d)) → r ≡ rules.apply rules.difference (a ∷ b ∷ [])
+      unfolding rules.apply
+      difference-is n en h d r f ed er =
+          let k : toZ w64 (ofZ w64 d) ≡ (rules.orZero a -ℤ rules.orZero b) = rw (back d f, ed, first-is, second-is) in
+          er ∙ rw (k, none-out, sym en ∙ h)
+
+      pub share-is : (n : Bool) → n ≡ (circuit.isNull a || circuit.isNull b) → n ≡ false → (r : circuit.Value) → r ≡ rules.shareOf (toZ w64 (ofZ w64 x)) (toZ w64 (ofZ w64 y)) → r ≡ rules.apply rules.share (a ∷ b ∷ [])
+      unfolding rules.apply
+      share-is n en h r er = er ∙ rw (first-is, second-is, none-out, sym en ∙ h)
+
+      pub at-least-is : (n : Bool) → n ≡ (circuit.isNull a || circuit.isNull b) → n ≡ false → (t : Bool) → leZ (toZ w64 (ofZ w64 y)) (toZ w64 (ofZ w64 x)) ≡ t → (r : circuit.Value) → r ≡ circuit.ranged (cond t (pos 1) (pos 0)) → r ≡ rules.apply rules.atLeast (a ∷ b ∷ [])
+      unfolding rules.apply
+      at-least-is n en h t et r er =
+          er ∙ sym (rw (none-out, sym en ∙ h, rw (first-is, second-is) at et))
+
+module _ (a b c : circuit.Value) (s t : Bool) (es : s ≡ circuit.isOut a) (et : t ≡ (circuit.isOut b || circuit.isOut c)) where
+  pub first-out : s ≡ true → circuit.out ≡ rules.apply rules.choice (a ∷ b ∷ c ∷ [])
+  first-out h = sym (any-out rules.choice (a ∷ b ∷ c ∷ []) (anyOut-three a b c ∙ rw (sym es ∙ h)))
+
+  pub later-out : s ≡ false → t ≡ true → circuit.out ≡ rules.apply rules.choice (a ∷ b ∷ c ∷ [])
+  later-out g h = sym (any-out rules.choice (a ∷ b ∷ c ∷ []) (anyOut-three a b c ∙ rw (sym es ∙ g, sym et ∙ h)))
+
+  module _ (no : s ≡ false) (nor : t ≡ false) where
+    three-in : rules.anyOut (a ∷ b ∷ c ∷ []) ≡ false
+    three-in = anyOut-three a b c ∙ rw (sym es ∙ no, sym et ∙ nor)
+
+    pub choice-null : (n : Bool) → n ≡ circuit.isNull a → n ≡ true → circuit.null ≡ rules.apply rules.choice (a ∷ b ∷ c ∷ [])
+    unfolding rules.apply
+    choice-null n en h = rw (three-in, sym en ∙ h)
+
+    pub choice-is : (n : Bool) → n ≡ circuit.isNull a → n ≡ false → (x : ℤ) → x ≡ circuit.numberOf a → SFits w64 x → (u : Bool) → ltZ (pos 0) (toZ w64 (ofZ w64 x)) ≡ u → cond u b c ≡ rules.apply rules.choice (a ∷ b ∷ c ∷ [])
+    unfolding rules.apply
+    choice-is n en h x ex f u eu = rw (three-in, sym en ∙ h, rw (back x f ∙ ex ∙ sym (orZero-is a)) at eu)
+
+-- ---- the parents' values, one after the other
+
+module _ (ks : List ℕ) (zs : List ℤ) (n i : ℕ) (t : Tally) (is : t ≡ takenAll empty (firstValues ks zs i)) (h : i < n) (formed : allWellFormed (firstValues ks zs n) ≡ true) (v : circuit.Value) (ev : v ≡ valueAt ks zs i) where
+  pub turn-room : n ≤ 16 → Room t
+  turn-room l =
+      rw is
+      (room (firstValues ks zs i) (omega (arith, firstValues-length ks zs i))
+      (firstValues-wellFormed ks zs n i (omega arith) formed))
+
+  pub turn-formed : circuit.wellFormed v ≡ true
+  turn-formed = rw ev (valueAt-wellFormed ks zs n i h formed)
+
+  pub turn-next : (r : Tally) → r ≡ taken t v → r ≡ takenAll empty (firstValues ks zs (i + 1))
+  unfolding firstValues
+  turn-next r er = er ∙ rw (add-one, takenAll-snoc, is, ev)

@@ -2,3 +2,4 @@ pub mod Signed
 pub mod Tallies
 pub mod Parents
 pub mod Cases
+pub mod Shares

@@ -5,7 +5,7 @@ use Rattle.value.proofs.operation_of.Lts as lts
 
 -- src/lib.rt:186:1
 returns : tie.Need-returns
-returns c = ?
+returns c = let h = c in ?
 
 -- src/lib.rt:186:1
 returns-2 : tie.Need-returns-2

@@ -1,3 +1,4 @@
+use mathlib.Core.Path.{_≡_}
 use borrow.Author.Needs.{needs}
 use Rattle.value.proofs.value_at.Statement.{statement}
 use Rattle.value.proofs.value_at.Tie as tie
@@ -23,15 +24,15 @@ number-requires c κs = search needs
 
 -- src/lib.rt:249:1
 returns : tie.Need-returns
-returns c = ?
+returns c = let h = c .match .keys1 in ?
 
 -- src/lib.rt:249:1
 returns-2 : tie.Need-returns-2
-returns-2 c = ?
+returns-2 c = let h = c .match .keys2 in ?
 
 -- src/lib.rt:249:1
 returns-3 : tie.Need-returns-3
-returns-3 c = ?
+returns-3 c = let h = c .before .match .rest in let e = c .number2 .ensures in let g = c .before .before .number .given in ?
 
 pub value-at-spec : {M : Type 1} → statement M
 value-at-spec =

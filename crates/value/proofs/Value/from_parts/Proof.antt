@@ -16,7 +16,7 @@ number-requires c κs = search needs
 
 -- src/lib.rt:124:5
 returns : tie.Need-returns
-returns c = ?
+returns c = let h = c .if1 .taken in let k = c .before .match .keys1 in ?
 
 -- src/lib.rt:124:5
 returns-2 : tie.Need-returns-2

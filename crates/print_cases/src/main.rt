@@ -1,0 +1,80 @@
+// Prints a fixed set of values, and what turns the printer back.
+use libc::STDOUT_FILENO;
+use printer::LIMIT;
+use printer::Printed;
+
+fn line(text: &[u8]) {
+    io::write_all(STDOUT_FILENO, text);
+    io::write_all(STDOUT_FILENO, b"\n");
+}
+
+// The part that the printer hands back.
+fn show(kind: u64, number: i64) {
+    let mut scratch = [b'.'; 20];
+    let part = printer::print(kind, number, &mut scratch);
+    line(part);
+}
+
+// The worker's answer, and then all the scratch bytes.
+fn show_all(kind: u64, number: i64, scratch: &mut [u8]) {
+    match printer::print_into(kind, number, scratch) {
+        Printed::Length(n) => {
+            io::write_all(STDOUT_FILENO, b"length ");
+            io::print_decimal(STDOUT_FILENO, n as u64);
+        }
+        Printed::Refused(cause) => {
+            io::write_all(STDOUT_FILENO, b"refused ");
+            io::print_decimal(STDOUT_FILENO, cause);
+        }
+    }
+    io::write_all(STDOUT_FILENO, b" ");
+    line(scratch);
+}
+
+// In scratch that is long enough, and in scratch that is one byte too short.
+fn in_twenty(kind: u64, number: i64) {
+    let mut scratch = [b'.'; 20];
+    show_all(kind, number, &mut scratch);
+}
+
+fn in_nineteen(kind: u64, number: i64) {
+    let mut scratch = [b'.'; 19];
+    show_all(kind, number, &mut scratch);
+}
+
+fn numbers() {
+    show(3, 0);
+    show(3, 1);
+    show(3, -1);
+    show(3, 9);
+    show(3, -9);
+    show(3, 10);
+    show(3, 99);
+    show(3, 100);
+    show(3, -100);
+    show(3, 1_024);
+    show(3, 987_654_321);
+    show(3, LIMIT - 1);
+    show(3, LIMIT);
+    show(3, 1 - LIMIT);
+    show(3, 0 - LIMIT);
+}
+
+fn main() {
+    numbers();
+    show(1, 0);
+    show(2, 0);
+    show(0, 0);
+    in_twenty(3, -120);
+    in_twenty(3, 0 - LIMIT);
+    in_twenty(1, 0);
+    in_twenty(2, 0);
+    in_twenty(0, 0);
+    in_twenty(4, 0);
+    in_twenty(1, 1);
+    in_twenty(2, -1);
+    in_twenty(3, LIMIT + 1);
+    in_twenty(3, -1 - LIMIT);
+    in_nineteen(3, 5);
+    in_nineteen(0, 0);
+}

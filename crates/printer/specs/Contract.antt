@@ -1,0 +1,51 @@
+-- The printer's answer, and what its contract says. Assumes nothing.
+use mathlib.Core.Path.{_≡_}
+use Prim.Native.Nat.{ℕ, _+_}
+use mathlib.Core.Bool.{cond}
+use mathlib.Core.List.{List, _++_}
+use lib.Dec.{eqb}
+use lib.IntN.{ℤ, pos, negℤ}
+use lib.ListN.{length, take, drop}
+use Rattle.printer.specs.Decimal.{digits}
+use Rattle.printer.specs.declared.Printed.{Printed}
+use Rattle.printer.specs.declared.Printed.the-variants.{Length, Refused}
+use Rattle.printer.specs.Printing.{printCause, partOf, withFront}
+
+-- the length of the part, or the number of the cause
+abbrev pub answerOf : ℕ → ℤ → ℕ → Printed
+answerOf kind z count =
+    cond (eqb (printCause kind z count) 0) (Length (length (partOf kind z count))) (Refused (printCause kind z count))
+
+-- an answer in numbers: the number of "Turned back" (0 if accepted), and the part's length
+abbrev pub refusalOf : Printed → ℕ
+refusalOf (Length n) = 0
+refusalOf (Refused cause) = cause
+
+abbrev pub lengthOf : Printed → ℕ
+lengthOf (Length n) = n
+lengthOf (Refused cause) = 0
+
+-- the answer as the C form gives it: the part's length, or the cause's number negated
+abbrev pub codeOf : Printed → ℤ
+codeOf (Length n) = pos n
+codeOf (Refused cause) = negℤ (pos cause)
+
+-- the digits of m written into bytes from the place `at` on, and the place after them
+pub record WithDigits (m at : ℕ) (before : List ℕ) (next : ℕ) (after : List ℕ) : Type 0 where
+  pub place : next ≡ at + length (digits m)
+  pub bytes : after ≡ take at before ++ digits m ++ drop next before
+
+-- a text written at the front of bytes, and its length
+pub record Front (text before : List ℕ) (count : ℕ) (after : List ℕ) : Type 0 where
+  pub size : count ≡ length text
+  pub bytes : after ≡ withFront text before
+
+-- a call of the printer: its arguments, with the scratch bytes before it, its answer, and the scratch bytes after it
+pub record Prints (kind : ℕ) (z : ℤ) (before : List ℕ) (answer : Printed) (after : List ℕ) : Type 0 where
+  pub answers : answer ≡ answerOf kind z (length before)
+  pub bytes : after ≡ withFront (partOf kind z (length before)) before
+
+-- the same with the C form's answer
+pub record PrintsCode (kind : ℕ) (z : ℤ) (before : List ℕ) (code : ℤ) (after : List ℕ) : Type 0 where
+  pub answers : code ≡ codeOf (answerOf kind z (length before))
+  pub bytes : after ≡ withFront (partOf kind z (length before)) before
