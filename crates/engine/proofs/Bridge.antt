@@ -20,12 +20,13 @@ use Rattle.circuit.proofs.Fill.{Fill, Filling, stays, fills, Looks, upd-cases, 
 use Rattle.circuit.proofs.Closure.{Closed, step-closed, catchUp-closed}
 use Rattle.circuit.proofs.Accepted.{accepted-effect, refused-table, keep-passed, drop-passed, step-passed, post-passed}
 use Rattle.sheet.specs.Read.{Placed, SheetRead, opens, readSheet}
+use Rattle.sheet.specs.Opened.{sheetRead}
 use Rattle.sheet.specs.Index.{indexWidth, indexBytes}
 use Rattle.table.specs.Record.{width, decodeCell}
 use Rattle.table.specs.Rows.{row}
 use Rattle.table.specs.Bytes.{encodeTable, decodeTable, tableForm, Holdable, tableLength}
 use Rattle.table.proofs.Tables.{length-encodeTable, decode-encodeTable, encoded-tableForm, holdable-wellFormed}
-use Rattle.engine.specs.Office.{Given, refusal, accepted, kindRead, numberRead, sameBytes, lengthsWrong, indexWrong, tableWrong, callTests, unlessRefused, effectOn, sheetRead, callRead, callOn, runOn}
+use Rattle.engine.specs.Office.{Given, refusal, accepted, kindRead, numberRead, sameBytes, lengthsWrong, indexWrong, tableWrong, callTests, unlessRefused, effectOn, callRead, callOn, runOn}
 use Rattle.engine.proofs.Holdable.{perform-holdable}
 
 -- nothing stands beyond the sheet

@@ -24,6 +24,7 @@ use Rattle.circuit.proofs.Offices.{two-offices, opened-sound}
 use Rattle.circuit.proofs.Retention.{retention}
 use Rattle.circuit.proofs.Accepted.{number-cause, post-passed}
 use Rattle.sheet.specs.Read.{Placed, Scan, going, stopped, placeField, goOn, judge, itemTests, lastTests, headTests, scanItem, scan, scanEnd, afterLast, scanLast, scanSheet, conclude, editionIn, countIn, headContent, SheetRead, opens, refused, readSheet, layoutOf}
+use Rattle.sheet.specs.Opened.{sheetFrom, sheetOf, sheetRead}
 use Rattle.sheet.specs.Index.{indexBytes}
 use Rattle.sheet.proofs.Scan.{opened-ordered}
 use Rattle.sheet.proofs.Index.{index-width}
@@ -34,8 +35,8 @@ use Rattle.table.specs.Rows.{row}
 use Rattle.table.specs.Record.{width, kindIn, markIn, markCode, encodeCell}
 use Rattle.table.specs.Bytes.{encodeTable, decodeTable, Holdable}
 use Rattle.table.proofs.Tables.{encoded-record, encodeTable-ext, bare-holdable, full-holdable}
-use Rattle.engine.specs.Office.{Given, accepted, refusal, lengthsWrong, openingTests, unlessRefused, sheetRead, callOn, openRead, openOn, runOn, kindRead, numberRead}
-use Rattle.engine.specs.Demands.{sheetFrom, sheetOf, Answer, answerOf, Posted, postOf, ifAccepted, acceptedPosts, freshAnswer, SameReading, StaysStored, OfficesAgree, postsOf, Keeps}
+use Rattle.engine.specs.Office.{Given, accepted, refusal, lengthsWrong, openingTests, unlessRefused, callOn, openRead, openOn, runOn, kindRead, numberRead}
+use Rattle.engine.specs.Demands.{Answer, answerOf, Posted, postOf, ifAccepted, acceptedPosts, freshAnswer, SameReading, StaysStored, OfficesAgree, postsOf, Keeps}
 use Rattle.engine.proofs.Holdable.{run-holdable, perform-holdable}
 use Rattle.engine.proofs.Bridge.{Within, perform-within, decode-within, givenBy, call-performs, run-runs}
 

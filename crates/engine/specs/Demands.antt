@@ -14,19 +14,11 @@ use Rattle.circuit.specs.Calls.{Call, post, keep, drop, step, ask}
 use Rattle.circuit.specs.Fresh.{blank, freshRun, freshAsk}
 use Rattle.circuit.specs.Offices.{Opening}
 use Rattle.circuit.specs.Words.{Holds, LeadsTo, droppedIn}
-use Rattle.sheet.specs.Read.{SheetRead, opens, refused, readSheet}
+use Rattle.sheet.specs.Opened.{sheetOf}
 use Rattle.table.specs.Rows.{row}
 use Rattle.table.specs.Record.{width, kindIn, markIn}
 use Rattle.table.specs.Bytes.{decodeTable}
-use Rattle.engine.specs.Office.{Given, openOn, callOn, runOn, sheetRead, kindRead, numberRead}
-
--- the machine's sheet of a sheet that opens
-abbrev pub sheetFrom : SheetRead → Sheet
-sheetFrom (opens edition ps) = sheetRead edition ps
-sheetFrom (refused k at) = []
-
-unfoldable pub sheetOf : List ℕ → Sheet
-sheetOf s = sheetFrom (readSheet s)
+use Rattle.engine.specs.Office.{Given, openOn, callOn, runOn, kindRead, numberRead}
 
 -- what a call answers, beside what it leaves in the lent bytes
 pub record Answer : Type 0 where

@@ -11,8 +11,8 @@ use Rattle.circuit.specs.Value.{Value, kindOf, numberOf}
 use Rattle.circuit.specs.Sheet.{Sheet}
 use Rattle.circuit.specs.Calls.{Call, Test, test, firstCause, tests, Outcome, effect}
 use Rattle.circuit.specs.Offices.{Opening, opened}
-use Rattle.sheet.specs.Layout.{machineSheet}
-use Rattle.sheet.specs.Read.{Placed, SheetRead, opens, refused, readSheet, layoutOf}
+use Rattle.sheet.specs.Read.{Placed, SheetRead, opens, refused, readSheet}
+use Rattle.sheet.specs.Opened.{sheetRead}
 use Rattle.sheet.specs.Index.{indexWidth, indexBytes}
 use Rattle.table.specs.Record.{width}
 use Rattle.table.specs.Bytes.{encodeTable, decodeTable, tableForm}
@@ -78,10 +78,6 @@ callTests S ps x t c =
 abbrev pub unlessRefused : ℕ → List ℕ → List ℕ → Given → Given
 unlessRefused zero x t given = given
 unlessRefused (suc k) x t given = refusal (suc k) 0 x t
-
--- the machine's sheet of what was read
-abbrev pub sheetRead : ℕ → List Placed → Sheet
-sheetRead edition ps = machineSheet (layoutOf edition ps)
 
 -- the call on the decoded table, its table encoded
 abbrev pub effectOn : Sheet → List ℕ → Outcome → Given
