@@ -20,7 +20,7 @@ use Rattle.value.specs.declared.Amount.{Amount}
 use Rattle.value.specs.declared.Amount.the-variants.{Null, Out, Number}
 use Rattle.value.specs.declared.Value.{Value}
 use Rattle.value.specs.declared.Tally.{Tally}
-use Rattle.value.specs.Meaning.{amountMeaning, meaning, valueAt, firstValues}
+use Rattle.value.specs.Meaning.{meaning, partsOf, valueAt, firstValues}
 use Rattle.value.specs.Tally.{Room, empty, counted, taken, takenAll}
 use Rattle.value.proofs.Parents.{firstValues-length, firstValues-wellFormed, valueAt-wellFormed}
 use Rattle.value.proofs.Tallies.{takenAll-snoc, room}
@@ -79,6 +79,18 @@ zero-yes (negsuc n) f e = absurd (omega (arith, f .sfits))
 pub zero-no : (z : ℤ) → SFits w64 z → (ofZ w64 z ≡ 0 → ⊥) → circuit.sameNumber z (pos 0) ≡ false
 zero-no (pos n) f e = ne-eqb n 0 e
 zero-no (negsuc n) f e = refl
+
+pub parts-number : (k : ℕ) (z : ℤ) → SFits w64 z → (t : Bool) (r : circuit.Value) → k ≡ 3 → t ≡ circuit.inRange (toZ w64 (ofZ w64 z)) → t ≡ true → r ≡ circuit.num (toZ w64 (ofZ w64 z)) → some r ≡ partsOf k z
+unfolding partsOf
+parts-number k z f t r ek et h er = rw (ek, sym (rw (back z f) at et) ∙ h, er, back z f)
+
+pub parts-beyond : (k : ℕ) (z : ℤ) → SFits w64 z → (t : Bool) → k ≡ 3 → t ≡ circuit.inRange (toZ w64 (ofZ w64 z)) → t ≡ false → none ≡ partsOf k z
+unfolding partsOf
+parts-beyond k z f t ek et h = rw (ek, sym (rw (back z f) at et) ∙ h)
+
+pub parts-none : (k : ℕ) (z : ℤ) → (k ≡ 1 → ⊥) → (k ≡ 2 → ⊥) → (k ≡ 3 → ⊥) → none ≡ partsOf k z
+unfolding partsOf
+parts-none k z a b c = rw (ne-eqb k 1 a, ne-eqb k 2 b, ne-eqb k 3 c)
 
 -- ---- a tally
 

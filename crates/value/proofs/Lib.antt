@@ -3,3 +3,5 @@ pub mod Tallies
 pub mod Parents
 pub mod Cases
 pub mod Shares
+pub mod Operations
+pub mod Applying

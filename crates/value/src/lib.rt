@@ -188,7 +188,7 @@ pub enum Operation {
 }
 
 // The operation of a rule code with a number of parents. The only place of the code that has codes and counts.
-pub fn operation_of(code: u8, count: u8) -> Operation
+pub fn operation_of(code: u8, count: usize) -> Operation
     ensures { λ r. ⌜ operationMeaning r ≡ rules.operationOf code count ⌝ }
 {
     match code {

@@ -1,3 +1,4 @@
+use Rattle.value.proofs.Parents.{null-at, out-at, number-at}
 use mathlib.Core.Path.{_≡_}
 use borrow.Author.Needs.{needs}
 use Rattle.value.proofs.value_at.Statement.{statement}
@@ -24,15 +25,15 @@ number-requires c κs = search needs
 
 -- src/lib.rt:249:1
 returns : tie.Need-returns
-returns c = let h = c .match .keys1 in ?
+returns c = null-at (c .before .before .before .args .kinds .now) (c .before .before .before .args .numbers .now) (c .before .before .before .args .k) (c .match .keys1)
 
 -- src/lib.rt:249:1
 returns-2 : tie.Need-returns-2
-returns-2 c = let h = c .match .keys2 in ?
+returns-2 c = out-at (c .before .before .before .args .kinds .now) (c .before .before .before .args .numbers .now) (c .before .before .before .args .k) (c .match .keys2)
 
 -- src/lib.rt:249:1
 returns-3 : tie.Need-returns-3
-returns-3 c = let h = c .before .match .rest in let e = c .number2 .ensures in let g = c .before .before .number .given in ?
+returns-3 c = number-at (c .before .before .before .before .args .kinds .now) (c .before .before .before .before .args .numbers .now) (c .before .before .before .before .args .k) (c .before .match .rest .0 .1) (c .before .match .rest .1) (search needs) _ (c .number2 .ensures)
 
 pub value-at-spec : {M : Type 1} → statement M
 value-at-spec =
