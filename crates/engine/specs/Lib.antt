@@ -1,2 +1,3 @@
 pub mod Office
 pub mod Demands
+pub mod Memo

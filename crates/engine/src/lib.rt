@@ -1,1 +1,2 @@
-// The engine.
+// The engine: looking up and working out, telling, stepping, catching up, and the calls on lent bytes.
+pub mod memo;
