@@ -10,11 +10,16 @@ use borrow.Author.Tests.{eqb-true, ne-eqb}
 use lib.Dec.{eqb}
 use lib.IntN.{ℤ, pos, negsuc, natAbs, _+ℤ_}
 use lib.ListN.{length}
+use mir.Syntax.{w64}
+use mir.Val.{SFits, toZ}
+use mir.ValLaws.{toZ-pos}
 use Rattle.circuit.specs.Value.{Value, null, out, num, limit, inRange, wellFormed, ranged}
 use Rattle.circuit.specs.WellFormed.{allWellFormed}
 use Rattle.circuit.specs.Rules.{anyOut, numbers, ofNumbers, strict, total, least, greatest, lesser, greater, howMany}
 use Rattle.circuit.proofs.RuleLaws.{add-size, inRange-size, and-left, and-right}
 use Rattle.value.specs.declared.Tally.{Tally}
+use Rattle.value.specs.Meaning.{firstValues}
+use Rattle.value.proofs.Parents.{firstValues-length}
 use Rattle.value.specs.Tally.{Room, empty, counted, taken, takenAll}
 
 -- one more value at the end
@@ -173,3 +178,15 @@ module _ (vs : List Value) (t : Tally) (is : t ≡ takenAll empty vs) where
 
   pub rule-count : t .out ≡ false → (t .count ≡ 0 → ⊥) → ranged (pos (t .count)) ≡ ruleOf howMany vs
   rule-count e q = rw (sym out-is ∙ e) (sym (count-of taken-fresh q))
+
+-- ---- the count as a signed number
+
+module _ (ks : List ℕ) (zs : List ℤ) (n : ℕ) (t : Tally) (is : t ≡ takenAll empty (firstValues ks zs n)) (h : n ≤ 16) where
+  small : t .count ≤ 16
+  small = omega (arith, ap (λ (u : Tally). u .count) is, takenAll-count (firstValues ks zs n) empty, firstValues-length ks zs n)
+
+  pub count-fits : SFits w64 (pos (t .count))
+  count-fits = record { sfits = omega (arith, small) }
+
+  pub count-back : toZ w64 (t .count) ≡ pos (t .count)
+  count-back = toZ-pos w64 (t .count) (count-fits .sfits)

@@ -1,3 +1,4 @@
+use Rattle.value.proofs.Tallies.{count-fits, count-back}
 use Rattle.value.proofs.Signed.{back}
 use Rattle.circuit.specs.Value.{ranged}
 use mathlib.Core.Path.{ap, _∙_}
@@ -28,7 +29,7 @@ returns-2 c = rule-null (firstValues (c .before .before .before .before .args .k
 
 -- src/lib.rt:391:18
 cast-exact : tie.Need-cast-exact
-cast-exact c = ?
+cast-exact c = count-fits (c .before .before .before .before .before .args .kinds .now) (c .before .before .before .before .before .args .numbers .now) (c .before .before .before .before .before .args .n) (c .before .before .before .before .tally-of .result) (c .before .before .before .before .tally-of .ensures) (c .before .before .before .before .before .pre .0)
 
 -- src/lib.rt:391:5
 exact-requires : tie.Need-exact-requires
@@ -36,7 +37,8 @@ exact-requires c κs = search needs
 
 -- src/lib.rt:380:1
 returns-3 : tie.Need-returns-3
-returns-3 c = ?
+unfolding apply
+returns-3 c = c .exact .ensures ∙ ap ranged (count-back (c .before .before .before .before .before .before .args .kinds .now) (c .before .before .before .before .before .before .args .numbers .now) (c .before .before .before .before .before .before .args .n) (c .before .before .before .before .before .tally-of .result) (c .before .before .before .before .before .tally-of .ensures) (c .before .before .before .before .before .before .pre .0)) ∙ rule-count (firstValues (c .before .before .before .before .before .before .args .kinds .now) (c .before .before .before .before .before .before .args .numbers .now) (c .before .before .before .before .before .before .args .n)) (c .before .before .before .before .before .tally-of .result) (c .before .before .before .before .before .tally-of .ensures) (c .before .before .before .before .if1 .left) (c .before .before .if2 .left)
 
 pub count-spec : {M : Type 1} → statement M
 count-spec =
