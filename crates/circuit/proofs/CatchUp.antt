@@ -17,7 +17,7 @@ use Rattle.circuit.specs.Table.{Table, Cell, Mark, unmarked, refresh, no
 use Rattle.circuit.specs.Machine.{work, lookUp, tell, clearCell, clearMark, stepCell, stepItem, orNext, lowestMarked, stepLowest, catchUpIn, catchUp, stepIf, stepMarked, sweepBelow, sweep}
 use Rattle.circuit.specs.Calls.{ask, perform, effect}
 use Rattle.circuit.specs.Words.{Quiet, CaughtUp, still, stepped}
-use Rattle.circuit.proofs.View.{view, result, strong, any-none, view-at}
+use Rattle.circuit.proofs.View.{never, view, result, strong, any-none, view-at}
 use Rattle.circuit.proofs.Fill.{upd-same, upd-other, Filling, stays, fills, Fill, look-right, work-right}
 use Rattle.circuit.proofs.Invariant.{Invariant}
 use Rattle.circuit.proofs.Tell.{step-kept}
@@ -52,7 +52,8 @@ unfolding lowestMarked
 lowest-some T k quiet marked zero l = absurd (omega arith)
 lowest-some T k quiet marked (suc n) l = go (eqb k n) refl (λ h. lowest-some T k quiet marked n h)
   where
-    go : (b : Bool) → eqb k n ≡ b → (k < n → lowestMarked T n ≡ some k) → orNext (lowestMarked T n) (isMarked (T n)) n ≡ some k
+    go : (b : Bool) → eqb k n ≡ b → (k < n → lowestMarked T n ≡ some k)
+        → orNext (lowestMarked T n) (isMarked (T n)) n ≡ some k
     go true e rest =
         let same : k ≡ n = eqb-true k n e in
         rw (← same, lowest-none T k quiet, marked)
@@ -66,9 +67,10 @@ unfolding lowestMarked
 none-quiet T zero e = λ j l. absurd (omega arith)
 none-quiet T (suc k) e = go (lowestMarked T k) (isMarked (T k)) refl refl e (λ h. none-quiet T k h)
   where
-    go : (o : Option ℕ) (b : Bool) → lowestMarked T k ≡ o → isMarked (T k) ≡ b → orNext o b k ≡ none → (lowestMarked T k ≡ none → QuietBelow T k) → QuietBelow T (suc k)
-    go (some i) b h m q rest = let z : _≡_ {A = ℕ} 0 1 = cc in absurd (omega arith)
-    go none true h m q rest = let z : _≡_ {A = ℕ} 0 1 = cc in absurd (omega arith)
+    go : (o : Option ℕ) (b : Bool) → lowestMarked T k ≡ o → isMarked (T k) ≡ b → orNext o b k ≡ none
+        → (lowestMarked T k ≡ none → QuietBelow T k) → QuietBelow T (suc k)
+    go (some i) b h m q rest = never (cc)
+    go none true h m q rest = never (cc)
     go none false h m q rest = λ j l. which j l (eqb j k) refl
       where
         which : (j : ℕ) → j < suc k → (b : Bool) → eqb j k ≡ b → isMarked (T j) ≡ false
@@ -79,15 +81,16 @@ none-quiet T (suc k) e = go (lowestMarked T k) (isMarked (T k)) refl refl e (λ 
 
 pub some-quiet : (T : Table) (k i : ℕ) → lowestMarked T k ≡ some i → QuietBelow T i
 unfolding lowestMarked
-some-quiet T zero i e = let z : _≡_ {A = ℕ} 0 1 = cc e in absurd (omega arith)
+some-quiet T zero i e = never (cc e)
 some-quiet T (suc k) i e = go (lowestMarked T k) (isMarked (T k)) refl e (λ h. some-quiet T k i h)
   where
-    go : (o : Option ℕ) (b : Bool) → lowestMarked T k ≡ o → orNext o b k ≡ some i → (lowestMarked T k ≡ some i → QuietBelow T i) → QuietBelow T i
+    go : (o : Option ℕ) (b : Bool) → lowestMarked T k ≡ o → orNext o b k ≡ some i
+        → (lowestMarked T k ≡ some i → QuietBelow T i) → QuietBelow T i
     go (some j) b h q rest = rest (h ∙ q)
     go none true h q rest =
         let here : k ≡ i = cc in
         rw (← here) (none-quiet T k h)
-    go none false h q rest = let z : _≡_ {A = ℕ} 0 1 = cc in absurd (omega arith)
+    go none false h q rest = never (cc)
 
 module _ (S : Sheet) (ordered : Ordered S) where
   -- below the lowest mark nothing is flagged
@@ -156,26 +159,29 @@ module _ (S : Sheet) (ordered : Ordered S) where
     where
       go : (c : Cell) → T i ≡ c → isMarked (stepCell S T i c i) ≡ false
       go (unk true) e = tell-clears T i
-      go (unk false) e = let z : _≡_ {A = ℕ} 0 1 = (let m : isNotice (markOf (unk false)) ≡ true = rw e at own in cc) in absurd (omega arith)
+      go (unk false) e = let m : isNotice (markOf (unk false)) ≡ true = rw e at own in never (cc)
       go (held v unmarked) e = rw e
       go (held v notice) e = tell-clears T i
-      go (held v refresh) e = let z : _≡_ {A = ℕ} 0 1 = (let m : isNotice (markOf (held v refresh)) ≡ true = rw e at own in cc) in absurd (omega arith)
+      go (held v refresh) e = let m : isNotice (markOf (held v refresh)) ≡ true = rw e at own in never (cc)
 
   -- what one step leaves at its item: no mark, or a stored value with notice
-  step-own : (T : Table) (i : ℕ) → isMarked (T i) ≡ true → (isMarked (stepItem S T i i) ≡ false) ⊎ ((v : Value) × (stepItem S T i i ≡ held v notice))
+  step-own : (T : Table) (i : ℕ) → isMarked (T i) ≡ true
+      → (isMarked (stepItem S T i i) ≡ false) ⊎ ((v : Value) × (stepItem S T i i ≡ held v notice))
   unfolding stepItem
   step-own T i marked = go (T i) refl
     where
-      go : (c : Cell) → T i ≡ c → (isMarked (stepCell S T i c i) ≡ false) ⊎ ((v : Value) × (stepCell S T i c i ≡ held v notice))
+      go : (c : Cell) → T i ≡ c
+          → (isMarked (stepCell S T i c i) ≡ false) ⊎ ((v : Value) × (stepCell S T i c i ≡ held v notice))
       go (unk true) e = inl (tell-clears T i)
-      go (unk false) e = let z : _≡_ {A = ℕ} 0 1 = (let m : isMarked (unk false) ≡ true = rw e at marked in cc) in absurd (omega arith)
-      go (held v unmarked) e = let z : _≡_ {A = ℕ} 0 1 = (let m : isMarked (held v unmarked) ≡ true = rw e at marked in cc) in absurd (omega arith)
+      go (unk false) e = let m : isMarked (unk false) ≡ true = rw e at marked in never (cc)
+      go (held v unmarked) e = let m : isMarked (held v unmarked) ≡ true = rw e at marked in never (cc)
       go (held v notice) e = inl (tell-clears T i)
       go (held v refresh) e =
           rw (upd-same (work S T i .table) i (cond (same v (work S T i .value)) (held v unmarked) (held (work S T i .value) notice)))
           (which (same v (work S T i .value)))
         where
-          which : (b : Bool) → (isMarked (cond b (held v unmarked) (held (work S T i .value) notice)) ≡ false) ⊎ ((w : Value) × (cond b (held v unmarked) (held (work S T i .value) notice) ≡ held w notice))
+          which : (b : Bool)
+              → (isMarked (cond b (held v unmarked) (held (work S T i .value) notice)) ≡ false) ⊎ ((w : Value) × (cond b (held v unmarked) (held (work S T i .value) notice) ≡ held w notice))
           which true = inl refl
           which false = inr (work S T i .value, refl)
 
@@ -186,7 +192,8 @@ module _ (S : Sheet) (ordered : Ordered S) where
     caught : catchUpIn (suc (suc fuel)) S T ≡ catchUpIn rest S (stepMarked S (stepMarked S T k) k)
     clear : isMarked (stepMarked S (stepMarked S T k) k k) ≡ false
 
-  catch-step : (T : Table) (k fuel : ℕ) → k < size S → QuietBelow T k → isMarked (T k) ≡ true → catchUpIn (suc fuel) S T ≡ catchUpIn fuel S (stepItem S T k)
+  catch-step : (T : Table) (k fuel : ℕ) → k < size S → QuietBelow T k → isMarked (T k) ≡ true
+      → catchUpIn (suc fuel) S T ≡ catchUpIn fuel S (stepItem S T k)
   unfolding catchUpIn
   catch-step T k fuel low quiet marked = rw (lowest-some T k quiet marked (size S) low)
 
@@ -292,7 +299,9 @@ module _ (S : Sheet) (ordered : Ordered S) where
   unfolding catchUp catchUpIn
   catchUp-ends T = within (2 * size S) T (catchUp-quiet T)
     where
-      byLowest : (fuel : ℕ) (U : Table) (o : Option ℕ) → ((X : Table) → Quiet S (catchUpIn fuel S X) → CaughtUp S X (catchUpIn fuel S X)) → lowestMarked U (size S) ≡ o → Quiet S (stepLowest (catchUpIn fuel S) S U o) → CaughtUp S U (stepLowest (catchUpIn fuel S) S U o)
+      byLowest : (fuel : ℕ) (U : Table) (o : Option ℕ)
+          → ((X : Table) → Quiet S (catchUpIn fuel S X) → CaughtUp S X (catchUpIn fuel S X)) → lowestMarked U (size S) ≡ o
+          → Quiet S (stepLowest (catchUpIn fuel S) S U o) → CaughtUp S U (stepLowest (catchUpIn fuel S) S U o)
       byLowest fuel U none rest e quiet = still e
       byLowest fuel U (some i) rest e quiet = stepped i e (rest (stepItem S U i) quiet)
 
@@ -306,5 +315,6 @@ module _ (S : Sheet) (ordered : Ordered S) where
   asked-quiet T i e =
       rw (accepted-effect S T (ask i) (number-cause S T (ask i) e)) (look-quiet (catchUp S T) i (catchUp-quiet T))
 
-  pub asked-still : (T : Table) (i : ℕ) → perform S T (ask i) .number ≡ 0 → catchUp S (perform S T (ask i) .table) ≡ perform S T (ask i) .table
+  pub asked-still : (T : Table) (i : ℕ) → perform S T (ask i) .number ≡ 0
+      → catchUp S (perform S T (ask i) .table) ≡ perform S T (ask i) .table
   asked-still T i e = catchUp-still (perform S T (ask i) .table) (asked-quiet T i e)

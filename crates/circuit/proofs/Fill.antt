@@ -16,7 +16,8 @@ use Rattle.circuit.specs.Circuit.{Listed}
 use Rattle.circuit.specs.Sheet.{Sheet, Item, entry, figure, itemAt, isFigure, keptOf, parents, evaluate, Ordered}
 use Rattle.circuit.specs.Table.{Table, Cell, unk, held, upd, isNotice, noticeIf}
 use Rattle.circuit.specs.Machine.{Looked, Gathered, gather, workOut, storeIf, flagged, lookCell, lookFor, lookUp, work, keepCell, keepFigure}
-use Rattle.circuit.proofs.View.{Seen, anyFlag, seenCell, view, result, any-ext, values-ext, worked-ext, view-is, view-at, view-unique}
+use Rattle.circuit.proofs.Solution.{map-listed}
+use Rattle.circuit.proofs.View.{never, Seen, anyFlag, seenCell, view, result, any-ext, worked-ext, view-is, view-at, view-unique}
 
 -- a store, read at its item and at another
 pub upd-same : (T : Table) (i : ℕ) (c : Cell) → upd T i c i ≡ c
@@ -26,7 +27,8 @@ pub upd-other : (T : Table) (i : ℕ) (c : Cell) (j : ℕ) → (j ≡ i → ⊥)
 upd-other T i c j h = rw (ne-eqb j i h)
 
 -- what holds of a store's cells: a property of the new cell at i, and of the old ones elsewhere
-pub upd-cases : (P : ℕ → Cell → Type 0) (T : Table) (i : ℕ) (c : Cell) → P i c → ((j : ℕ) → (j ≡ i → ⊥) → P j (T j)) → (j : ℕ) → P j (upd T i c j)
+pub upd-cases : (P : ℕ → Cell → Type 0) (T : Table) (i : ℕ) (c : Cell) → P i c → ((j : ℕ) → (j ≡ i → ⊥) → P j (T j))
+    → (j : ℕ) → P j (upd T i c j)
 upd-cases P T i c here other j = go (eqb j i) refl
   where
     go : (b : Bool) → eqb j i ≡ b → P j (cond b c (T j))
@@ -40,7 +42,8 @@ notice-is false = refl
 -- what may become of the cell of j in a fill
 pub data Filling (S : Sheet) (T : Table) (j : ℕ) (c : Cell) : Type 0 where
   stays : c ≡ T j → Filling S T j c
-  fills : (f : Bool) → isFigure (itemAt S j) ≡ true → T j ≡ unk f → c ≡ held (view S T j .value) (noticeIf (view S T j .flag)) → Filling S T j c
+  fills : (f : Bool) → isFigure (itemAt S j) ≡ true → T j ≡ unk f
+      → c ≡ held (view S T j .value) (noticeIf (view S T j .flag)) → Filling S T j c
 
 -- U is a fill of T
 abbrev pub Fill : Sheet → Table → Table → Type 0
@@ -93,13 +96,14 @@ module _ (S : Sheet) (ordered : Ordered S) where
       go (stays e) (fills f k u h) = fills f k (cc) (rw same at h)
       go (fills f k u h) (stays e) = fills f k u (cc)
       go (fills f k u h) (fills g l v e) =
-          let z : _≡_ {A = ℕ} 0 1 = cc in absurd (omega arith)
+          never (cc)
 
   -- A look-up that is right for all items below b, on every table.
   abbrev Right : (Table → ℕ → Looked) → ℕ → Type 0
   Right look b = (T : Table) (p : ℕ) → p < b → Looks S T (view S T p) (look T p)
 
-  gather-right : (look : Table → ℕ → Looked) (b : ℕ) → Right look b → (ps : List ℕ) (T : Table) → ((p : ℕ) → Listed p ps → p < b) → Gathers S T ps (gather look T ps)
+  gather-right : (look : Table → ℕ → Looked) (b : ℕ) → Right look b → (ps : List ℕ) (T : Table)
+      → ((p : ℕ) → Listed p ps → p < b) → Gathers S T ps (gather look T ps)
   unfolding gather
   gather-right look b right [] T low = record { values = refl; flag = refl; fill = fill-refl S T }
   gather-right look b right (p ∷ ps) T low =
@@ -110,12 +114,13 @@ module _ (S : Sheet) (ordered : Ordered S) where
       record {
         values =
             ap₂ _∷_ (r .value)
-            (g .values ∙ values-ext (λ q. view S U q .value) (λ q. view S T q .value) ps (λ q l. ap (λ s. s .value) (same q)));
+            (g .values ∙ map-listed ps (λ q l. ap (λ s. s .value) (same q)));
         flag = ap₂ _||_ (r .flag) (g .flag ∙ any-ext (view S U) (view S T) ps (λ q l. same q));
         fill = fill-trans T U (gather look U ps .table) (r .fill) (g .fill);
       }
 
-  workOut-right : (look : Table → ℕ → Looked) (b : ℕ) → Right look b → (T : Table) (i : ℕ) → i ≤ b → Looks S T (result S T i) (workOut look S T i)
+  workOut-right : (look : Table → ℕ → Looked) (b : ℕ) → Right look b → (T : Table) (i : ℕ) → i ≤ b
+      → Looks S T (result S T i) (workOut look S T i)
   unfolding workOut
   workOut-right look b right T i l =
       let g : Gathers S T (parents S i) (gather look T (parents S i))
@@ -123,10 +128,12 @@ module _ (S : Sheet) (ordered : Ordered S) where
       record { value = ap (evaluate (itemAt S i) null) (g .values); flag = g .flag; fill = g .fill }
 
   -- a result is stored in an unstored figure
-  store-fill : (T U : Table) (i : ℕ) (f : Bool) (c : Cell) → isFigure (itemAt S i) ≡ true → T i ≡ unk f → c ≡ held (view S T i .value) (noticeIf (view S T i .flag)) → Fill S T U → Fill S T (upd U i c)
+  store-fill : (T U : Table) (i : ℕ) (f : Bool) (c : Cell) → isFigure (itemAt S i) ≡ true → T i ≡ unk f
+      → c ≡ held (view S T i .value) (noticeIf (view S T i .flag)) → Fill S T U → Fill S T (upd U i c)
   store-fill T U i f c k e h fill = upd-cases (Filling S T) U i c (fills f k e h) (λ j n. fill j)
 
-  lookCell-right : (look : Table → ℕ → Looked) (b : ℕ) → Right look b → (T : Table) (i : ℕ) → i ≤ b → Looks S T (view S T i) (lookCell look S T i (T i))
+  lookCell-right : (look : Table → ℕ → Looked) (b : ℕ) → Right look b → (T : Table) (i : ℕ) → i ≤ b
+      → Looks S T (view S T i) (lookCell look S T i (T i))
   lookCell-right look b right T i l = go (T i) refl
     where
       r : Looked
@@ -187,13 +194,15 @@ module _ (S : Sheet) (ordered : Ordered S) where
           store-fill T (lookUp S T i .table) i f (held (lookUp S T i .value) (noticeIf (lookUp S T i .flag))) k e (rw (r .value, r .flag)) (r .fill)
 
   -- the bound on the depth plays no part
-  gather-ext : (look find : Table → ℕ → Looked) (ps : List ℕ) → ((T : Table) (p : ℕ) → Listed p ps → look T p ≡ find T p) → (T : Table) → gather look T ps ≡ gather find T ps
+  gather-ext : (look find : Table → ℕ → Looked) (ps : List ℕ) → ((T : Table) (p : ℕ) → Listed p ps → look T p ≡ find T p)
+      → (T : Table) → gather look T ps ≡ gather find T ps
   unfolding gather
   gather-ext look find [] h T = refl
   gather-ext look find (p ∷ ps) h T =
       rw (h T p (inl refl), gather-ext look find ps (λ U q l. h U q (inr l)) (find T p .table))
 
-  lookCell-ext : (look find : Table → ℕ → Looked) (T : Table) (i : ℕ) (c : Cell) → ((U : Table) (p : ℕ) → p < i → look U p ≡ find U p) → lookCell look S T i c ≡ lookCell find S T i c
+  lookCell-ext : (look find : Table → ℕ → Looked) (T : Table) (i : ℕ) (c : Cell)
+      → ((U : Table) (p : ℕ) → p < i → look U p ≡ find U p) → lookCell look S T i c ≡ lookCell find S T i c
   unfolding workOut
   lookCell-ext look find T i (held v m) h = refl
   lookCell-ext look find T i (unk f) h =

@@ -3,7 +3,6 @@
 -- which every view is as it was or is flagged. Fills, postings, drops and the step of a refresh are of that kind. Both
 -- openings have the invariant. Assumes that the sheet is ordered, where it says so.
 use Prim.Native.Nat.{ℕ, _<_}
-use native.Mathlib.Omega.{arith}
 use mathlib.Core.Path.{_≡_, refl, sym, ap, _∙_}
 use mathlib.Core.Logic.{_⊎_, inl, inr}
 use mathlib.Core.Bool.{Bool, true, false, cond, _||_, or-true}
@@ -14,7 +13,7 @@ use Rattle.circuit.specs.Sheet.{Sheet, Item, entry, figure, itemAt, isFi
 use Rattle.circuit.specs.Table.{Table, Cell, Mark, unmarked, refresh, notice, unk, held, upd, isNotice, noticeIf, bareCell, openBare, openFull}
 use Rattle.circuit.specs.Machine.{Looked, work, postCell, storePosting, dropCell, dropFigure, renewed}
 use Rattle.circuit.proofs.RuleLaws.{same-true, all-null, allNull-map}
-use Rattle.circuit.proofs.View.{Seen, seen, anyFlag, worked, seenCell, view, result, strong, worked-ext, view-is, view-at}
+use Rattle.circuit.proofs.View.{never, Seen, seen, anyFlag, worked, seenCell, view, result, strong, worked-ext, view-is, view-at}
 use Rattle.circuit.proofs.Fill.{upd-cases, notice-is, Filling, stays, fills, Fill, Looks, work-right}
 
 -- why figure k may hold v with mark m
@@ -31,11 +30,13 @@ abbrev pub Drift : Sheet → Table → Table → Type 0
 Drift S T U = (i : ℕ) → (view S U i ≡ view S T i) ⊎ (view S U i .flag ≡ true)
 
 -- the same of the items of a list, and of what is worked out from them
-list-drift : (w x : ℕ → Seen) (ps : List ℕ) → ((p : ℕ) → Listed p ps → (w p ≡ x p) ⊎ (w p .flag ≡ true)) → ((p : ℕ) → Listed p ps → w p ≡ x p) ⊎ (anyFlag w ps ≡ true)
+list-drift : (w x : ℕ → Seen) (ps : List ℕ) → ((p : ℕ) → Listed p ps → (w p ≡ x p) ⊎ (w p .flag ≡ true))
+    → ((p : ℕ) → Listed p ps → w p ≡ x p) ⊎ (anyFlag w ps ≡ true)
 list-drift w x [] h = inl (λ p l. absurd l)
 list-drift w x (q ∷ ps) h = go (h q (inl refl)) (list-drift w x ps (λ p l. h p (inr l)))
   where
-    go : (w q ≡ x q) ⊎ (w q .flag ≡ true) → ((p : ℕ) → Listed p ps → w p ≡ x p) ⊎ (anyFlag w ps ≡ true) → ((p : ℕ) → Listed p (q ∷ ps) → w p ≡ x p) ⊎ (anyFlag w (q ∷ ps) ≡ true)
+    go : (w q ≡ x q) ⊎ (w q .flag ≡ true) → ((p : ℕ) → Listed p ps → w p ≡ x p) ⊎ (anyFlag w ps ≡ true)
+        → ((p : ℕ) → Listed p (q ∷ ps) → w p ≡ x p) ⊎ (anyFlag w (q ∷ ps) ≡ true)
     go (inr e) rest = inr (rw e)
     go (inl e) (inr f) = inr (rw f (or-true (w q .flag)))
     go (inl e) (inl all) = inl each
@@ -44,20 +45,24 @@ list-drift w x (q ∷ ps) h = go (h q (inl refl)) (list-drift w x ps (λ p l. h 
         each p (inl h) = rw h e
         each p (inr l) = all p l
 
-worked-drift : (w x : ℕ → Seen) (it : Item) → ((p : ℕ) → Listed p (parentsOf it) → (w p ≡ x p) ⊎ (w p .flag ≡ true)) → (worked w it ≡ worked x it) ⊎ (worked w it .flag ≡ true)
+worked-drift : (w x : ℕ → Seen) (it : Item) → ((p : ℕ) → Listed p (parentsOf it) → (w p ≡ x p) ⊎ (w p .flag ≡ true))
+    → (worked w it ≡ worked x it) ⊎ (worked w it .flag ≡ true)
 worked-drift w x it h = go (list-drift w x (parentsOf it) h)
   where
-    go : ((p : ℕ) → Listed p (parentsOf it) → w p ≡ x p) ⊎ (anyFlag w (parentsOf it) ≡ true) → (worked w it ≡ worked x it) ⊎ (worked w it .flag ≡ true)
+    go : ((p : ℕ) → Listed p (parentsOf it) → w p ≡ x p) ⊎ (anyFlag w (parentsOf it) ≡ true)
+        → (worked w it ≡ worked x it) ⊎ (worked w it .flag ≡ true)
     go (inl all) = inl (worked-ext w x it all)
     go (inr f) = inr f
 
-cell-drift : (w x : ℕ → Seen) (it : Item) (c : Cell) → (worked w it ≡ worked x it) ⊎ (worked w it .flag ≡ true) → (seenCell w it c ≡ seenCell x it c) ⊎ (seenCell w it c .flag ≡ true)
+cell-drift : (w x : ℕ → Seen) (it : Item) (c : Cell) → (worked w it ≡ worked x it) ⊎ (worked w it .flag ≡ true)
+    → (seenCell w it c ≡ seenCell x it c) ⊎ (seenCell w it c .flag ≡ true)
 cell-drift w x it (held v m) h = inl refl
 cell-drift w x it (unk f) (inl e) = inl (ap (λ r. seen (r .value) (r .flag || f)) e)
 cell-drift w x it (unk f) (inr e) = inr (rw e)
 
 -- what a drift leaves justified
-pub justified-drift : (S : Sheet) (T U : Table) → Drift S T U → {k : ℕ} {v : Value} {m : Mark} → Justified S T k v m → Justified S U k v m
+pub justified-drift : (S : Sheet) (T U : Table) → Drift S T U → {k : ℕ} {v : Value} {m : Mark} → Justified S T k v m
+    → Justified S U k v m
 justified-drift S T U drift {k} {v} {m} why = go (worked-drift (view S U) (view S T) (itemAt S k) (λ p l. drift p)) why
   where
     go : (result S U k ≡ result S T k) ⊎ (result S U k .flag ≡ true) → Justified S T k v m → Justified S U k v m
@@ -72,7 +77,8 @@ justified-drift S T U drift {k} {v} {m} why = go (worked-drift (view S U) (view 
 pub data Change (S : Sheet) (T : Table) (j : ℕ) (c : Cell) : Type 0 where
   unchanged : c ≡ T j → Change S T j c
   filled : (f : Bool) → T j ≡ unk f → c ≡ held (view S T j .value) (noticeIf (view S T j .flag)) → Change S T j c
-  remarked : (v : Value) (m n : Mark) → T j ≡ held v m → c ≡ held v n → isNotice n ≡ isNotice m → (isFigure (itemAt S j) ≡ true → Justified S T j v n) → Change S T j c
+  remarked : (v : Value) (m n : Mark) → T j ≡ held v m → c ≡ held v n → isNotice n ≡ isNotice m
+      → (isFigure (itemAt S j) ≡ true → Justified S T j v n) → Change S T j c
   noticed : c ≡ unk true → Change S T j c
   stored : (v : Value) → c ≡ held v notice → (isFigure (itemAt S j) ≡ true → v ≡ result S T j .value) → Change S T j c
   dropped : (v : Value) → isFigure (itemAt S j) ≡ true → T j ≡ held v unmarked → c ≡ unk false → Change S T j c
@@ -82,7 +88,8 @@ Changes S T U = (j : ℕ) → Change S T j (U j)
 
 module _ (S : Sheet) (ordered : Ordered S) where
   -- a dropped figure gives what it held, or is flagged
-  drop-drift : (T U : Table) (i : ℕ) (v : Value) → Justified S T i v unmarked → T i ≡ held v unmarked → U i ≡ unk false → (result S U i ≡ result S T i) ⊎ (result S U i .flag ≡ true) → (view S U i ≡ view S T i) ⊎ (view S U i .flag ≡ true)
+  drop-drift : (T U : Table) (i : ℕ) (v : Value) → Justified S T i v unmarked → T i ≡ held v unmarked → U i ≡ unk false
+      → (result S U i ≡ result S T i) ⊎ (result S U i .flag ≡ true) → (view S U i ≡ view S T i) ⊎ (view S U i .flag ≡ true)
   drop-drift T U i v why e h parents = go why parents
     where
       now : view S U i ≡ seen (result S U i .value) (result S U i .flag || false)
@@ -94,14 +101,16 @@ module _ (S : Sheet) (ordered : Ordered S) where
       flagged : result S U i .flag ≡ true → view S U i .flag ≡ true
       flagged f = ap (λ s. s .flag) now ∙ rw f
 
-      plain : v ≡ result S U i .value → (b : Bool) → result S U i .flag ≡ b → (view S U i ≡ view S T i) ⊎ (view S U i .flag ≡ true)
+      plain : v ≡ result S U i .value → (b : Bool) → result S U i .flag ≡ b
+          → (view S U i ≡ view S T i) ⊎ (view S U i .flag ≡ true)
       plain q true f = inr (flagged f)
       plain q false f = inl (now ∙ (rw (f, q)) ∙ sym then)
 
-      go : Justified S T i v unmarked → (result S U i ≡ result S T i) ⊎ (result S U i .flag ≡ true) → (view S U i ≡ view S T i) ⊎ (view S U i .flag ≡ true)
+      go : Justified S T i v unmarked → (result S U i ≡ result S T i) ⊎ (result S U i .flag ≡ true)
+          → (view S U i ≡ view S T i) ⊎ (view S U i .flag ≡ true)
       go (exact q) (inl r) = plain (q ∙ sym (ap (λ s. s .value) r)) (result S U i .flag) refl
       go (exact q) (inr f) = inr (flagged f)
-      go (due q) r = let z : _≡_ {A = ℕ} 0 1 = cc in absurd (omega arith)
+      go (due q) r = never (cc)
       go (awaits q) (inl r) = inr (flagged (ap (λ s. s .flag) r ∙ q))
       go (awaits q) (inr f) = inr (flagged f)
 
@@ -109,7 +118,8 @@ module _ (S : Sheet) (ordered : Ordered S) where
   pub changes-drift : (T U : Table) → Invariant S T → Changes S T U → Drift S T U
   changes-drift T U invariant changes = strong (λ i. (view S U i ≡ view S T i) ⊎ (view S U i .flag ≡ true)) rise
     where
-      rise : (i : ℕ) → ((p : ℕ) → p < i → (view S U p ≡ view S T p) ⊎ (view S U p .flag ≡ true)) → (view S U i ≡ view S T i) ⊎ (view S U i .flag ≡ true)
+      rise : (i : ℕ) → ((p : ℕ) → p < i → (view S U p ≡ view S T p) ⊎ (view S U p .flag ≡ true))
+          → (view S U i ≡ view S T i) ⊎ (view S U i .flag ≡ true)
       rise i lower = go (changes i)
         where
           it : Item
@@ -143,12 +153,12 @@ module _ (S : Sheet) (ordered : Ordered S) where
           let sameValue : w ≡ v = cc in
           let sameMark : n ≡ m = cc in
           rw (← sameValue, ← sameMark) (why fig)
-      go (noticed h) = let z : _≡_ {A = ℕ} 0 1 = cc in absurd (omega arith)
+      go (noticed h) = never (cc)
       go (stored w h q) = exact (value ∙ q fig)
         where
           value : v ≡ w
           value = cc
-      go (dropped w j q h) = let z : _≡_ {A = ℕ} 0 1 = cc in absurd (omega arith)
+      go (dropped w j q h) = never (cc)
 
   -- a fill
   pub fill-changes : (T U : Table) → Fill S T U → Changes S T U
@@ -163,7 +173,8 @@ module _ (S : Sheet) (ordered : Ordered S) where
   store-changes T U i c fill change = upd-cases (Change S T) U i c change (λ j n. fill-changes T U fill j)
 
   -- a stored item worked out anew, from mark m to n, where the two are notice or neither is
-  pub renewed-changes : (T : Table) (i : ℕ) (v : Value) (m n : Mark) → T i ≡ held v m → isNotice n ≡ isNotice m → Changes S T (renewed i v n (work S T i))
+  pub renewed-changes : (T : Table) (i : ℕ) (v : Value) (m n : Mark) → T i ≡ held v m → isNotice n ≡ isNotice m
+      → Changes S T (renewed i v n (work S T i))
   renewed-changes T i v m n e q = store-changes T (r .table) i _ (right .fill) (go (same v (r .value)) refl)
     where
       r : Looked
@@ -181,16 +192,16 @@ module _ (S : Sheet) (ordered : Ordered S) where
   unfolding storePosting
   post-changes T i v k = store-changes T T i _ (λ j. stays refl) (go (T i) refl)
     where
-      never : isFigure (itemAt S i) ≡ true → v ≡ result S T i .value
-      never f = let z : _≡_ {A = ℕ} 0 1 = cc in absurd (omega arith)
+      noFigure : isFigure (itemAt S i) ≡ true → v ≡ result S T i .value
+      noFigure f = never (cc)
 
       go : (c : Cell) → T i ≡ c → Change S T i (postCell c v)
-      go (unk f) e = stored v refl never
+      go (unk f) e = stored v refl noFigure
       go (held w m) e = which (same w v)
         where
           which : (b : Bool) → Change S T i (cond b (held w m) (held v notice))
           which true = unchanged (sym e)
-          which false = stored v refl never
+          which false = stored v refl noFigure
 
   -- a figure dropped
   pub drop-changes : (T : Table) (i : ℕ) → isFigure (itemAt S i) ≡ true → Changes S T (dropFigure T i)
@@ -208,8 +219,8 @@ pub bare-invariant : (S : Sheet) → Invariant S (openBare S)
 bare-invariant S k fig v m e = go (itemAt S k) fig e
   where
     go : (it : Item) → isFigure it ≡ true → bareCell it ≡ held v m → Justified S (openBare S) k v m
-    go entry f e = let z : _≡_ {A = ℕ} 0 1 = cc in absurd (omega arith)
-    go (figure op kept spread ps) f e = let z : _≡_ {A = ℕ} 0 1 = cc in absurd (omega arith)
+    go entry f e = never (cc)
+    go (figure op kept spread ps) f e = never (cc)
 
 pub full-invariant : (S : Sheet) → Ordered S → Invariant S (openFull S)
 full-invariant S ordered k fig v m e = exact (value ∙ go (itemAt S k) fig)
@@ -221,7 +232,7 @@ full-invariant S ordered k fig v m e = exact (value ∙ go (itemAt S k) fig)
     value = cc
 
     go : (it : Item) → isFigure it ≡ true → null ≡ worked (view S T) it .value
-    go entry f = let z : _≡_ {A = ℕ} 0 1 = cc in absurd (omega arith)
+    go entry f = never (cc)
     go (figure op kept spread ps) f =
         sym (all-null op (map (λ p. view S T p .value) ps)
         (allNull-map (λ p. view S T p .value) (λ p. ap (λ s. s .value) (view-is S ordered T p)) ps))

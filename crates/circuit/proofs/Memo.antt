@@ -29,7 +29,8 @@ Remembered S T j v f = lookUp S T j ≡ looked T v f
 -- Why a look-up changes nothing: the item is stored, or is not kept and nothing changes at its parents.
 data Settled (S : Sheet) (T : Table) : ℕ → Type 0 where
   stored : {i : ℕ} (v : Value) (m : Mark) → T i ≡ held v m → Settled S T i
-  passing : {i : ℕ} (f : Bool) → T i ≡ unk f → keptOf (itemAt S i) ≡ false → ((p : ℕ) → Listed p (parents S i) → Settled S T p) → Settled S T i
+  passing : {i : ℕ} (f : Bool) → T i ≡ unk f → keptOf (itemAt S i) ≡ false
+      → ((p : ℕ) → Listed p (parents S i) → Settled S T p) → Settled S T i
 
 looked-path : (r : Looked) {T : Table} {v : Value} {f : Bool} → r .table ≡ T → r .value ≡ v → r .flag ≡ f → r ≡ looked T v f
 looked-path r p q s = λ i. record { table = p i; value = q i; flag = s i }
@@ -72,7 +73,8 @@ module _ (S : Sheet) (ordered : Ordered S) where
       (λ p m. settled-store T c x (omega (arith, ordered j p m)) (h p m))
 
   -- where the parents are settled, gathering them changes nothing
-  gather-still : (T : Table) (ps : List ℕ) → ((p : ℕ) → Listed p ps → lookUp S T p .table ≡ T) → gather (lookUp S) T ps .table ≡ T
+  gather-still : (T : Table) (ps : List ℕ) → ((p : ℕ) → Listed p ps → lookUp S T p .table ≡ T)
+      → gather (lookUp S) T ps .table ≡ T
   unfolding gather
   gather-still T [] h = refl
   gather-still T (p ∷ ps) h =
@@ -92,7 +94,8 @@ module _ (S : Sheet) (ordered : Ordered S) where
       fill-trans S ordered T (lookUp S T p .table) (gather (lookUp S) (lookUp S T p .table) ps .table)
       (look-right S ordered T p .fill) (gather-fill (lookUp S T p .table) ps)
 
-  gather-settled : (ps : List ℕ) → ((p : ℕ) → Listed p ps → (T : Table) → Settled S (lookUp S T p .table) p) → (T : Table) (p : ℕ) → Listed p ps → Settled S (gather (lookUp S) T ps .table) p
+  gather-settled : (ps : List ℕ) → ((p : ℕ) → Listed p ps → (T : Table) → Settled S (lookUp S T p .table) p)
+      → (T : Table) (p : ℕ) → Listed p ps → Settled S (gather (lookUp S) T ps .table) p
   unfolding gather
   gather-settled [] h T p l = absurd l
   gather-settled (q ∷ ps) h T p (inl e) =
@@ -106,7 +109,8 @@ module _ (S : Sheet) (ordered : Ordered S) where
   unfolding workOut
   look-settled = strong (λ i. (T : Table) → Settled S (lookUp S T i .table) i) rise
     where
-      rise : (i : ℕ) → ((p : ℕ) → p < i → (T : Table) → Settled S (lookUp S T p .table) p) → (T : Table) → Settled S (lookUp S T i .table) i
+      rise : (i : ℕ) → ((p : ℕ) → p < i → (T : Table) → Settled S (lookUp S T p .table) p) → (T : Table)
+          → Settled S (lookUp S T i .table) i
       rise i lower T = rw (lookUp-is S ordered T i) (go (T i) refl)
         where
           G : Table
@@ -117,7 +121,8 @@ module _ (S : Sheet) (ordered : Ordered S) where
               passing f (q ∙ e) k (gather-settled (parents S i) (λ p l. lower p (ordered i p l)) T)
           unkept f e k (fills g l q h) = stored _ _ h
 
-          which : (f b : Bool) → T i ≡ unk f → keptOf (itemAt S i) ≡ b → Settled S (storeIf b i (flagged f (workOut (lookUp S) S T i)) .table) i
+          which : (f b : Bool) → T i ≡ unk f → keptOf (itemAt S i) ≡ b
+              → Settled S (storeIf b i (flagged f (workOut (lookUp S) S T i)) .table) i
           which f true e k = stored _ _ (upd-same G i _)
           which f false e k = unkept f e k (gather-fill T (parents S i) i)
 
@@ -126,7 +131,8 @@ module _ (S : Sheet) (ordered : Ordered S) where
           go (unk f) e = which f (keptOf (itemAt S i)) e refl
 
   -- what is settled is remembered, with the view's value and flag
-  settled-remembered : (T : Table) (j : ℕ) (v : Value) (f : Bool) → view S T j .value ≡ v → view S T j .flag ≡ f → Settled S T j → Remembered S T j v f
+  settled-remembered : (T : Table) (j : ℕ) (v : Value) (f : Bool) → view S T j .value ≡ v → view S T j .flag ≡ f
+      → Settled S T j → Remembered S T j v f
   settled-remembered T j v f p q settled =
       let r : Looks S T (view S T j) (lookUp S T j) = look-right S ordered T j in
       looked-path (lookUp S T j) (settled-still T settled) (r .value ∙ p) (r .flag ∙ q)
@@ -156,40 +162,48 @@ module _ (S : Sheet) (ordered : Ordered S) where
       (ap (λ s. s .value) same ∙ remembered-value T j v f e) (ap (λ s. s .flag) same ∙ remembered-flag T j v f e)
       (settled-fill S T U fill (remembered-settled T j v f e))
 
-  pub remember-look : (T : Table) (i j : ℕ) (v : Value) (f : Bool) → Remembered S T j v f → Remembered S (lookUp S T i .table) j v f
+  pub remember-look : (T : Table) (i j : ℕ) (v : Value) (f : Bool) → Remembered S T j v f
+      → Remembered S (lookUp S T i .table) j v f
   remember-look T i j v f e = remember-fill T (lookUp S T i .table) j v f (look-right S ordered T i .fill) e
 
-  pub remember-work : (T : Table) (i j : ℕ) (v : Value) (f : Bool) → Remembered S T j v f → Remembered S (work S T i .table) j v f
+  pub remember-work : (T : Table) (i j : ℕ) (v : Value) (f : Bool) → Remembered S T j v f
+      → Remembered S (work S T i .table) j v f
   remember-work T i j v f e = remember-fill T (work S T i .table) j v f (work-right S ordered T i .fill) e
 
   -- and after a store at a higher item
-  pub remember-store : (T : Table) (c : ℕ) (x : Cell) (j : ℕ) (v : Value) (f : Bool) → j < c → Remembered S T j v f → Remembered S (upd T c x) j v f
+  pub remember-store : (T : Table) (c : ℕ) (x : Cell) (j : ℕ) (v : Value) (f : Bool) → j < c → Remembered S T j v f
+      → Remembered S (upd T c x) j v f
   remember-store T c x j v f l e =
       let same = view-below S ordered (upd T c x) T c (λ k m. upd-other T c x k (λ q. omega arith)) j l in
       settled-remembered (upd T c x) j v f
       (ap (λ s. s .value) same ∙ remembered-value T j v f e) (ap (λ s. s .flag) same ∙ remembered-flag T j v f e)
       (settled-store T c x l (remembered-settled T j v f e))
 
-  gather-store : (look : Table → ℕ → Looked) (c : ℕ) (x : Cell) → (ps : List ℕ) → ((T : Table) (p : ℕ) → Listed p ps → look (upd T c x) p ≡ beside c x (look T p)) → (T : Table) → gather look (upd T c x) ps ≡ gathered (upd (gather look T ps .table) c x) (gather look T ps .values) (gather look T ps .flag)
+  gather-store : (look : Table → ℕ → Looked) (c : ℕ) (x : Cell) → (ps : List ℕ)
+      → ((T : Table) (p : ℕ) → Listed p ps → look (upd T c x) p ≡ beside c x (look T p)) → (T : Table)
+      → gather look (upd T c x) ps ≡ gathered (upd (gather look T ps .table) c x) (gather look T ps .values) (gather look T ps .flag)
   unfolding gather
   gather-store look c x [] h T = refl
   gather-store look c x (p ∷ ps) h T =
       rw (h T p (inl refl), gather-store look c x ps (λ U q l. h U q (inr l)) (look T p .table))
 
-  lookFor-store : (fuel c : ℕ) (x : Cell) (T : Table) (j : ℕ) → j < c → lookFor fuel S (upd T c x) j ≡ beside c x (lookFor fuel S T j)
+  lookFor-store : (fuel c : ℕ) (x : Cell) (T : Table) (j : ℕ) → j < c
+      → lookFor fuel S (upd T c x) j ≡ beside c x (lookFor fuel S T j)
   unfolding lookFor workOut
   lookFor-store zero c x T j l = refl
   lookFor-store (suc fuel) c x T j l =
       rw (upd-other T c x j (λ q. omega arith)) (go (T j) (λ U p m. lookFor-store fuel c x U p m))
     where
-      go : (d : Cell) → ((U : Table) (p : ℕ) → p < c → lookFor fuel S (upd U c x) p ≡ beside c x (lookFor fuel S U p)) → lookCell (lookFor fuel S) S (upd T c x) j d ≡ beside c x (lookCell (lookFor fuel S) S T j d)
+      go : (d : Cell) → ((U : Table) (p : ℕ) → p < c → lookFor fuel S (upd U c x) p ≡ beside c x (lookFor fuel S U p))
+          → lookCell (lookFor fuel S) S (upd T c x) j d ≡ beside c x (lookCell (lookFor fuel S) S T j d)
       go (held v m) h = refl
       go (unk f) h = which (keptOf (itemAt S j))
         where
           all : gather (lookFor fuel S) (upd T c x) (parents S j) ≡ gathered (upd (gather (lookFor fuel S) T (parents S j) .table) c x) (gather (lookFor fuel S) T (parents S j) .values) (gather (lookFor fuel S) T (parents S j) .flag)
           all = gather-store (lookFor fuel S) c x (parents S j) (λ U p m. h U p (omega (arith, ordered j p m))) T
 
-          which : (b : Bool) → storeIf b j (flagged f (workOut (lookFor fuel S) S (upd T c x) j)) ≡ beside c x (storeIf b j (flagged f (workOut (lookFor fuel S) S T j)))
+          which : (b : Bool)
+              → storeIf b j (flagged f (workOut (lookFor fuel S) S (upd T c x) j)) ≡ beside c x (storeIf b j (flagged f (workOut (lookFor fuel S) S T j)))
           which false = rw all
           which true =
               let r : Looked = flagged f (workOut (lookFor fuel S) S T j) in
@@ -209,7 +223,8 @@ module _ (S : Sheet) (ordered : Ordered S) where
       rw (gather-store (lookUp S) c x (parents S j) (λ U p m. look-store U c x p (omega (arith, ordered j p m))) T)
 
   -- an ask that is repeated gives the same answer and changes nothing
-  pub asked-again : (T : Table) (i : ℕ) → perform S T (ask i) .number ≡ 0 → perform S (perform S T (ask i) .table) (ask i) ≡ perform S T (ask i)
+  pub asked-again : (T : Table) (i : ℕ) → perform S T (ask i) .number ≡ 0
+      → perform S (perform S T (ask i) .table) (ask i) ≡ perform S T (ask i)
   unfolding effect tests
   asked-again T i e =
       rw first (accepted-effect S A (ask i) (number-cause S T (ask i) e) ∙ (rw caught (ap readingOf (remember C i))))

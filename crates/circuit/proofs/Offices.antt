@@ -38,7 +38,8 @@ pub hear-made : (S : Sheet) (E : Entries) (T : Table) (c : Call) → hear S E (c
 unfolding hear entered made perform tests firstCause effect
 hear-made S E T (post i kind z) = go (beyond S i) (isFigure (itemAt S i)) (postedValue kind z)
   where
-    go : (b f : Bool) (o : Option Value) → cond (b || f) E (setIf E i o) ≡ entered E (ifAccepted (unless (cond b 11 (cond f 12 (cond (isNone o) 13 0))) S T (post i kind z) .number) (postingOf i o))
+    go : (b f : Bool) (o : Option Value)
+        → cond (b || f) E (setIf E i o) ≡ entered E (ifAccepted (unless (cond b 11 (cond f 12 (cond (isNone o) 13 0))) S T (post i kind z) .number) (postingOf i o))
     go true f o = refl
     go false true o = refl
     go false false none = refl
@@ -58,7 +59,8 @@ fresh-entered S (c ∷ cs) E T =
     ∙ sym (entered-append (made S T c) (postings S (perform S T c .table) cs) E)
 
 -- an ask of a sound table is answered as the fresh office answers
-pub ask-answers : (S : Sheet) → Ordered S → (E : Entries) (T : Table) → Sound S E T → (i : ℕ) → Answers (freshAsk S E i) (perform S T (ask i))
+pub ask-answers : (S : Sheet) → Ordered S → (E : Entries) (T : Table) → Sound S E T → (i : ℕ)
+    → Answers (freshAsk S E i) (perform S T (ask i))
 unfolding freshAsk perform tests firstCause effect
 ask-answers S ordered E T sound i = go (beyond S i) refl
   where
@@ -83,7 +85,8 @@ same-reading none o q h k = h .1 ∙ sym (k .1)
 same-reading (some v) o q h k = h .1 ∙ sym (k .1)
 
 -- Two offices agree.
-pub two-offices : (S : Sheet) → Ordered S → (E : Entries) (T : Table) (cs : List Call) (U : Table) (ds : List Call) → Sound S E T → Sound S E U → postings S T cs ≡ postings S U ds → Agree S E T cs U ds
+pub two-offices : (S : Sheet) → Ordered S → (E : Entries) (T : Table) (cs : List Call) (U : Table) (ds : List Call)
+    → Sound S E T → Sound S E U → postings S T cs ≡ postings S U ds → Agree S E T cs U ds
 two-offices S ordered E T cs U ds soundT soundU same =
     record {
       numbers = λ i. same-number (freshAsk S (freshRun S E ds) i) (perform S (run S T cs) (ask i)) (perform S (run S U ds) (ask i)) (second i) (other i);
@@ -109,6 +112,7 @@ opened-sound S ordered bare = bare-sound S
 opened-sound S ordered full = full-sound S ordered
 
 -- the four pairs of openings
-pub two-openings : (S : Sheet) → Ordered S → (a b : Opening) (cs ds : List Call) → postings S (opened a S) cs ≡ postings S (opened b S) ds → Agree S blank (opened a S) cs (opened b S) ds
+pub two-openings : (S : Sheet) → Ordered S → (a b : Opening) (cs ds : List Call)
+    → postings S (opened a S) cs ≡ postings S (opened b S) ds → Agree S blank (opened a S) cs (opened b S) ds
 two-openings S ordered a b cs ds same =
     two-offices S ordered blank (opened a S) cs (opened b S) ds (opened-sound S ordered a) (opened-sound S ordered b) same

@@ -12,7 +12,8 @@ use Rattle.circuit.specs.Sheet.{Sheet, Item, entry, figure, size, itemAt
 use Rattle.circuit.specs.Table.{Table, Cell, Mark, refresh, unk, held, isMarked, valueIn, isStored, cellForm}
 use Rattle.circuit.specs.Machine.{lookUp}
 use Rattle.circuit.specs.Words.{Formed, Quiet, Holds, Bare}
-use Rattle.circuit.proofs.View.{view, result, strong, any-none, values-ext, view-at}
+use Rattle.circuit.proofs.Solution.{map-listed}
+use Rattle.circuit.proofs.View.{never, view, result, strong, any-none, view-at}
 use Rattle.circuit.proofs.Fill.{look-right}
 use Rattle.circuit.proofs.Invariant.{Justified, exact, due, awaits, Invariant}
 use Rattle.circuit.proofs.CatchUp.{quiet-flag}
@@ -29,36 +30,38 @@ module _ (S : Sheet) (ordered : Ordered S) where
       go : Justified S T k v m → v ≡ result S T k .value
       go (exact q) = q
       go (due q) =
-          let z : _≡_ {A = ℕ} 0 1 = (let s : isMarked (held v refresh) ≡ false = rw (e, q) at (quiet k l) in cc) in
-          absurd (omega arith)
+          let s : isMarked (held v refresh) ≡ false = rw (e, q) at (quiet k l) in never (cc)
       go (awaits f) =
           let n : result S T k .flag ≡ false
           = any-none (view S T) (parents S k) (λ p o. quiet-flag S ordered T (size S) quiet p (omega (arith, ordered k p o))) in
-          let z : _≡_ {A = ℕ} 0 1 = cc in
-          absurd (omega arith)
+          never (cc)
 
 module _ (S : Sheet) (ordered : Ordered S) (E : Entries) (values : ℕ → Value) (solves : IsSolution (circuitOf S ordered E) values) where
   -- then every look-up gives the solution
-  pub exact-solution : (T : Table) → Formed S T → Holds S T E → Exact S T → (i : ℕ) → i < size S → view S T i .value ≡ values i
+  pub exact-solution : (T : Table) → Formed S T → Holds S T E → Exact S T → (i : ℕ) → i < size S
+      → view S T i .value ≡ values i
   exact-solution T formed holds exactly = strong (λ i. i < size S → view S T i .value ≡ values i) rise
     where
-      rise : (i : ℕ) → ((p : ℕ) → p < i → p < size S → view S T p .value ≡ values p) → i < size S → view S T i .value ≡ values i
+      rise : (i : ℕ) → ((p : ℕ) → p < i → p < size S → view S T p .value ≡ values p) → i < size S
+          → view S T i .value ≡ values i
       rise i lower low = byItem (isFigure (itemAt S i)) refl
         where
           parentsGiven : map (λ p. view S T p .value) (parents S i) ≡ map values (parents S i)
           parentsGiven =
-              values-ext (λ p. view S T p .value) values (parents S i)
+              map-listed (parents S i)
               (λ p m. let o : p < i = ordered i p m in lower p o (omega arith))
 
           -- an entry has the value that it holds
-          atEntry : (it : Item) (c : Cell) → isFigure it ≡ false → T i ≡ c → cellForm it c ≡ true → valueIn c ≡ E i → values i ≡ evaluate it (E i) (map values (parentsOf it)) → view S T i .value ≡ values i
-          atEntry entry (unk f) k e form h s = let z : _≡_ {A = ℕ} 0 1 = cc in absurd (omega arith)
+          atEntry : (it : Item) (c : Cell) → isFigure it ≡ false → T i ≡ c → cellForm it c ≡ true → valueIn c ≡ E i
+              → values i ≡ evaluate it (E i) (map values (parentsOf it)) → view S T i .value ≡ values i
+          atEntry entry (unk f) k e form h s = never (cc)
           atEntry entry (held v m) k e form h s = ap (λ s. s .value) (view-at S ordered T i e) ∙ h ∙ sym s
-          atEntry (figure op kept spread ps) c k e form h s = let z : _≡_ {A = ℕ} 0 1 = cc in absurd (omega arith)
+          atEntry (figure op kept spread ps) c k e form h s = never (cc)
 
           -- a figure has what its rule gives
-          ruled : (it : Item) → isFigure it ≡ true → evaluate it null (map values (parentsOf it)) ≡ evaluate it (E i) (map values (parentsOf it))
-          ruled entry k = let z : _≡_ {A = ℕ} 0 1 = cc in absurd (omega arith)
+          ruled : (it : Item) → isFigure it ≡ true
+              → evaluate it null (map values (parentsOf it)) ≡ evaluate it (E i) (map values (parentsOf it))
+          ruled entry k = never (cc)
           ruled (figure op kept spread ps) k = refl
 
           given : isFigure (itemAt S i) ≡ true → result S T i .value ≡ values i
@@ -78,10 +81,10 @@ module _ (S : Sheet) (ordered : Ordered S) (E : Entries) (values : ℕ → Value
     where
       none : Exact S T
       none k l fig v m e =
-          let z : _≡_ {A = ℕ} 0 1 = (let s : isStored (held v m) ≡ false = rw e at (bare k l fig) in cc) in
-          absurd (omega arith)
+          let s : isStored (held v m) ≡ false = rw e at (bare k l fig) in never (cc)
 
   -- with the invariant and no mark too
-  pub quiet-look : (T : Table) → Invariant S T → Formed S T → Holds S T E → Quiet S T → (i : ℕ) → i < size S → lookUp S T i .value ≡ values i
+  pub quiet-look : (T : Table) → Invariant S T → Formed S T → Holds S T E → Quiet S T → (i : ℕ) → i < size S
+      → lookUp S T i .value ≡ values i
   quiet-look T invariant formed holds quiet i low =
       look-right S ordered T i .value ∙ exact-solution T formed holds (quiet-exact S ordered T invariant quiet) i low

@@ -2,7 +2,6 @@
 -- what the fresh office holds that heard the same calls. Both openings are sound. Assumes that the sheet is ordered,
 -- where it says so.
 use Prim.Native.Nat.{ℕ, zero, suc, _<_}
-use native.Mathlib.Omega.{arith}
 use mathlib.Core.Path.{_≡_, refl, sym, subst, _∙_}
 use mathlib.Core.Bool.{Bool, true, false, cond, _||_}
 use mathlib.Core.List.{List, [], _∷_}
@@ -18,6 +17,7 @@ use Rattle.circuit.specs.Calls.{Call, post, keep, drop, step, ask, tests
 use Rattle.circuit.specs.Fresh.{called, blank, setEntry, setIf, hear, hearAll, freshRun}
 use Rattle.circuit.specs.Words.{Formed, Holds}
 use Rattle.circuit.proofs.RuleLaws.{same-true}
+use Rattle.circuit.proofs.View.{never}
 use Rattle.circuit.proofs.Fill.{upd-other, upd-cases, Filling, stays, fills, Fill, look-right, work-right, keep-fill}
 use Rattle.circuit.proofs.Invariant.{Invariant, changes-kept, fill-changes, post-changes, drop-changes, bare-invariant, full-invariant}
 use Rattle.circuit.proofs.Tell.{step-kept}
@@ -42,19 +42,20 @@ kept-cleared (unk f) form = (form, refl)
 kept-cleared (held v m) form = (refl, refl)
 
 figure-form : (it : Item) (c : Cell) → isFigure it ≡ true → cellForm it c ≡ true
-figure-form entry c e = let z : _≡_ {A = ℕ} 0 1 = cc in absurd (omega arith)
+figure-form entry c e = never (cc)
 figure-form (figure op kept spread ps) c e = refl
 
 entry-form : (it : Item) (c : Cell) → isFigure it ≡ false → cellForm it c ≡ entryForm c
 entry-form entry c e = refl
-entry-form (figure op kept spread ps) c e = let z : _≡_ {A = ℕ} 0 1 = cc in absurd (omega arith)
+entry-form (figure op kept spread ps) c e = never (cc)
 
 parent-figure : (it : Item) (p : ℕ) → Listed p (parentsOf it) → isFigure it ≡ true
 parent-figure entry p l = absurd l
 parent-figure (figure op kept spread ps) p l = refl
 
 -- entries that are kept keep the rest
-entries-kept : (S : Sheet) (E : Entries) (T U : Table) → Sound S E T → Invariant S U → ((j : ℕ) → isFigure (itemAt S j) ≡ false → EntryKept (T j) (U j)) → Sound S E U
+entries-kept : (S : Sheet) (E : Entries) (T U : Table) → Sound S E T → Invariant S U
+    → ((j : ℕ) → isFigure (itemAt S j) ≡ false → EntryKept (T j) (U j)) → Sound S E U
 entries-kept S E T U sound invariant kept =
     record { invariant = invariant; formed = formedAt; holds = λ j l e. both j l e .1 ∙ sound .holds j l e }
   where
@@ -74,14 +75,15 @@ fill-entry S T U fill j e = go (fill j)
   where
     go : Filling S T j (U j) → U j ≡ T j
     go (stays q) = q
-    go (fills f k q h) = let z : _≡_ {A = ℕ} 0 1 = cc in absurd (omega arith)
+    go (fills f k q h) = never (cc)
 
 -- a store at a figure changes no entry
-figure-entry : (S : Sheet) (T : Table) (i : ℕ) (c : Cell) → isFigure (itemAt S i) ≡ true → (j : ℕ) → isFigure (itemAt S j) ≡ false → upd T i c j ≡ T j
+figure-entry : (S : Sheet) (T : Table) (i : ℕ) (c : Cell) → isFigure (itemAt S i) ≡ true → (j : ℕ)
+    → isFigure (itemAt S j) ≡ false → upd T i c j ≡ T j
 figure-entry S T i c k j e = upd-other T i c j differ
   where
     differ : j ≡ i → ⊥
-    differ q = let z : _≡_ {A = ℕ} 0 1 = (let r : isFigure (itemAt S i) ≡ false = rw q at e in cc) in omega arith
+    differ q = let r : isFigure (itemAt S i) ≡ false = rw q at e in never (cc)
 
 module _ (S : Sheet) (ordered : Ordered S) (E : Entries) where
   pub fill-sound : (T U : Table) → Fill S T U → Sound S E T → Sound S E U
@@ -118,14 +120,14 @@ module _ (S : Sheet) (ordered : Ordered S) (E : Entries) where
       go (held v unmarked) e = kept-same (T j) (T j) refl
       go (held v notice) e = told
       go (held v refresh) e =
-          upd-cases (λ q c. isFigure (itemAt S q) ≡ false → EntryKept (T q) c) (work S T i .table) i _ never
+          upd-cases (λ q c. isFigure (itemAt S q) ≡ false → EntryKept (T q) c) (work S T i .table) i _ unformed
           (λ q n o. kept-same (T q) (work S T i .table q) (fill-entry S T (work S T i .table) (work-right S ordered T i .fill) q o))
           j k
         where
-          never : isFigure (itemAt S i) ≡ false → EntryKept (T i) (cond (same v (work S T i .value)) (held v unmarked) (held (work S T i .value) notice))
-          never o form =
-              let z : _≡_ {A = ℕ} 0 1 = (let r : entryForm (held v refresh) ≡ true = rw e at form in cc) in
-              absurd (omega arith)
+          unformed : isFigure (itemAt S i) ≡ false
+              → EntryKept (T i) (cond (same v (work S T i .value)) (held v unmarked) (held (work S T i .value) notice))
+          unformed o form =
+              let r : entryForm (held v refresh) ≡ true = rw e at form in never (cc)
 
   pub step-sound : (T : Table) (i : ℕ) → Sound S E T → Sound S E (stepItem S T i)
   step-sound T i sound =
@@ -142,7 +144,8 @@ module _ (S : Sheet) (ordered : Ordered S) (E : Entries) where
       (λ j e. kept-same (T j) (dropFigure T i j) (figure-entry S T i _ k j e))
 
   -- A posting sets the entry's value.
-  pub post-sound : (T : Table) (i : ℕ) (v : Value) → isFigure (itemAt S i) ≡ false → Sound S E T → Sound S (setEntry E i v) (storePosting T i v)
+  pub post-sound : (T : Table) (i : ℕ) (v : Value) → isFigure (itemAt S i) ≡ false → Sound S E T
+      → Sound S (setEntry E i v) (storePosting T i v)
   unfolding storePosting
   post-sound T i v k sound =
       record {
@@ -172,7 +175,8 @@ module _ (S : Sheet) (ordered : Ordered S) (E : Entries) where
           entry-form (itemAt S i) (postCell (T i) v) k
           ∙ shaped (T i) (sym (entry-form (itemAt S i) (T i) k) ∙ sound .formed i l)
 
-      holdsAt : (j : ℕ) → j < size S → isFigure (itemAt S j) ≡ false → valueIn (upd T i (postCell (T i) v) j) ≡ setEntry E i v j
+      holdsAt : (j : ℕ) → j < size S → isFigure (itemAt S j) ≡ false
+          → valueIn (upd T i (postCell (T i) v) j) ≡ setEntry E i v j
       holdsAt j l e = go (eqb j i)
         where
           go : (b : Bool) → valueIn (cond b (postCell (T i) v) (T j)) ≡ cond b v (E j)
@@ -180,18 +184,21 @@ module _ (S : Sheet) (ordered : Ordered S) (E : Entries) where
           go false = sound .holds j l e
 
   -- a post, refused or not
-  post-heard : (T : Table) (i kind : ℕ) (z : ℤ) → Sound S E T → Sound S (hear S E (called (post i kind z))) (perform S T (post i kind z) .table)
+  post-heard : (T : Table) (i kind : ℕ) (z : ℤ) → Sound S E T
+      → Sound S (hear S E (called (post i kind z))) (perform S T (post i kind z) .table)
   unfolding perform tests firstCause effect hear
   post-heard T i kind z sound = go (beyond S i) (isFigure (itemAt S i)) (postedValue kind z) refl refl
     where
-      go : (b f : Bool) (o : Option Value) → isFigure (itemAt S i) ≡ f → postedValue kind z ≡ o → Sound S (cond (b || f) E (setIf E i o)) (unless (cond b 11 (cond f 12 (cond (isNone o) 13 0))) S T (post i kind z) .table)
+      go : (b f : Bool) (o : Option Value) → isFigure (itemAt S i) ≡ f → postedValue kind z ≡ o
+          → Sound S (cond (b || f) E (setIf E i o)) (unless (cond b 11 (cond f 12 (cond (isNone o) 13 0))) S T (post i kind z) .table)
       go true f o e h = sound
       go false true o e h = sound
       go false false none e h = sound
       go false false (some v) e h = rw h (post-sound T i v e sound)
 
   -- the other calls, refused or not: the fresh office hears nothing in them
-  heard : (T : Table) (c : Call) → Sound S E T → (firstCause (tests S T c) ≡ 0 → Sound S E (effect S T c .table)) → Sound S E (perform S T c .table)
+  heard : (T : Table) (c : Call) → Sound S E T → (firstCause (tests S T c) ≡ 0 → Sound S E (effect S T c .table))
+      → Sound S E (perform S T c .table)
   unfolding perform
   heard T c sound accepted = go (firstCause (tests S T c)) refl
     where
@@ -212,7 +219,8 @@ module _ (S : Sheet) (ordered : Ordered S) (E : Entries) where
       (λ e. fill-sound (catchUp S T) (lookUp S (catchUp S T) i .table) (look-right S ordered (catchUp S T) i .fill) (catchUp-sound T sound))
 
 -- and so does every list of calls
-pub run-sound : (S : Sheet) → Ordered S → (cs : List Call) (E : Entries) (T : Table) → Sound S E T → Sound S (freshRun S E cs) (run S T cs)
+pub run-sound : (S : Sheet) → Ordered S → (cs : List Call) (E : Entries) (T : Table) → Sound S E T
+    → Sound S (freshRun S E cs) (run S T cs)
 unfolding hearAll run
 run-sound S ordered [] E T sound = sound
 run-sound S ordered (c ∷ cs) E T sound =

@@ -16,8 +16,9 @@ use Rattle.circuit.specs.Circuit.{Listed}
 use Rattle.circuit.specs.Sheet.{Sheet, Item, entry, Spread, defer, renew, forget, size, itemAt, parentsOf, parents, spreadOf, member, isChild, evaluate, Ordered}
 use Rattle.circuit.specs.Table.{Table, Cell, Mark, unmarked, refresh, notice, unk, held, upd, isNotice, noticeIf, markOf}
 use Rattle.circuit.specs.Machine.{Looked, work, renewed, refreshCleared, tellStored, tellCell, tellChild, tellIf, tellBelow, tell, clearCell, clearMark, stepCell, stepItem}
+use Rattle.circuit.proofs.Solution.{map-listed}
 use Rattle.circuit.proofs.RuleLaws.{same-true}
-use Rattle.circuit.proofs.View.{Seen, Flagged, seenCell, view, result, strong, any-true, any-find, values-ext, view-is, view-at, result-below}
+use Rattle.circuit.proofs.View.{never, Seen, Flagged, seenCell, view, result, strong, any-true, any-find, view-is, view-at, result-below}
 use Rattle.circuit.proofs.Fill.{upd-same, upd-other, notice-is, Filling, stays, fills, Fill, fill-refl, fill-result, Looks, work-right}
 use Rattle.circuit.proofs.Invariant.{Justified, exact, due, awaits, Invariant, Change, remarked, noticed, changes-kept, store-changes, renewed-changes}
 use Rattle.circuit.proofs.Closure.{member-listed}
@@ -57,7 +58,8 @@ cleared-notice refresh = refl
 cleared-notice notice = refl
 
 module _ (S : Sheet) (ordered : Ordered S) where
-  renews-one : (T : Table) (c : ℕ) (v : Value) (m n : Mark) → T c ≡ held v m → isNotice n ≡ isNotice m → TellsOne S T c (renewed c v n (work S T c))
+  renews-one : (T : Table) (c : ℕ) (v : Value) (m n : Mark) → T c ≡ held v m → isNotice n ≡ isNotice m
+      → TellsOne S T c (renewed c v n (work S T c))
   renews-one T c v m n e q =
       record {
         between = r .table;
@@ -78,7 +80,8 @@ module _ (S : Sheet) (ordered : Ordered S) where
       go true h = current v n refl (same-true v (r .value) h ∙ right .value)
       go false h = current (r .value) notice refl (right .value)
 
-  defers-one : (T : Table) (c : ℕ) (v : Value) (m : Mark) → T c ≡ held v m → isNotice m ≡ false → TellsOne S T c (upd T c (held v refresh))
+  defers-one : (T : Table) (c : ℕ) (v : Value) (m : Mark) → T c ≡ held v m → isNotice m ≡ false
+      → TellsOne S T c (upd T c (held v refresh))
   defers-one T c v m e q =
       record { between = T; cell = held v refresh; fill = fill-refl S T; change = remarked v m refresh e refl (sym q) (λ k. due refl); told = refreshed v refl; after = refl }
 
@@ -119,7 +122,8 @@ module _ (S : Sheet) (ordered : Ordered S) where
       current (view S T c .value) (noticeIf (view S T c .flag)) h (ap (λ s. s .value) (view-at S ordered T c e))
 
   -- and a notice stays a notice
-  notice-filled : (T F : Table) (i : ℕ) → Filling S T i (F i) → isNotice (markOf (T i)) ≡ true → isNotice (markOf (F i)) ≡ true
+  notice-filled : (T F : Table) (i : ℕ) → Filling S T i (F i) → isNotice (markOf (T i)) ≡ true
+      → isNotice (markOf (F i)) ≡ true
   notice-filled T F i (stays e) n = rw e n
   notice-filled T F i (fills f k e h) n =
       let own : f ≡ true = sym (notice-is f) ∙ (rw e at n) in
@@ -175,7 +179,8 @@ module _ (S : Sheet) (ordered : Ordered S) where
   telling i T kept own zero = record { kept = kept; told = λ c l m. absurd (omega arith); own = own }
   telling i T kept own (suc k) = go (isChild S i k) refl (telling i T kept own k)
     where
-      go : (b : Bool) → isChild S i k ≡ b → Telling i (tellBelow S i T k) k → Telling i (tellIf b S (tellBelow S i T k) k) (suc k)
+      go : (b : Bool) → isChild S i k ≡ b → Telling i (tellBelow S i T k) k
+          → Telling i (tellIf b S (tellBelow S i T k) k) (suc k)
       go true e before = tell-next i (tellBelow S i T k) k (member-listed i (parents S k) e) before
       go false e before = record { kept = before .kept; told = toldAt; own = before .own }
         where
@@ -185,8 +190,7 @@ module _ (S : Sheet) (ordered : Ordered S) where
               which : (b : Bool) → eqb c k ≡ b → Told S (tellBelow S i T k) c (tellBelow S i T k c)
               which true q =
                   let child : isChild S i k ≡ true = rw (eqb-true c k q) at (listed-member i (parents S c) listed) in
-                  let z : _≡_ {A = ℕ} 0 1 = cc in
-                  absurd (omega arith)
+                  never (cc)
               which false q =
                   let other : c ≢ k = eqb-false c k q in
                   before .told c (omega arith) listed
@@ -204,13 +208,14 @@ module _ (S : Sheet) (ordered : Ordered S) where
   clear-other U i j h = upd-other U i (clearCell (U i)) j h
 
   -- a cell's value, with its mark or without it, by the parents' values
-  value-cell : (w x : ℕ → Seen) (it : Item) (c d : Cell) → (d ≡ c) ⊎ (d ≡ clearCell c) → ((p : ℕ) → Listed p (parentsOf it) → w p .value ≡ x p .value) → seenCell w it d .value ≡ seenCell x it c .value
+  value-cell : (w x : ℕ → Seen) (it : Item) (c d : Cell) → (d ≡ c) ⊎ (d ≡ clearCell c)
+      → ((p : ℕ) → Listed p (parentsOf it) → w p .value ≡ x p .value) → seenCell w it d .value ≡ seenCell x it c .value
   value-cell w x it (held v m) d (inl e) h = rw e
   value-cell w x it (held v m) d (inr e) h = rw e
   value-cell w x it (unk f) d (inl e) h =
-      rw e (ap (evaluate it null) (values-ext (λ p. w p .value) (λ p. x p .value) (parentsOf it) h))
+      rw e (ap (evaluate it null) (map-listed (parentsOf it) h))
   value-cell w x it (unk f) d (inr e) h =
-      rw e (ap (evaluate it null) (values-ext (λ p. w p .value) (λ p. x p .value) (parentsOf it) h))
+      rw e (ap (evaluate it null) (map-listed (parentsOf it) h))
 
   -- clearing a mark changes no value
   pub clear-value : (U : Table) (i p : ℕ) → view S (clearMark U i) p .value ≡ view S U p .value
@@ -231,16 +236,18 @@ module _ (S : Sheet) (ordered : Ordered S) where
   clear-result : (U : Table) (i k : ℕ) → result S (clearMark U i) k .value ≡ result S U k .value
   clear-result U i k =
       ap (evaluate (itemAt S k) null)
-      (values-ext (λ p. view S (clearMark U i) p .value) (λ p. view S U p .value) (parents S k) (λ p l. clear-value U i p))
+      (map-listed (parents S k) (λ p l. clear-value U i p))
 
   -- where every child has been told, it changes no flag but the item's own
-  clear-flag : (U : Table) (i : ℕ) → ((c : ℕ) → Listed i (parents S c) → Told S U c (U c)) → (p : ℕ) → view S U p .flag ≡ true → (p ≡ i) ⊎ (view S (clearMark U i) p .flag ≡ true)
+  clear-flag : (U : Table) (i : ℕ) → ((c : ℕ) → Listed i (parents S c) → Told S U c (U c)) → (p : ℕ)
+      → view S U p .flag ≡ true → (p ≡ i) ⊎ (view S (clearMark U i) p .flag ≡ true)
   clear-flag U i told = strong (λ p. view S U p .flag ≡ true → (p ≡ i) ⊎ (view S X p .flag ≡ true)) rise
     where
       X : Table
       X = clearMark U i
 
-      rise : (p : ℕ) → ((q : ℕ) → q < p → view S U q .flag ≡ true → (q ≡ i) ⊎ (view S X q .flag ≡ true)) → view S U p .flag ≡ true → (p ≡ i) ⊎ (view S X p .flag ≡ true)
+      rise : (p : ℕ) → ((q : ℕ) → q < p → view S U q .flag ≡ true → (q ≡ i) ⊎ (view S X q .flag ≡ true))
+          → view S U p .flag ≡ true → (p ≡ i) ⊎ (view S X p .flag ≡ true)
       rise p lower flag = which (eqb p i) refl
         where
           which : (b : Bool) → eqb p i ≡ b → (p ≡ i) ⊎ (view S X p .flag ≡ true)
@@ -255,12 +262,12 @@ module _ (S : Sheet) (ordered : Ordered S) where
                 where
                   by : (r .item ≡ i) ⊎ (view S X (r .item) .flag ≡ true) → result S X p .flag ≡ true
                   by (inr f) = any-true (view S X) (r .item) (parents S p) (r .listed) f
-                  by (inl q) = never (told p (rw q at (r .listed)))
+                  by (inl q) = stored (told p (rw q at (r .listed)))
                     where
-                      never : Told S U p (U p) → result S X p .flag ≡ true
-                      never (waiting t) = let z : _≡_ {A = ℕ} 0 1 = cc in absurd (omega arith)
-                      never (refreshed v t) = let z : _≡_ {A = ℕ} 0 1 = cc in absurd (omega arith)
-                      never (current v m t o) = let z : _≡_ {A = ℕ} 0 1 = cc in absurd (omega arith)
+                      stored : Told S U p (U p) → result S X p .flag ≡ true
+                      stored (waiting t) = never (cc)
+                      stored (refreshed v t) = never (cc)
+                      stored (current v m t o) = never (cc)
 
               go : (c : Cell) → U p ≡ c → view S X p .flag ≡ true
               go (held v m) h =
@@ -275,7 +282,8 @@ module _ (S : Sheet) (ordered : Ordered S) where
                   ∙ through (any-find (view S U) (parents S p) f) h
 
   -- so it keeps the invariant
-  clear-kept : (U : Table) (i : ℕ) → Invariant S U → isNotice (markOf (U i)) ≡ true → ((c : ℕ) → Listed i (parents S c) → Told S U c (U c)) → Invariant S (clearMark U i)
+  clear-kept : (U : Table) (i : ℕ) → Invariant S U → isNotice (markOf (U i)) ≡ true
+      → ((c : ℕ) → Listed i (parents S c) → Told S U c (U c)) → Invariant S (clearMark U i)
   clear-kept U i kept own told k fig v m e = which (eqb k i) refl
     where
       X : Table
@@ -293,7 +301,7 @@ module _ (S : Sheet) (ordered : Ordered S) where
           by (inr g) = inr (any-true (view S X) (r .item) (parents S k) (r .listed) g)
 
       toldWhy : U k ≡ held v m → Told S U k (U k) → Justified S X k v m
-      toldWhy h (waiting t) = let z : _≡_ {A = ℕ} 0 1 = cc in absurd (omega arith)
+      toldWhy h (waiting t) = never (cc)
       toldWhy h (refreshed w t) = due (cc)
       toldWhy h (current w n t q) = exact (value ∙ q ∙ sym (clear-result U i k))
         where
@@ -311,7 +319,7 @@ module _ (S : Sheet) (ordered : Ordered S) where
 
       ownWhy : (n : Mark) → isNotice n ≡ true → k ≡ i → Justified S U k v n → Justified S X k v m
       ownWhy n o q (exact r) = exact (r ∙ sym (clear-result U i k))
-      ownWhy n o q (due r) = let z : _≡_ {A = ℕ} 0 1 = (let t : isNotice refresh ≡ true = rw r at o in cc) in absurd (omega arith)
+      ownWhy n o q (due r) = let t : isNotice refresh ≡ true = rw r at o in never (cc)
       ownWhy n o q (awaits f) = by (parentFlag f)
         where
           by : Listed i (parents S k) ⊎ (result S X k .flag ≡ true) → Justified S X k v m
@@ -319,7 +327,7 @@ module _ (S : Sheet) (ordered : Ordered S) where
           by (inr g) = awaits g
 
       ownCell : (c : Cell) → U k ≡ c → clearCell c ≡ held v m → k ≡ i → Justified S X k v m
-      ownCell (unk f) h g q = let z : _≡_ {A = ℕ} 0 1 = cc in absurd (omega arith)
+      ownCell (unk f) h g q = never (cc)
       ownCell (held w n) h g q =
           let value : w ≡ v = cc in
           ownWhy n (rw (h) at (rw (← q) at own)) q (kept k fig v n (rw value at h))

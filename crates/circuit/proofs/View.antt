@@ -13,6 +13,11 @@ use Rattle.circuit.specs.Value.{Value, null}
 use Rattle.circuit.specs.Circuit.{Listed}
 use Rattle.circuit.specs.Sheet.{Sheet, Item, itemAt, parentsOf, evaluate, Ordered}
 use Rattle.circuit.specs.Table.{Table, Cell, unk, held, isNotice}
+use Rattle.circuit.proofs.Solution.{map-listed}
+
+-- where the equations at hand contradict each other, `cc` proves this one
+pub never : {A : Type 0} → _≡_ {A = ℕ} 0 1 → A
+never e = absurd (omega arith)
 
 -- the value that a look-up gives, and its flag
 pub record Seen : Type 0 where
@@ -69,7 +74,7 @@ pub record Flagged (w : ℕ → Seen) (ps : List ℕ) : Type 0 where
   pub flagged : w item .flag ≡ true
 
 pub any-find : (w : ℕ → Seen) (ps : List ℕ) → anyFlag w ps ≡ true → Flagged w ps
-any-find w [] e = let z : _≡_ {A = ℕ} 0 1 = cc e in absurd (omega arith)
+any-find w [] e = never (cc e)
 any-find w (q ∷ ps) e = go (w q .flag) refl (λ h. any-find w ps h)
   where
     go : (b : Bool) → w q .flag ≡ b → (anyFlag w ps ≡ true → Flagged w ps) → Flagged w (q ∷ ps)
@@ -86,18 +91,15 @@ pub any-ext : (w x : ℕ → Seen) (ps : List ℕ) → ((p : ℕ) → Listed p p
 any-ext w x [] h = refl
 any-ext w x (q ∷ ps) h = rw (h q (inl refl), any-ext w x ps (λ p l. h p (inr l)))
 
-pub values-ext : (w x : ℕ → Value) (ps : List ℕ) → ((p : ℕ) → Listed p ps → w p ≡ x p) → map w ps ≡ map x ps
-values-ext w x [] h = refl
-values-ext w x (q ∷ ps) h = rw (h q (inl refl), values-ext w x ps (λ p l. h p (inr l)))
-
 -- what is worked out depends on the parents' views only
 pub worked-ext : (w x : ℕ → Seen) (it : Item) → ((p : ℕ) → Listed p (parentsOf it) → w p ≡ x p) → worked w it ≡ worked x it
 worked-ext w x it h =
     let e : map (λ p. w p .value) (parentsOf it) ≡ map (λ p. x p .value) (parentsOf it)
-    = values-ext (λ p. w p .value) (λ p. x p .value) (parentsOf it) (λ p l. ap (λ s. s .value) (h p l)) in
+    = map-listed (parentsOf it) (λ p l. ap (λ s. s .value) (h p l)) in
     rw (e, any-ext w x (parentsOf it) h)
 
-pub cell-ext : (w x : ℕ → Seen) (it : Item) (c : Cell) → ((p : ℕ) → Listed p (parentsOf it) → w p ≡ x p) → seenCell w it c ≡ seenCell x it c
+pub cell-ext : (w x : ℕ → Seen) (it : Item) (c : Cell) → ((p : ℕ) → Listed p (parentsOf it) → w p ≡ x p)
+    → seenCell w it c ≡ seenCell x it c
 cell-ext w x it (held v m) h = refl
 cell-ext w x it (unk f) h = ap (λ r. seen (r .value) (r .flag || f)) (worked-ext w x it h)
 
