@@ -13,9 +13,9 @@ use Rattle.circuit.specs.Sheet.{Sheet, size}
 use Rattle.circuit.specs.Table.{Table}
 use Rattle.circuit.specs.Machine.{looked, lookUp}
 use Rattle.value.specs.Meaning.{meaning, ofParts}
-use Rattle.engine.specs.declared.Seen.{Seen}
-use Rattle.engine.specs.declared.Recall.{Recall}
-use Rattle.engine.specs.declared.Recall.the-variants.{Known, Unknown}
+use Rattle.engine.specs.declared.memo.Seen.{Seen}
+use Rattle.engine.specs.declared.memo.Recall.{Recall}
+use Rattle.engine.specs.declared.memo.Recall.the-variants.{Known, Unknown}
 
 -- what a look-up gives: a value, and whether it is flagged
 pub record Found : Type 0 where

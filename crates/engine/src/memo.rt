@@ -32,7 +32,7 @@ fn value_of(kind: u64, number: i64) -> Value
 }
 
 // What is remembered of item i.
-pub fn recall(tags: &[u64], numbers: &[i64], generation: u64, i: usize) -> Recall
+pub fn recalled(tags: &[u64], numbers: &[i64], generation: u64, i: usize) -> Recall
     requires { ⌜ i < length (now tags) ⌝ ∗ ⌜ i < length (now numbers) ⌝ }
     ensures { λ r. ⌜ recallMeaning r ≡ remembered (now (tags .entry)) (now (numbers .entry)) generation i ⌝ }
 {
