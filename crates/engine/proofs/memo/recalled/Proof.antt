@@ -1,3 +1,5 @@
+use Rattle.engine.proofs.Recalling.{forgotten, recalls}
+use mathlib.Core.Path.{sym}
 use borrow.Author.Needs.{needs}
 use Rattle.engine.proofs.memo.recalled.Statement.{statement}
 use Rattle.engine.proofs.memo.recalled.Tie as tie
@@ -15,7 +17,7 @@ shared-slice-read-tag c = search needs
 
 -- src/memo.rt:41:9
 returns : tie.Need-returns
-returns c = ?
+returns c = let a = c .before .before .before .args in sym (forgotten (a .tags .now) (a .numbers .now) (a .generation) (a .i) (c .if1 .taken))
 
 -- src/memo.rt:44:18
 mul-number : tie.Need-mul-number
@@ -31,7 +33,7 @@ value-of-requires c κs = search needs
 
 -- src/memo.rt:35:1
 returns-2 : tie.Need-returns-2
-returns-2 c = ?
+returns-2 c = let a = c .before .before .before .before .before .args in recalls (a .tags .now) (a .numbers .now) (a .generation) (a .i) _ (c .before .before .if1 .left) (search needs) (c .value-of .ensures)
 
 pub recalled-spec : {M : Type 1} → statement M
 recalled-spec =

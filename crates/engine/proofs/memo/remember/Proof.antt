@@ -1,3 +1,6 @@
+use Rattle.value.proofs.Signed.{back}
+use lib.ListN.{set}
+use mathlib.Core.Path.{ap, _∙_}
 use borrow.Author.Needs.{needs}
 use Rattle.engine.proofs.memo.remember.Statement.{statement}
 use Rattle.engine.proofs.memo.remember.Tie as tie
@@ -40,7 +43,7 @@ same-length-2 c = search needs
 
 -- src/memo.rt:67:1
 returns : tie.Need-returns
-returns c = ?
+returns c = let a = c .before .before .before .before .args in (ap (λ x. set (a .tags .now) (a .i) x) (c .before .before .tag-of .ensures), ap (λ z. set (a .numbers .now) (a .i) z) (back _ (search needs) ∙ c .number-or-zero .ensures))
 
 pub remember-spec : {M : Type 1} → statement M
 remember-spec =

@@ -1,3 +1,5 @@
+use Rattle.value.specs.Meaning.{meaning}
+use Rattle.engine.proofs.Recalling.{tagged, untagged}
 use native.Mathlib.Omega.{arith}
 use borrow.Author.Needs.{needs}
 use Rattle.engine.proofs.memo.tag_of.Statement.{statement}
@@ -33,11 +35,11 @@ add-result c = search needs
 
 -- src/memo.rt:57:1
 returns : tie.Need-returns
-returns c = omega (arith, c .wide .ensures .0)
+returns c = let a = c .before .before .before .before .args in tagged (a .generation) _ _ (meaning (a .seen .value)) (a .seen .flag) (c .if1 .taken) (c .before .wide .ensures .0) (c .before .before .kind .ensures)
 
 -- src/memo.rt:57:1
 returns-2 : tie.Need-returns-2
-returns-2 c = ?
+returns-2 c = let a = c .before .before .before .before .args in untagged (a .generation) _ _ (meaning (a .seen .value)) (a .seen .flag) (c .if1 .left) (c .before .wide .ensures .0) (c .before .before .kind .ensures)
 
 pub tag-of-spec : {M : Type 1} → statement M
 tag-of-spec =
