@@ -1,0 +1,33 @@
+-- The work table in bytes: a record for each item of the sheet, in order. Assumes nothing.
+use Prim.Native.Nat.{ℕ, _*_, _<_}
+use mathlib.Core.Path.{_≡_}
+use mathlib.Core.Bool.{Bool, true}
+use mathlib.Core.List.{List}
+use Rattle.circuit.specs.Sheet.{Sheet, size, itemAt, isFigure}
+use Rattle.circuit.specs.Table.{Table}
+use Rattle.table.specs.Rows.{row, rowsBelow, allBelow}
+use Rattle.table.specs.Record.{width, encodeCell, decodeCell, recordForm, mayHold}
+
+abbrev pub tableLength : Sheet → ℕ
+tableLength S = width * size S
+
+abbrev pub encodeRecord : Sheet → Table → ℕ → List ℕ
+encodeRecord S T i = encodeCell (T i)
+
+unfoldable pub encodeTable : Sheet → Table → List ℕ
+encodeTable S T = rowsBelow (encodeRecord S T) (size S)
+
+abbrev pub decodeTable : List ℕ → Table
+decodeTable bs = λ i. decodeCell (row width bs i)
+
+-- the record of item i is in form
+abbrev pub recordInForm : Sheet → List ℕ → ℕ → Bool
+recordInForm S bs i = recordForm (isFigure (itemAt S i)) (row width bs i)
+
+-- the table is in form: cause 10 is that it is not
+unfoldable pub tableForm : Sheet → List ℕ → Bool
+tableForm S bs = allBelow (recordInForm S bs) (size S)
+
+-- the tables that such bytes are
+abbrev pub Holdable : Sheet → Table → Type 0
+Holdable S T = (i : ℕ) → i < size S → mayHold (isFigure (itemAt S i)) (T i) ≡ true
