@@ -1,1 +1,3 @@
 pub mod Office
+pub mod Demands
+pub mod Memo

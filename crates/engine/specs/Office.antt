@@ -9,12 +9,13 @@ use lib.IntN.{ℤ, pos}
 use lib.ListN.{length}
 use Rattle.circuit.specs.Value.{Value, kindOf, numberOf}
 use Rattle.circuit.specs.Sheet.{Sheet}
-use Rattle.circuit.specs.Table.{Table, openBare, openFull}
 use Rattle.circuit.specs.Calls.{Call, Test, test, firstCause, tests, Outcome, effect}
-use Rattle.sheet.specs.Layout.{machineSheet}
-use Rattle.sheet.specs.Read.{Placed, SheetRead, opens, refused, readSheet, layoutOf}
+use Rattle.circuit.specs.Offices.{Opening, opened}
+use Rattle.sheet.specs.Read.{Placed, SheetRead, opens, refused, readSheet}
+use Rattle.sheet.specs.Opened.{sheetRead}
 use Rattle.sheet.specs.Index.{indexWidth, indexBytes}
-use Rattle.table.specs.Table.{width, encodeTable, decodeTable, tableForm}
+use Rattle.table.specs.Record.{width}
+use Rattle.table.specs.Bytes.{encodeTable, decodeTable, tableForm}
 
 -- What a call gives: its number and offset, the kind and the number of an accepted ask's value (0 and 0 otherwise), and the
 -- index and the table afterwards.
@@ -45,8 +46,8 @@ accepted v x t = record { number = 0; offset = 0; kind = kindRead v; value = num
 unfoldable pub sameBytes : List ℕ → List ℕ → Bool
 sameBytes [] [] = true
 sameBytes [] (b ∷ bs) = false
-sameBytes (a ∷ as) [] = false
-sameBytes (a ∷ as) (b ∷ bs) = eqb a b && sameBytes as bs
+sameBytes (a ∷ rest) [] = false
+sameBytes (a ∷ rest) (b ∷ bs) = eqb a b && sameBytes rest bs
 
 -- 8: index not 4n bytes, or table not 10n
 abbrev pub lengthsWrong : List Placed → List ℕ → List ℕ → Bool
@@ -78,10 +79,6 @@ abbrev pub unlessRefused : ℕ → List ℕ → List ℕ → Given → Given
 unlessRefused zero x t given = given
 unlessRefused (suc k) x t given = refusal (suc k) 0 x t
 
--- the machine's sheet of what was read
-abbrev pub sheetRead : ℕ → List Placed → Sheet
-sheetRead edition ps = machineSheet (layoutOf edition ps)
-
 -- the call on the decoded table, its table encoded
 abbrev pub effectOn : Sheet → List ℕ → Outcome → Given
 effectOn S x o = accepted (o .reading) x (encodeTable S (o .table))
@@ -96,19 +93,12 @@ callRead (opens edition ps) x t c =
 unfoldable pub callOn : List ℕ → List ℕ → List ℕ → Call → Given
 callOn s x t c = callRead (readSheet s) x t c
 
--- the two openings
-pub data Opening : Type 0 where
-  bare full : Opening
-
-abbrev pub openedTable : Opening → Sheet → Table
-openedTable bare S = openBare S
-openedTable full S = openFull S
-
+-- an opening, bare or full
 abbrev pub openRead : Opening → SheetRead → List ℕ → List ℕ → Given
 openRead how (refused k at) x t = refusal k at x t
 openRead how (opens edition ps) x t =
     unlessRefused (firstCause (openingTests ps x t)) x t
-    (accepted none (indexBytes ps) (encodeTable (sheetRead edition ps) (openedTable how (sheetRead edition ps))))
+    (accepted none (indexBytes ps) (encodeTable (sheetRead edition ps) (opened how (sheetRead edition ps))))
 
 unfoldable pub openOn : Opening → List ℕ → List ℕ → List ℕ → Given
 openOn how s x t = openRead how (readSheet s) x t

@@ -14,10 +14,10 @@ use mir.Syntax.{w64}
 use mir.Val.{SFits, toZ, ofZ}
 use Rattle.word.specs.Word.{Bytes, leAt, le64At, bytes64}
 use Rattle.word.proofs.Bytes.{leAt-drop, signed-again, bytes-again, length-bytes64, bytes-cons, bytes-leBytes}
+use Rattle.circuit.proofs.RuleLaws.{and-left, and-right}
 use Rattle.circuit.specs.Value.{Value, null, out, num, limit, inRange, sameNumber, kindOf, numberOf, isOut, wellFormed}
-use Rattle.circuit.specs.Table.{Mark, unmarked, refresh, notice, Cell, unk, held, noticeIf, isNotice, valueIn, entryForm}
+use Rattle.circuit.specs.Table.{Mark, unmarked, refresh, notice, Cell, unk, held, noticeIf, valueIn, isStored, isMarked, entryForm}
 use Rattle.table.specs.Record.{width, kindIn, markIn, numberIn, recordOf, markCode, markCoded, valueCoded, cellCoded, encodeCell, decodeCell, allowed, codesForm, numberForm, recordForm, mayHold}
-use Rattle.table.proofs.Rows.{and-left, and-right}
 
 -- a number within the range is one of 64 bits
 pub range-fits : (z : ℤ) → inRange z ≡ true → SFits w64 z
@@ -39,7 +39,7 @@ is-zero (pos n) t = ap pos (eqb-true n 0 t)
 is-zero (negsuc n) t = let c : _≡_ {A = ℕ} 0 1 = cc in absurd (omega arith)
 
 -- the kinds, and the codes of marks
-pub data Kind : ℕ → Type 0 where
+data Kind : ℕ → Type 0 where
   unknown : Kind 0
   nothing : Kind 1
   outside : Kind 2
@@ -52,7 +52,7 @@ kinds (suc (suc zero)) t = outside
 kinds (suc (suc (suc zero))) t = number
 kinds (suc (suc (suc (suc k)))) t = absurd (omega (arith, leb-true (suc (suc (suc (suc k)))) 3 t))
 
-pub data Code : ℕ → Type 0 where
+data Code : ℕ → Type 0 where
   none : Code 0
   again : Code 1
   told : Code 2
@@ -64,7 +64,7 @@ codes (suc (suc zero)) t = told
 codes (suc (suc (suc m))) t = absurd (omega (arith, leb-true (suc (suc (suc m))) 2 t))
 
 -- what the form says of a record's parts
-pub record Parts (figure : Bool) (k m : ℕ) (z : ℤ) : Type 0 where
+record Parts (figure : Bool) (k m : ℕ) (z : ℤ) : Type 0 where
   pub kind : Kind k
   pub mark : Code m
   pub may : allowed figure k m ≡ true
@@ -252,3 +252,36 @@ encoded-form false (held v m) t =
 -- the form of a record with the bytes of a cell says no more than that the item may hold it
 pub form-cell : (figure : Bool) (c : Cell) → wellFormed (valueIn c) ≡ true → recordForm figure (encodeCell c) ≡ true → mayHold figure c ≡ true
 form-cell figure c w t = rw (decode-encode c w) at (decoded-holds figure (encodeCell c) t)
+
+-- ---- a cell's words, by the bytes of its record
+
+-- a figure is stored when its kind is not 0
+pub stored-byte : (r : List ℕ) → isStored (decodeCell r) ≡ not (eqb (kindIn r) 0)
+unfolding decodeCell
+stored-byte r = go (eqb (kindIn r) 0)
+  where
+    go : (b : Bool) → isStored (cond b (unk (eqb (markIn r) 2)) (held (valueCoded (kindIn r) (numberIn r)) (markCoded (markIn r)))) ≡ not b
+    go true = refl
+    go false = refl
+
+marked-parts : (figure : Bool) {k m : ℕ} (z : ℤ) → Kind k → Code m → allowed figure k m ≡ true → isMarked (cellCoded k m z) ≡ not (eqb m 0)
+marked-parts figure z unknown none may = refl
+marked-parts true z unknown again may = contradiction may
+marked-parts false z unknown again may = contradiction may
+marked-parts figure z unknown told may = refl
+marked-parts figure z nothing none may = refl
+marked-parts figure z nothing again may = refl
+marked-parts figure z nothing told may = refl
+marked-parts figure z outside none may = refl
+marked-parts figure z outside again may = refl
+marked-parts figure z outside told may = refl
+marked-parts figure z number none may = refl
+marked-parts figure z number again may = refl
+marked-parts figure z number told may = refl
+
+-- an item of a record in form is marked when its mark byte is not 0
+pub marked-byte : (figure : Bool) (r : List ℕ) → recordForm figure r ≡ true → isMarked (decodeCell r) ≡ not (eqb (markIn r) 0)
+unfolding decodeCell
+marked-byte figure r t =
+    let p : Parts figure (kindIn r) (markIn r) (numberIn r) = parts figure r t in
+    marked-parts figure (numberIn r) (p .kind) (p .mark) (p .may)

@@ -1,7 +1,7 @@
 -- Rows of one length: reading and storing one, and a list from its rows. Assumes nothing.
 use Prim.Native.Nat.{ℕ, zero, suc, _+_, _*_, _≤_, _<_}
 use mathlib.Core.Path.{_≡_, refl, ap, sym, _∙_}
-use mathlib.Core.Bool.{Bool, true, false, cond, _&&_}
+use mathlib.Core.Bool.{Bool, true, false, cond}
 use mathlib.Core.List.{List, [], _∷_, _++_, append-assoc}
 use native.Mathlib.Omega.{arith}
 use native.Mathlib.Nat.{mul-zero, mul-suc, mul-le-mul-left}
@@ -9,17 +9,10 @@ use lib.Dec.{eqb, ltb}
 use borrow.Author.Tests.{eqb-true, eqb-false, ltb-true, ltb-false}
 use lib.ListN.{length, getD, take, drop, set, length-append, length-take, length-drop}
 use lib.Seq.{sets, sets-eq, length-sets, take-add, take-at, drop-at, take-all, take-append-le, drop-append-le, getD-set-other, getD-take, getD-drop, ext-getD, length-take-le}
+use Rattle.circuit.proofs.RuleLaws.{and-left, and-right}
 use Rattle.word.specs.Word.{Bytes}
 use Rattle.word.proofs.Bytes.{none-bytes, bytes-append}
 use Rattle.table.specs.Rows.{row, setRow, rowsBelow, allBelow}
-
-pub and-left : (a b : Bool) → a && b ≡ true → a ≡ true
-and-left true b t = refl
-and-left false b t = t
-
-pub and-right : (a b : Bool) → a && b ≡ true → b ≡ true
-and-right true b t = t
-and-right false b t = let z : _≡_ {A = ℕ} 0 1 = cc in absurd (omega arith)
 
 -- rows do not overlap
 pub row-before : (w : ℕ) {i n : ℕ} → i < n → w * i + w ≤ w * n

@@ -10,6 +10,7 @@ use borrow.Author.Tests.{eqb-true, eqb-false, not-true}
 use lib.ListN.{length, drop}
 use Rattle.word.specs.Word.{Bytes}
 use Rattle.word.proofs.Bytes.{bytes-take, bytes-drop}
+use Rattle.circuit.proofs.RuleLaws.{and-left, and-right}
 use Rattle.circuit.specs.Value.{null, wellFormed, isOut}
 use Rattle.circuit.specs.Sheet.{Sheet, Item, entry, figure, size, itemAt, isFigure}
 use Rattle.circuit.specs.Table.{Table, Cell, held, unmarked, upd, valueIn, entryForm, cellForm, openBare, openFull, bareCell}
@@ -17,7 +18,7 @@ use Rattle.circuit.specs.Words.{Formed}
 use Rattle.table.specs.Rows.{row, setRow}
 use Rattle.table.specs.Record.{width, encodeCell, decodeCell, recordForm, mayHold}
 use Rattle.table.specs.Bytes.{tableLength, encodeRecord, encodeTable, decodeTable, recordInForm, tableForm, Holdable}
-use Rattle.table.proofs.Rows.{bytes-rows, and-left, and-right, row-before, length-row, rows-ext, length-rows, row-rows, rows-row, row-setRow, row-setRow-other, rows-setRow, below-true, true-below}
+use Rattle.table.proofs.Rows.{bytes-rows, row-before, length-row, rows-ext, length-rows, row-rows, rows-row, row-setRow, row-setRow-other, rows-setRow, below-true, true-below}
 use Rattle.table.proofs.Records.{bytes-encodeCell, decode-encode, encode-decode, length-encodeCell, decoded-holds, encoded-form, holds-wellFormed}
 
 -- ---- lengths and bytes

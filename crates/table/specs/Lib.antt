@@ -1,3 +1,4 @@
 pub mod Rows
 pub mod Record
 pub mod Bytes
+pub mod Meaning

@@ -1,1 +1,150 @@
-// The work table in bytes: 10 for each item.
+// The work table in bytes, a record for each item: kind, mark and number. Its form, and reading and storing one cell.
+ghost use mathlib.Core.Path.{_≡_};
+ghost use Prim.Native.Nat.{_+_, _*_, _≤_};
+ghost use lib.ListN.{length};
+ghost use lib.Seq.{sets};
+ghost use Rattle.value.specs.Meaning.{meaning};
+ghost use Rattle.table.specs.Rows.{row, setRow};
+ghost use Rattle.table.specs.Record.{width, recordOf, markCode, markCoded, valueCoded, cellCoded, encodeCell, decodeCell, codesForm, numberForm, recordForm};
+ghost use Rattle.table.specs.Meaning.{markMeaning, cellMeaning};
+use value::Value;
+
+// How many bytes an item has.
+pub const WIDTH: usize = 10;
+
+pub enum Mark {
+    Unmarked,
+    Refresh,
+    Notice,
+}
+
+pub enum Cell {
+    // UNK: nothing stored; true if its mark is notice.
+    Unk(bool),
+    Held(Value, Mark),
+}
+
+// 0 none, 1 refresh, 2 notice.
+fn mark_code(m: Mark) -> u8
+    ensures { λ r. ⌜ r ≡ markCode (markMeaning m) ⌝ }
+{
+    match m {
+        Mark::Unmarked => 0,
+        Mark::Refresh => 1,
+        Mark::Notice => 2,
+    }
+}
+
+fn mark_coded(code: u8) -> Mark
+    ensures { λ r. ⌜ markMeaning r ≡ markCoded code ⌝ }
+{
+    match code {
+        1 => Mark::Refresh,
+        2 => Mark::Notice,
+        _ => Mark::Unmarked,
+    }
+}
+
+// 1 NULL, 2 OUT, 3 a number.
+fn value_coded(kind: u8, number: i64) -> Value
+    ensures { λ r. ⌜ meaning r ≡ valueCoded kind number ⌝ }
+{
+    match kind {
+        1 => Value::NULL,
+        2 => Value::OUT,
+        _ => Value::number(number),
+    }
+}
+
+// Kind 0 is UNK.
+fn cell_coded(kind: u8, mark: u8, number: i64) -> Cell
+    ensures { λ r. ⌜ cellMeaning r ≡ cellCoded kind mark number ⌝ }
+{
+    if kind == 0 {
+        Cell::Unk(mark == 2)
+    } else {
+        Cell::Held(value_coded(kind, number), mark_coded(mark))
+    }
+}
+
+// The cell of item i.
+pub fn read_cell(table: &[u8], i: usize) -> Cell
+    requires { ⌜ width * i + width ≤ length (now table) ⌝ }
+    ensures { λ r. ⌜ cellMeaning r ≡ decodeCell (row width (now (table .entry)) i) ⌝ }
+{
+    let at = i * WIDTH;
+    cell_coded(table[at], table[at + 1], word::read_i64(table, at + 2))
+}
+
+fn store_record(table: &mut [u8], at: usize, kind: u8, mark: u8, number: i64)
+    requires { ⌜ at + width ≤ length (now table) ⌝ }
+    ensures { λ _. ⌜ now (table .exit) ≡ sets (now (table .entry)) at (recordOf kind mark number) ⌝ }
+{
+    table[at] = kind;
+    table[at + 1] = mark;
+    word::write_i64(table, at + 2, number);
+}
+
+// Stores the cell of item i, and changes no other byte. Every store to a work table is made here.
+pub fn store_cell(table: &mut [u8], i: usize, cell: Cell)
+    requires { ⌜ width * i + width ≤ length (now table) ⌝ }
+    ensures { λ _. ⌜ now (table .exit) ≡ setRow width (now (table .entry)) i (encodeCell (cellMeaning cell)) ⌝ }
+{
+    let at = i * WIDTH;
+    match cell {
+        Cell::Unk(noticed) => {
+            if noticed {
+                store_record(table, at, 0, 2, 0);
+            } else {
+                store_record(table, at, 0, 0, 0);
+            }
+        }
+        Cell::Held(v, m) => {
+            store_record(table, at, v.kind(), mark_code(m), v.number_or_zero());
+        }
+    }
+}
+
+// Whether a record may have this kind and this mark.
+fn codes_formed(figure: bool, kind: u8, mark: u8) -> bool
+    ensures { λ r. ⌜ r ≡ codesForm figure kind mark ⌝ }
+{
+    if kind > 3 {
+        return false;
+    }
+    if mark > 2 {
+        return false;
+    }
+    if figure {
+        if kind == 0 { mark != 1 } else { true }
+    } else {
+        match kind {
+            0 | 2 => false,
+            _ => mark != 1,
+        }
+    }
+}
+
+fn number_formed(kind: u8, number: i64) -> bool
+    ensures { λ r. ⌜ r ≡ numberForm kind number ⌝ }
+{
+    if kind == 3 {
+        value::in_range(number)
+    } else {
+        number == 0
+    }
+}
+
+// Whether the record of item i is in form; figure says whether the item is a figure or an entry.
+pub fn record_formed(table: &[u8], i: usize, figure: bool) -> bool
+    requires { ⌜ width * i + width ≤ length (now table) ⌝ }
+    ensures { λ r. ⌜ r ≡ recordForm figure (row width (now (table .entry)) i) ⌝ }
+{
+    let at = i * WIDTH;
+    let kind = table[at];
+    if codes_formed(figure, kind, table[at + 1]) {
+        number_formed(kind, word::read_i64(table, at + 2))
+    } else {
+        false
+    }
+}

@@ -1,3 +1,4 @@
+-- `word::read_i64` meets its contract. Assumes nothing.
 use Prim.Native.Nat.{ℕ}
 use mathlib.Core.Path.{ap, _∙_}
 use borrow.Author.Needs.{needs}
@@ -6,20 +7,13 @@ use mir.Val.{toZ}
 use mir.ValLaws.{toZ-ofZ}
 use Rattle.word.proofs.read_i64.Statement.{statement}
 use Rattle.word.proofs.read_i64.Tie as tie
-use Rattle.word.proofs.read_i64.Reads as reads
-use Rattle.word.proofs.read_i64.Lts as lts
-use Rattle.word.proofs.read_u64.Reads as read-u64-reads
-use Rattle.word.proofs.signed.Reads as signed-reads
 
--- src/lib.rt:57:12
 read-u64-requires : tie.Need-read-u64-requires
 read-u64-requires c κs = search needs
 
--- src/lib.rt:57:5
 signed-requires : tie.Need-signed-requires
 signed-requires c κs = search needs
 
--- src/lib.rt:53:1
 returns : tie.Need-returns
 returns c = toZ-ofZ w64 (c .signed .result) (record { sfits = c .signed .ok }) ∙ c .signed .ensures ∙ ap (λ (x : ℕ). toZ w64 x) (c .before .read-u64 .ensures)
 

@@ -1,3 +1,4 @@
+-- `word::write_i64` meets its contract. Assumes nothing.
 use Prim.Native.Nat.{ℕ}
 use mathlib.Core.Path.{ap, _∙_}
 use borrow.Author.Needs.{needs}
@@ -9,24 +10,16 @@ use mir.ValLaws.{toZ-ofZ}
 use Rattle.word.specs.Word.{leBytes}
 use Rattle.word.proofs.write_i64.Statement.{statement}
 use Rattle.word.proofs.write_i64.Tie as tie
-use Rattle.word.proofs.write_i64.Reads as reads
-use Rattle.word.proofs.write_i64.Lts as lts
-use Rattle.word.proofs.unsigned.Reads as unsigned-reads
-use Rattle.word.proofs.write_u64.Reads as write-u64-reads
 
--- src/lib.rt:85:22
 unsigned-requires : tie.Need-unsigned-requires
 unsigned-requires c κs = search needs
 
--- src/lib.rt:85:5
 write-u64-requires : tie.Need-write-u64-requires
 write-u64-requires c κs = search needs
 
--- src/lib.rt:81:1
 same-length : tie.Need-same-length
 same-length c = search needs
 
--- src/lib.rt:81:1
 returns : tie.Need-returns
 returns c = c .before .before .write-u64 .ensures ∙ ap (λ (x : ℕ). sets (c .before .before .before .before .before .before .args .s .now) (c .before .before .before .before .before .before .args .at) (leBytes 8 x)) (c .before .before .before .unsigned .ensures ∙ ap (λ (z : ℤ). ofZ w64 z) (toZ-ofZ w64 (c .before .before .before .before .before .before .args .v) (c .before .before .before .before .before .before .fits .v)))
 

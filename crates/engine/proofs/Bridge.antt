@@ -1,0 +1,197 @@
+-- The calls on bytes are the machine's calls: on the encoding of a table, a call gives what the machine gives on the table,
+-- and leaves its encoding. Assumes that the sheet opens.
+use Prim.Native.Nat.{ℕ, zero, suc, _<_, _≤_, _*_}
+use native.Mathlib.Nat.{mul-le-mul-left}
+use native.Mathlib.Omega.{arith}
+use mathlib.Core.Path.{_≡_, refl, sym, ap, _∙_, fun-ext}
+use mathlib.Core.Bool.{Bool, true, false, cond, not, _&&_}
+use mathlib.Core.List.{List, [], _∷_, _++_, map}
+use mathlib.Core.Option.{Option, none, some}
+use lib.Dec.{eqb, ltb}
+use lib.IntN.{pos}
+use lib.ListN.{length, take, drop as dropN, drop-of-length-le, List·getD-eq-default}
+use borrow.Author.Tests.{eq-eqb, ltb-true, ltb-false, leb-true, leb-false}
+use Rattle.circuit.specs.Value.{Value}
+use Rattle.circuit.specs.Sheet.{Sheet, entry, size, itemAt, isFigure, beyond, Ordered}
+use Rattle.circuit.specs.Table.{Table, Cell, unk, upd}
+use Rattle.circuit.specs.Machine.{lookUp, work, storePosting, keepFigure, dropFigure, stepItem, catchUp}
+use Rattle.circuit.specs.Calls.{Call, post, keep, drop, step, ask, Test, test, firstCause, tests, Outcome, outcome, effect, perform, unless, run, postIt, postedValue}
+use Rattle.circuit.proofs.Fill.{Fill, Filling, stays, fills, Looks, upd-cases, look-right, work-right, keep-fill}
+use Rattle.circuit.proofs.Closure.{Closed, step-closed, catchUp-closed}
+use Rattle.circuit.proofs.Accepted.{accepted-effect, refused-table, keep-passed, drop-passed, step-passed, post-passed}
+use Rattle.sheet.specs.Read.{Placed, SheetRead, opens, readSheet}
+use Rattle.sheet.specs.Opened.{sheetRead}
+use Rattle.sheet.specs.Index.{indexWidth, indexBytes}
+use Rattle.table.specs.Record.{width, decodeCell}
+use Rattle.table.specs.Rows.{row}
+use Rattle.table.specs.Bytes.{encodeTable, decodeTable, tableForm, Holdable, tableLength}
+use Rattle.table.proofs.Tables.{length-encodeTable, decode-encodeTable, encoded-tableForm, holdable-wellFormed}
+use Rattle.engine.specs.Office.{Given, refusal, accepted, kindRead, numberRead, sameBytes, lengthsWrong, indexWrong, tableWrong, callTests, unlessRefused, effectOn, callRead, callOn, runOn}
+use Rattle.engine.proofs.Holdable.{perform-holdable}
+
+-- nothing stands beyond the sheet
+abbrev pub Within : Sheet → Table → Type 0
+Within S T = (j : ℕ) → size S ≤ j → T j ≡ unk false
+
+abbrev WithinAt : Sheet → ℕ → Cell → Type 0
+WithinAt S j c = size S ≤ j → c ≡ unk false
+
+-- a store below n leaves it so
+upd-within : (S : Sheet) (T : Table) (i : ℕ) (c : Cell) → i < size S → Within S T → Within S (upd T i c)
+upd-within S T i c low h = upd-cases (WithinAt S) T i c (λ out. absurd (omega arith)) (λ j n. h j)
+
+-- no figure stands beyond the sheet, so a fill leaves it so
+fill-within : (S : Sheet) (T U : Table) → Fill S T U → Within S T → Within S U
+fill-within S T U fill h j out = go (fill j)
+  where
+    go : Filling S T j (U j) → U j ≡ unk false
+    go (stays e) = e ∙ h j out
+    go (fills f k e x) =
+        let d : itemAt S j ≡ entry = List·getD-eq-default S entry {n = j} out in
+        let z : _≡_ {A = Bool} false true = rw d at k in
+        let bad : _≡_ {A = ℕ} 0 1 = cc in absurd (omega arith)
+
+module _ (S : Sheet) (ordered : Ordered S) where
+  closed-within : Closed S (λ i. i < size S) (Within S)
+  closed-within =
+      record {
+        works = λ T i low h. fill-within S T _ (work-right S ordered T i .fill) h;
+        stores = λ T i c low h. upd-within S T i c low h;
+      }
+
+  -- a call leaves nothing beyond the sheet
+  pub perform-within : (T : Table) (c : Call) → Within S T → Within S (perform S T c .table)
+  unfolding effect storePosting dropFigure
+  perform-within T c h = go (firstCause (tests S T c)) refl
+    where
+      steps : (U : Table) (i : ℕ) → i < size S → Within S U → Within S (stepItem S U i)
+      steps U i low g =
+          step-closed S (λ k. k < size S) (Within S) closed-within i low low (λ k l. parent-within k i l) U g
+        where
+          parent-within : (k p : ℕ) → Rattle.circuit.specs.Circuit.Listed p (Rattle.circuit.specs.Sheet.parents S k) → k < size S
+          parent-within k p l = in-sheet (ltb k (size S)) refl
+            where
+              in-sheet : (b : Bool) → ltb k (size S) ≡ b → k < size S
+              in-sheet true e = ltb-true k (size S) e
+              in-sheet false e =
+                  let d : itemAt S k ≡ entry = List·getD-eq-default S entry {n = k} (ltb-false k (size S) e) in
+                  absurd (rw d at l)
+
+      posted : (i : ℕ) (o : Option Value) → i < size S → Within S (postIt T i o)
+      posted i none low = h
+      posted i (some v) low = upd-within S T i _ low h
+
+      done : (d : Call) → firstCause (tests S T d) ≡ 0 → Within S (effect S T d .table)
+      done (post i kind z) e = posted i (postedValue kind z) (post-passed S T i kind z e .0)
+      done (keep i) e = fill-within S T _ (keep-fill S ordered T i (keep-passed S T i e .1)) h
+      done (drop i) e = upd-within S T i _ (drop-passed S T i e .0) h
+      done (step i) e = steps T i (step-passed S T i e .0) h
+      done (ask i) e =
+          fill-within S (catchUp S T) _ (look-right S ordered (catchUp S T) i .fill)
+          (catchUp-closed S (Within S) (λ U k low m g. steps U k low g) T h)
+
+      go : (k : ℕ) → firstCause (tests S T c) ≡ k → Within S (perform S T c .table)
+      go zero e = rw (accepted-effect S T c e) (done c e)
+      go (suc k) e = rw (refused-table S T c k e) h
+
+-- beyond its end a table decodes to cells with nothing in them
+decoded-beyond : (S : Sheet) (t : List ℕ) → length t ≡ tableLength S → Within S (decodeTable t)
+unfolding decodeCell
+decoded-beyond S t e j out =
+    let far : length t ≤ width * j = omega (arith, mul-le-mul-left width out) in
+    ap (λ r. decodeCell (take width r)) (drop-of-length-le t far)
+
+-- the encoding of a table that may be encoded decodes to it
+pub decode-within : (S : Sheet) (T : Table) → Holdable S T → Within S T → decodeTable (encodeTable S T) ≡ T
+decode-within S T h w = fun-ext λ i. go i (ltb i (size S)) refl
+  where
+    go : (i : ℕ) (b : Bool) → ltb i (size S) ≡ b → decodeTable (encodeTable S T) i ≡ T i
+    go i true e =
+        let low : i < size S = ltb-true i (size S) e in
+        decode-encodeTable S T i low (holdable-wellFormed S T h i low)
+    go i false e =
+        let out : size S ≤ i = ltb-false i (size S) e in
+        decoded-beyond S (encodeTable S T) (length-encodeTable S T) i out ∙ sym (w i out)
+
+pub same-bytes : (x : List ℕ) → sameBytes x x ≡ true
+unfolding sameBytes
+same-bytes [] = refl
+same-bytes (a ∷ rest) = rw (eq-eqb a a refl) (same-bytes rest)
+
+pub bytes-same : (x y : List ℕ) → sameBytes x y ≡ true → x ≡ y
+unfolding sameBytes
+bytes-same [] [] e = refl
+bytes-same [] (b ∷ bs) e = let bad : _≡_ {A = ℕ} 0 1 = cc in absurd (omega arith)
+bytes-same (a ∷ rest) [] e = let bad : _≡_ {A = ℕ} 0 1 = cc in absurd (omega arith)
+bytes-same (a ∷ rest) (b ∷ bs) e = go (eqb a b) refl e (λ q. bytes-same rest bs q)
+  where
+    go : (t : Bool) → eqb a b ≡ t → (t && sameBytes rest bs) ≡ true → (sameBytes rest bs ≡ true → rest ≡ bs) → (a ∷ rest) ≡ (b ∷ bs)
+    go true q e′ tail = let h : a ≡ b = borrow.Author.Tests.eqb-true a b q in let r : rest ≡ bs = tail e′ in cc
+    go false q e′ tail = let bad : _≡_ {A = ℕ} 0 1 = cc in absurd (omega arith)
+
+-- what the machine's outcome gives on bytes
+abbrev pub givenBy : Sheet → List ℕ → Outcome → Given
+givenBy S x o =
+    record { number = o .number; offset = 0; kind = kindRead (o .reading); value = numberRead (o .reading); index = x; table = encodeTable S (o .table) }
+
+effect-number : (S : Sheet) (T : Table) (c : Call) → effect S T c .number ≡ 0
+unfolding effect
+effect-number S T (post i kind z) = refl
+effect-number S T (keep i) = refl
+effect-number S T (drop i) = refl
+effect-number S T (step i) = refl
+effect-number S T (ask i) = refl
+
+-- a cause that does not hold is passed over
+pass-over : (k : ℕ) (b : Bool) (ts : List Test) → b ≡ false → firstCause (test k b ∷ ts) ≡ firstCause ts
+unfolding firstCause
+pass-over k true ts e = cc
+pass-over k false ts e = refl
+
+module _ (s : List ℕ) (edition : ℕ) (ps : List Placed) (opening : readSheet s ≡ opens edition ps)
+    (indexed : length (indexBytes ps) ≡ indexWidth * length ps) (sized : size (sheetRead edition ps) ≡ length ps)
+    (ordered : Ordered (sheetRead edition ps)) where
+  -- a call on the index of the sheet and the encoding of a table
+  pub call-performs : (T : Table) (c : Call) → Holdable (sheetRead edition ps) T → Within (sheetRead edition ps) T
+      → callOn s (indexBytes ps) (encodeTable (sheetRead edition ps) T) c ≡ givenBy (sheetRead edition ps) (indexBytes ps) (perform (sheetRead edition ps) T c)
+  unfolding callOn perform
+  call-performs T c h w = ap (λ r. callRead r x t c) opening ∙ passed ∙ by-cause (firstCause (tests S T c))
+    where
+      S : Sheet
+      S = sheetRead edition ps
+
+      x : List ℕ
+      x = indexBytes ps
+
+      t : List ℕ
+      t = encodeTable S T
+
+      again : decodeTable t ≡ T
+      again = decode-within S T h w
+
+      lengths : lengthsWrong ps x t ≡ false
+      lengths =
+          rw (eq-eqb (length x) (indexWidth * length ps) indexed, eq-eqb (length t) (width * length ps) (length-encodeTable S T ∙ ap (λ n. width * n) sized))
+
+      causes : firstCause (callTests S ps x t c) ≡ firstCause (tests S T c)
+      causes =
+          pass-over 8 (lengthsWrong ps x t) _ lengths
+          ∙ pass-over 9 (indexWrong ps x) _ (ap not (same-bytes x))
+          ∙ pass-over 10 (tableWrong S t) _ (ap not (encoded-tableForm S T h))
+          ∙ ap (λ U. firstCause (tests S U c)) again
+
+      passed : callRead (opens edition ps) x t c ≡ unlessRefused (firstCause (tests S T c)) x t (effectOn S x (effect S T c))
+      passed = rw (causes, again)
+
+      by-cause : (k : ℕ) → unlessRefused k x t (effectOn S x (effect S T c)) ≡ givenBy S x (unless k S T c)
+      by-cause zero = rw (effect-number S T c)
+      by-cause (suc k) = refl
+
+  -- a list of calls
+  pub run-runs : (cs : List Call) (T : Table) → Holdable (sheetRead edition ps) T → Within (sheetRead edition ps) T
+      → runOn s (indexBytes ps) (encodeTable (sheetRead edition ps) T) cs ≡ encodeTable (sheetRead edition ps) (run (sheetRead edition ps) T cs)
+  unfolding runOn run
+  run-runs [] T h w = refl
+  run-runs (c ∷ cs) T h w =
+      ap (λ g. runOn s (indexBytes ps) (g .table) cs) (call-performs T c h w)
+      ∙ run-runs cs (perform (sheetRead edition ps) T c .table) (perform-holdable (sheetRead edition ps) ordered T c h) (perform-within (sheetRead edition ps) ordered T c w)

@@ -1,0 +1,4 @@
+pub mod Holdable
+pub mod Bridge
+pub mod Demands
+pub mod Recalling

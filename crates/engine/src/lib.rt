@@ -1,0 +1,2 @@
+// The engine: looking up and working out, telling, stepping, catching up, and the calls on lent bytes.
+pub mod memo;

@@ -1,0 +1,4 @@
+pub mod Children
+pub mod Fields
+pub mod Located
+pub mod Offsets

@@ -1,0 +1,42 @@
+-- `item::parent_count` meets its contract. Assumes nothing.
+use borrow.Author.Needs.{needs}
+use native.Mathlib.Omega.{arith}
+use Rattle.item.proofs.Fields.{figure-within, count-read, count-not}
+use Rattle.item.proofs.parent_count.Statement.{statement}
+use Rattle.item.proofs.parent_count.Tie as tie
+
+shared-slice-read-if1 : tie.Need-shared-slice-read-if1
+shared-slice-read-if1 c = search needs
+
+add-wide : tie.Need-add-wide
+add-wide c = search needs
+
+shared-slice-read-wide : tie.Need-shared-slice-read-wide
+shared-slice-read-wide c =
+    let a = c .before .before .before .before in
+    omega (arith, figure-within (a .args .s .now) (a .args .at) (a .pre) (c .before .if1 .taken))
+
+wide-requires : tie.Need-wide-requires
+wide-requires c κs = search needs
+
+returns : tie.Need-returns
+returns c =
+    let a = c .before .before .before .before .before in
+    let t = c .before .before .if1 .taken in
+    rw (c .wide .ensures) (count-read (a .args .s .now) (a .args .at) (a .pre) t)
+
+returns-2 : tie.Need-returns-2
+returns-2 c =
+    let a = c .before .before .before in
+    count-not (a .args .s .now) (a .args .at) (a .pre) (c .if1 .left)
+
+pub parent-count-spec : {M : Type 1} → statement M
+parent-count-spec =
+    tie.close
+    (tie.spec
+    shared-slice-read-if1
+    add-wide
+    shared-slice-read-wide
+    wide-requires
+    returns
+    returns-2)

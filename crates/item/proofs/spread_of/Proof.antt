@@ -1,0 +1,51 @@
+-- `item::spread_of` meets its contract. Assumes nothing.
+use borrow.Author.Needs.{needs}
+use Rattle.item.specs.Item.{spreadByte}
+use mathlib.Core.Path.{_∙_}
+use Rattle.item.proofs.Fields.{meant-defer, meant-renew, meant-forget, figure-within, spread-read, spread-not}
+use native.Mathlib.Omega.{arith}
+use Rattle.item.proofs.spread_of.Statement.{statement}
+use Rattle.item.proofs.spread_of.Tie as tie
+
+shared-slice-read-if1 : tie.Need-shared-slice-read-if1
+shared-slice-read-if1 c = search needs
+
+add-match : tie.Need-add-match
+add-match c = search needs
+
+shared-slice-read-match : tie.Need-shared-slice-read-match
+shared-slice-read-match c =
+    let a = c .before .before .before in
+    omega (arith, figure-within (a .args .s .now) (a .args .at) (a .pre) (c .before .if1 .taken))
+
+returns : tie.Need-returns
+returns c =
+    let a = c .before .before .before .before in
+    meant-defer (spreadByte (a .args .s .now) (a .args .at)) (c .match .keys1) ∙ spread-read (a .args .s .now) (a .args .at) (a .pre) (c .before .before .if1 .taken)
+
+returns-2 : tie.Need-returns-2
+returns-2 c =
+    let a = c .before .before .before .before in
+    meant-renew (spreadByte (a .args .s .now) (a .args .at)) (c .match .keys2) ∙ spread-read (a .args .s .now) (a .args .at) (a .pre) (c .before .before .if1 .taken)
+
+returns-3 : tie.Need-returns-3
+returns-3 c =
+    let a = c .before .before .before .before in
+    meant-forget (spreadByte (a .args .s .now) (a .args .at)) (c .match .rest .0 .1) (c .match .rest .1) ∙ spread-read (a .args .s .now) (a .args .at) (a .pre) (c .before .before .if1 .taken)
+
+returns-4 : tie.Need-returns-4
+returns-4 c =
+    let a = c .before .before in
+    spread-not (a .args .s .now) (a .args .at) (a .pre) (c .if1 .left)
+
+pub spread-of-spec : {M : Type 1} → statement M
+spread-of-spec =
+    tie.close
+    (tie.spec
+    shared-slice-read-if1
+    add-match
+    shared-slice-read-match
+    returns
+    returns-2
+    returns-3
+    returns-4)

@@ -1,0 +1,150 @@
+// The items of a sheet that opens, read from their fields, and the index.
+// A field is a tag, two length bytes and its content. A figure's content is rule, keep, spread and parent count, two bytes
+// a parent, and the name.
+ghost use mathlib.Core.Path.{_≡_};
+ghost use mathlib.Core.Bool.{true};
+ghost use Prim.Native.Nat.{_<_, _≤_, _+_, _*_};
+ghost use lib.ListN.{length, getD, take};
+ghost use Rattle.circuit.specs.Sheet as circuit;
+ghost use Rattle.item.specs.Item.{ItemField, fieldItem, spreadMeaning, OperationRead, CountRead};
+ghost use Rattle.item.specs.Offsets.{offsetBytes, sameBytes, fourAt, putOffset};
+ghost use Rattle.sheet.specs.Index.{bytes32};
+
+// What a stored figure does when a parent's change is told.
+pub enum Spread {
+    Defer,
+    Renew,
+    Forget,
+}
+
+const FIGURE: u8 = 3;
+
+fn wide(b: u8) -> usize
+    ensures { λ r. ⌜ r ≡ b ⌝ }
+{
+    b as usize
+}
+
+pub fn is_figure(s: &[u8], at: usize) -> bool
+    requires { ⌜ ItemField (now s) at ⌝ }
+    ensures { λ r. ⌜ r ≡ circuit.isFigure (fieldItem (now (s .entry)) at) ⌝ }
+{
+    s[at] == FIGURE
+}
+
+// A figure's operation.
+pub fn operation(s: &[u8], at: usize) -> value::Operation
+    requires { ⌜ ItemField (now s) at ⌝ ∗ ⌜ circuit.isFigure (fieldItem (now s) at) ≡ true ⌝ }
+    ensures { λ r. ⌜ OperationRead (fieldItem (now (s .entry)) at) r ⌝ }
+{
+    value::operation_of(s[at + 3], wide(s[at + 6]))
+}
+
+pub fn is_kept(s: &[u8], at: usize) -> bool
+    requires { ⌜ ItemField (now s) at ⌝ }
+    ensures { λ r. ⌜ r ≡ circuit.keptOf (fieldItem (now (s .entry)) at) ⌝ }
+{
+    if s[at] == FIGURE {
+        s[at + 4] == 1
+    } else {
+        false
+    }
+}
+
+pub fn spread_of(s: &[u8], at: usize) -> Spread
+    requires { ⌜ ItemField (now s) at ⌝ }
+    ensures { λ r. ⌜ spreadMeaning r ≡ circuit.spreadOf (fieldItem (now (s .entry)) at) ⌝ }
+{
+    if s[at] == FIGURE {
+        match s[at + 5] {
+            0 => Spread::Defer,
+            1 => Spread::Renew,
+            _ => Spread::Forget,
+        }
+    } else {
+        Spread::Defer
+    }
+}
+
+// 0 for an entry.
+pub fn parent_count(s: &[u8], at: usize) -> usize
+    requires { ⌜ ItemField (now s) at ⌝ }
+    ensures { λ r. ⌜ CountRead (fieldItem (now (s .entry)) at) r ⌝ }
+{
+    if s[at] == FIGURE {
+        wide(s[at + 6])
+    } else {
+        0
+    }
+}
+
+pub fn parent(s: &[u8], at: usize, k: usize) -> usize
+    requires { ⌜ ItemField (now s) at ⌝ ∗ ⌜ k < length (circuit.parentsOf (fieldItem (now s) at)) ⌝ }
+    ensures { λ r. ⌜ r ≡ getD (circuit.parentsOf (fieldItem (now (s .entry)) at)) k 0 ⌝ }
+{
+    field::u16_at(s, at + 7 + 2 * k)
+}
+
+// Whether the item lists i as a parent.
+pub fn is_child(s: &[u8], at: usize, i: usize) -> bool
+    requires { ⌜ ItemField (now s) at ⌝ }
+    ensures { λ r. ⌜ r ≡ circuit.member i (circuit.parentsOf (fieldItem (now (s .entry)) at)) ⌝ }
+{
+    let n = parent_count(s, at);
+    let mut k = 0;
+    while k < n {
+        if parent(s, at, k) == i {
+            return true;
+        }
+        k += 1;
+    }
+    false
+}
+
+// An offset in four bytes, the low one first.
+fn put_offset(index: &mut [u8], at: usize, offset: usize)
+    requires { ⌜ at + 4 ≤ length (now index) ⌝ }
+    ensures { λ r. ⌜ now (index .exit) ≡ putOffset (now (index .entry)) at offset ⌝ }
+{
+    index[at] = (offset % 256) as u8;
+    index[at + 1] = (offset / 256 % 256) as u8;
+    index[at + 2] = (offset / 65536 % 256) as u8;
+    index[at + 3] = (offset / 16777216 % 256) as u8;
+}
+
+// The index of the first n offsets.
+pub fn write_index(offsets: &[usize], n: usize, index: &mut [u8])
+    requires { ⌜ (n ≤ length (now offsets)) × (length (now index) ≡ 4 * n) ⌝ }
+    ensures { λ r. ⌜ now (index .exit) ≡ offsetBytes (take n (now (offsets .entry))) ⌝ }
+{
+    let mut k = 0;
+    while k < n {
+        put_offset(index, 4 * k, offsets[k]);
+        k += 1;
+    }
+}
+
+// Whether the four bytes are those of an offset. They are compared as one number.
+fn is_offset(index: &[u8], at: usize, offset: usize) -> bool
+    requires { ⌜ at + 4 ≤ length (now index) ⌝ }
+    ensures { λ r. ⌜ r ≡ sameBytes (fourAt (now (index .entry)) at) (bytes32 offset) ⌝ }
+{
+    let low = field::u16_at(index, at);
+    let high = field::u16_at(index, at + 2);
+    low + 65536 * high == offset % 4294967296
+}
+
+// Whether the index is that of the first n offsets.
+pub fn index_matches(offsets: &[usize], n: usize, index: &[u8]) -> bool
+    requires { ⌜ (n ≤ length (now offsets)) × (length (now index) ≡ 4 * n) ⌝ }
+    ensures { λ r. ⌜ r ≡ sameBytes (now (index .entry)) (offsetBytes (take n (now (offsets .entry)))) ⌝ }
+{
+    let mut k = 0;
+    while k < n {
+        if !is_offset(index, 4 * k, offsets[k]) {
+            return false;
+        }
+        k += 1;
+    }
+    true
+}
