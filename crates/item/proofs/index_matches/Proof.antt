@@ -1,3 +1,4 @@
+-- `item::index_matches` meets its contract. The loop's invariant: the entries that are left decide. Assumes nothing.
 use native.Mathlib.Omega.{arith}
 use mathlib.Core.Path.{_≡_, refl, sym, ap, _∙_}
 use Prim.Native.Nat.{_≤_, _*_, _-_}
@@ -6,9 +7,6 @@ use lib.ListN.{length, take}
 use Rattle.item.proofs.Offsets.{Compared, compared-next, compared-other, compared-done}
 use Rattle.item.proofs.index_matches.Statement.{statement}
 use Rattle.item.proofs.index_matches.Tie as tie
-use Rattle.item.proofs.index_matches.Reads as reads
-use Rattle.item.proofs.index_matches.Lts as lts
-use Rattle.item.proofs.is_offset.Reads as is-offset-reads
 
 abbrev Inv-loop : tie.InvT-loop
 Inv-loop offsets n index k₀ k = (k ≤ n) × Compared index (take n offsets) k
@@ -16,50 +14,40 @@ Inv-loop offsets n index k₀ k = (k ≤ n) × Compared index (take n offsets) k
 abbrev μ-loop : tie.MeasureT-loop
 μ-loop offsets n index k₀ k = n - k
 
--- src/lib.rt:143:5
 loop-holds : tie.Need-loop-holds Inv-loop μ-loop
 loop-holds c =
     (omega arith, refl)
 
--- src/lib.rt:144:30
 mul-is-offset : tie.Need-mul-is-offset Inv-loop μ-loop
 mul-is-offset c = omega arith
 
--- src/lib.rt:144:37
 mul-is-offset-2 : tie.Need-mul-is-offset-2 Inv-loop μ-loop
 mul-is-offset-2 c = omega arith
 
--- src/lib.rt:144:37
 shared-slice-read-is-offset : tie.Need-shared-slice-read-is-offset Inv-loop μ-loop
 shared-slice-read-is-offset c = omega arith
 
--- src/lib.rt:144:13
 is-offset-requires : tie.Need-is-offset-requires Inv-loop μ-loop
 is-offset-requires c κs = omega arith
 
--- src/lib.rt:145:13
 returns : tie.Need-returns Inv-loop μ-loop
 returns c =
     let a = c .before .before .before .before .before .before .before in
     let l = c .before .before .before .before .loop in
     compared-other (a .args .index .now) (a .args .offsets .now) (a .args .n) (l .k) (omega arith) (omega arith) (omega arith) (l .inv .1) (sym (not-true _ (c .if1 .taken)) ∙ c .before .is-offset .ensures)
 
--- src/lib.rt:147:9
 add-k : tie.Need-add-k Inv-loop μ-loop
 add-k c = omega arith
 
--- src/lib.rt:143:5
 loop-less : tie.Need-loop-less Inv-loop μ-loop
 loop-less c = omega arith
 
--- src/lib.rt:143:5
 loop-again : tie.Need-loop-again Inv-loop μ-loop
 loop-again c =
     let a = c .before .before .before .before .before .before .before in
     let l = c .before .before .before .before .loop in
     (omega arith, compared-next (a .args .index .now) (a .args .offsets .now) (a .args .n) (l .k) (omega arith) (omega arith) (omega arith) (l .inv .1) (sym (not-false _ (c .if1 .left)) ∙ c .before .is-offset .ensures))
 
--- src/lib.rt:138:1
 returns-2 : tie.Need-returns-2 Inv-loop μ-loop
 returns-2 c =
     let a = c .before .before .before .before in

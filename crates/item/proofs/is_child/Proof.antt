@@ -1,3 +1,4 @@
+-- `item::is_child` meets its contract. The loop's invariant: the parents that are left decide. Assumes nothing.
 use native.Mathlib.Omega.{arith}
 use mathlib.Core.Path.{_≡_, refl, sym, ap, _∙_}
 use Prim.Native.Nat.{_≤_, _*_, _-_}
@@ -7,10 +8,6 @@ use Rattle.item.specs.Item.{fieldItem}
 use Rattle.item.proofs.Children.{search-found, search-next, search-done}
 use Rattle.item.proofs.is_child.Statement.{statement}
 use Rattle.item.proofs.is_child.Tie as tie
-use Rattle.item.proofs.is_child.Reads as reads
-use Rattle.item.proofs.is_child.Lts as lts
-use Rattle.item.proofs.parent.Reads as parent-reads
-use Rattle.item.proofs.parent_count.Reads as parent-count-reads
 
 abbrev Inv-loop : tie.InvT-loop
 Inv-loop s at i n k₀ k = (k ≤ n) × (member i (parentsOf (fieldItem s at)) ≡ member i (drop k (parentsOf (fieldItem s at))))
@@ -18,23 +15,19 @@ Inv-loop s at i n k₀ k = (k ≤ n) × (member i (parentsOf (fieldItem s at)) �
 abbrev μ-loop : tie.MeasureT-loop
 μ-loop s at i n k₀ k = n - k
 
--- src/lib.rt:93:9
 parent-count-requires : tie.Need-parent-count-requires Inv-loop μ-loop
 parent-count-requires c κs =
     c .before .pre
 
--- src/lib.rt:95:5
 loop-holds : tie.Need-loop-holds Inv-loop μ-loop
 loop-holds c =
     (omega arith, refl)
 
--- src/lib.rt:96:12
 parent-requires : tie.Need-parent-requires Inv-loop μ-loop
 parent-requires c κs =
     let a = c .before .before .before .before in
     (a .pre, omega (arith, c .before .before .parent-count .ensures .count-is))
 
--- src/lib.rt:97:13
 returns : tie.Need-returns Inv-loop μ-loop
 returns c =
     let a = c .before .before .before .before .before .before in
@@ -42,15 +35,12 @@ returns c =
     let n = c .before .before .before .before .parent-count .ensures .count-is in
     search-found (a .args .i) (parentsOf (fieldItem (a .args .s .now) (a .args .at))) (l .k) (c .before .parent .result) (omega arith) (c .before .parent .ensures) (l .inv .1) (c .if1 .taken)
 
--- src/lib.rt:99:9
 add-k : tie.Need-add-k Inv-loop μ-loop
 add-k c = omega arith
 
--- src/lib.rt:95:5
 loop-less : tie.Need-loop-less Inv-loop μ-loop
 loop-less c = omega arith
 
--- src/lib.rt:95:5
 loop-again : tie.Need-loop-again Inv-loop μ-loop
 loop-again c =
     let a = c .before .before .before .before .before .before in
@@ -58,7 +48,6 @@ loop-again c =
     let n = c .before .before .before .before .parent-count .ensures .count-is in
     (omega arith, search-next (a .args .i) (parentsOf (fieldItem (a .args .s .now) (a .args .at))) (l .k) (c .before .parent .result) (omega arith) (c .before .parent .ensures) (l .inv .1) (c .if1 .left))
 
--- src/lib.rt:89:1
 returns-2 : tie.Need-returns-2 Inv-loop μ-loop
 returns-2 c =
     let a = c .before .before .before .before in

@@ -1,3 +1,4 @@
+-- `item::is_offset` meets its contract: four bytes are equal exactly if their numbers are. Assumes nothing.
 use Prim.Native.Nat.{_+_, _*_}
 use lib.ListN.{getD}
 use native.Mathlib.Omega.{arith}
@@ -6,31 +7,22 @@ use Rattle.item.proofs.Offsets.{number-compared}
 use borrow.Author.Needs.{needs}
 use Rattle.item.proofs.is_offset.Statement.{statement}
 use Rattle.item.proofs.is_offset.Tie as tie
-use Rattle.item.proofs.is_offset.Reads as reads
-use Rattle.item.proofs.is_offset.Lts as lts
-use Rattle.field.proofs.u16_at.Reads as u16-at-reads
 
--- src/lib.rt:132:9
 u16-at-requires : tie.Need-u16-at-requires
 u16-at-requires c κs = search needs
 
--- src/lib.rt:133:37
 add-u16-at : tie.Need-add-u16-at
 add-u16-at c = search needs
 
--- src/lib.rt:133:9
 u16-at-requires-2 : tie.Need-u16-at-requires-2
 u16-at-requires-2 c κs = search needs
 
--- src/lib.rt:134:11
 mul-result : tie.Need-mul-result
 mul-result c = search needs
 
--- src/lib.rt:134:5
 add-result : tie.Need-add-result
 add-result c = search needs
 
--- src/lib.rt:128:1
 returns : tie.Need-returns
 returns c =
     let a = c .before .before .before in

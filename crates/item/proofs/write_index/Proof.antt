@@ -1,3 +1,4 @@
+-- `item::write_index` meets its contract. The loop's invariant: the entries written are those of the first k offsets. Assumes nothing.
 use native.Mathlib.Omega.{arith}
 use mathlib.Core.Path.{_≡_, refl, sym, ap, _∙_}
 use Prim.Native.Nat.{_≤_, _+_, _*_, _-_}
@@ -6,9 +7,6 @@ use Rattle.item.specs.Offsets.{offsetBytes}
 use Rattle.item.proofs.Offsets.{put-length, write-next, write-done}
 use Rattle.item.proofs.write_index.Statement.{statement}
 use Rattle.item.proofs.write_index.Tie as tie
-use Rattle.item.proofs.write_index.Reads as reads
-use Rattle.item.proofs.write_index.Lts as lts
-use Rattle.item.proofs.put_offset.Reads as put-offset-reads
 
 abbrev Inv-loop : tie.InvT-loop
 Inv-loop offsets n index₀ k₀ index k =
@@ -17,53 +15,44 @@ Inv-loop offsets n index₀ k₀ index k =
 abbrev μ-loop : tie.MeasureT-loop
 μ-loop offsets n index₀ k₀ index k = n - k
 
--- src/lib.rt:121:5
 loop-holds : tie.Need-loop-holds Inv-loop μ-loop
 unfolding offsetBytes
 loop-holds c =
     (omega arith, omega arith, refl)
 
--- src/lib.rt:122:27
 mul-put-offset : tie.Need-mul-put-offset Inv-loop μ-loop
 mul-put-offset c = omega arith
 
--- src/lib.rt:122:34
 mul-put-offset-2 : tie.Need-mul-put-offset-2 Inv-loop μ-loop
 mul-put-offset-2 c = omega arith
 
--- src/lib.rt:122:34
 shared-slice-read-put-offset : tie.Need-shared-slice-read-put-offset Inv-loop μ-loop
 shared-slice-read-put-offset c = omega arith
 
--- src/lib.rt:122:9
 put-offset-requires : tie.Need-put-offset-requires Inv-loop μ-loop
 put-offset-requires c κs = omega arith
 
--- src/lib.rt:123:9
 add-k : tie.Need-add-k Inv-loop μ-loop
 add-k c = omega arith
 
--- src/lib.rt:121:5
 loop-less : tie.Need-loop-less Inv-loop μ-loop
 loop-less c = omega arith
 
--- src/lib.rt:121:5
 loop-again : tie.Need-loop-again Inv-loop μ-loop
 loop-again c =
     let a = c .before .before .before .before .before .before .before .before .before in
     let l = c .before .before .before .before .before .before .loop in
     let offsets = a .args .offsets .now in
-    let e = c .before .before .put-offset .ensures in
-    (omega arith,
-    ap length e ∙ put-length (l .index) (4 * l .k) (getD offsets (l .k) 0) ∙ l .inv .1,
-    ap (take (4 * (l .k + 1))) e ∙ write-next offsets (l .index) (l .k) (omega arith) (omega arith) (l .inv .2))
+    let e = c .before .before .put-offset .ensures in (
+      omega arith,
+      ap length e ∙ put-length (l .index) (4 * l .k) (getD offsets (l .k) 0) ∙ l .inv .1,
+      ap (take (4 * (l .k + 1))) e ∙ write-next offsets (l .index) (l .k) (omega arith) (omega arith) (l .inv .2),
+    )
 
--- src/lib.rt:116:1
 same-length : tie.Need-same-length Inv-loop μ-loop
 same-length c =
     omega arith
 
--- src/lib.rt:116:1
 returns : tie.Need-returns Inv-loop μ-loop
 returns c =
     let a = c .before .before .before .before in
