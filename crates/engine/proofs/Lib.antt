@@ -2,3 +2,4 @@ pub mod Holdable
 pub mod Bridge
 pub mod Demands
 pub mod Recalling
+pub mod Settling

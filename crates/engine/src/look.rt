@@ -1,7 +1,7 @@
 // Looking up and working out. The two call each other up the circuit: parents have lower numbers.
 ghost use mathlib.Core.Path.{_≡_};
 ghost use mathlib.Core.Bool.{true, false, _||_};
-ghost use Prim.Native.Nat.{ℕ, _+_, _<_, _≤_};
+ghost use Prim.Native.Nat.{ℕ, _+_, _*_, _<_, _≤_};
 ghost use lib.ListN.{length};
 ghost use Rattle.circuit.specs.Table as circuit;
 ghost use Rattle.circuit.specs.Sheet.{size, itemAt, isFigure};
@@ -35,6 +35,12 @@ pub fn notice_if(flag: bool) -> Mark
     if flag { Mark::Notice } else { Mark::Unmarked }
 }
 
+fn either(a: bool, b: bool) -> bool
+    ensures { λ r. ⌜ r ≡ (a || b) ⌝ }
+{
+    a || b
+}
+
 // What working out item i gave, for a look-up: flagged too if its own mark is notice. It is stored where the item is kept, and
 // remembered elsewhere.
 fn settle(
@@ -51,7 +57,7 @@ fn settle(
     ensures { λ r. ⌜ Settled i generation kept noticed (seenMeaning worked) (now (table .entry)) (now (tags .entry)) (now (numbers .entry)) (seenMeaning r) (now (table .exit)) (now (tags .exit)) (now (numbers .exit)) ⌝ }
 {
     let value = worked.value;
-    let flag = worked.flag || noticed;
+    let flag = either(worked.flag, noticed);
     let seen = Seen { value, flag };
     if kept {
         table::store_cell(table, i, Cell::Held(value, notice_if(flag)));
@@ -114,7 +120,7 @@ pub fn work_out(
         let value = seen.value;
         kinds[k] = value.kind();
         amounts[k] = value.number_or_zero();
-        flag = flag || seen.flag;
+        flag = either(flag, seen.flag);
         k += 1;
     }
     let op = item::operation(sheet, at);
