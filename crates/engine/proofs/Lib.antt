@@ -3,3 +3,4 @@ pub mod Bridge
 pub mod Demands
 pub mod Recalling
 pub mod Settling
+pub mod Looking
