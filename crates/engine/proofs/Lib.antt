@@ -4,3 +4,4 @@ pub mod Demands
 pub mod Recalling
 pub mod Settling
 pub mod Looking
+pub mod Gathering

@@ -20,14 +20,18 @@ use Rattle.circuit.proofs.View.{view, view-at}
 use Rattle.circuit.proofs.Fill.{Fill, Filling, stays, fills, Looks, upd-same, upd-cases, fill-view, look-right, work-right, lookUp-is}
 use Rattle.circuit.proofs.Memo.{Remembered, remember, remember-fill, work-store}
 use Rattle.sheet.specs.Opened.{sheetOf, Located}
-use Rattle.item.proofs.Located.{sheet-ordered}
+use Rattle.item.specs.Item.{fieldItem}
+use Rattle.item.proofs.Located.{sheet-ordered, located-item}
 use Rattle.table.specs.Rows.{row, setRow}
 use Rattle.table.specs.Record.{width, encodeCell, decodeCell, mayHold}
 use Rattle.table.specs.Bytes.{decodeTable, tableForm, tableLength, Holdable}
 use Rattle.table.proofs.Tables.{decoded-holdable, decode-setRow, setRow-form, record-fits, holdable-wellFormed}
-use Rattle.value.specs.Meaning.{firstValues, ofParts}
+use Rattle.value.specs.Meaning.{meaning, ofParts}
+use Rattle.table.specs.Meaning.{markMeaning, cellMeaning}
+use Rattle.table.specs.declared.Cell.the-variants.{Unk, Held}
+use Rattle.engine.specs.declared.memo.Recall.the-variants.{Known}
 use Rattle.value.proofs.Parents.{of-own-parts}
-use Rattle.engine.specs.Memo.{Found, found, bit, codeOf, tagOf, foundIn, remembered, Remembers, Memo, NoneFrom}
+use Rattle.engine.specs.Memo.{Found, found, seenMeaning, recallMeaning, bit, codeOf, tagOf, foundIn, remembered, Remembers, Memo, NoneFrom}
 use Rattle.engine.specs.Pass.{Lent, Leaves, Settled, behind, gatherTo}
 use Rattle.engine.proofs.Holdable.{look-formed, work-formed}
 
@@ -120,11 +124,12 @@ remembered-here : (tags : List ℕ) (numbers : List ℤ) (generation i : ℕ) (f
     → remembered (set tags i (tagOf generation f)) (set numbers i (numberOf (f .value))) generation i ≡ some f
 unfolding remembered
 remembered-here tags numbers generation i f a b =
-    rw
-    (getD-set-same tags i (tagOf generation f) 0 a,
-    getD-set-same numbers i (numberOf (f .value)) (pos 0) b,
-    eq-eqb (tagOf generation f / 8) generation (tag-generation generation f),
-    tag-code generation f)
+    rw (
+      getD-set-same tags i (tagOf generation f) 0 a,
+      getD-set-same numbers i (numberOf (f .value)) (pos 0) b,
+      eq-eqb (tagOf generation f / 8) generation (tag-generation generation f),
+      tag-code generation f,
+    )
     (ap some (code-found f))
 
 remembered-elsewhere : (tags : List ℕ) (numbers : List ℤ) (generation i j x : ℕ) (z : ℤ) → (j ≡ i → ⊥)
@@ -305,3 +310,30 @@ module _ {s offsets t : List ℕ} (lent : Lent s offsets t) (tags : List ℕ) (g
           subst (λ x. lookUp S (x .table) i ≡ looked (x .table) (x .value) (x .flag)) is (remember S (sheet-ordered s) (decodeTable t) i)
           ∙ ap (λ v. looked (r .table) v (r .flag || noticed)) (sym value-f)
           ∙ ap (λ x. looked (r .table) (f .value) x) (sym flag-f)
+
+-- The same from what the code's calls ensure: the cell that was read, what was recalled.
+module _ {s offsets t : List ℕ} (lent : Lent s offsets t) {tags : List ℕ} {numbers : List ℤ} {generation i : ℕ} (low : i < size (sheetOf s))
+    (memo : Memo (sheetOf s) (decodeTable t) tags numbers generation) (cell : Rattle.table.specs.declared.Cell.Cell) (reads : cellMeaning cell ≡ decodeTable t i) where
+  pub stored-returns : (v : Rattle.value.specs.declared.Value.Value) (m : Rattle.table.specs.declared.Mark.Mark) → cell ≡ Held v m → (flag : Bool) → flag ≡ isNotice (markMeaning m)
+      → (b : ℕ) → i < b → Leaves s t tags generation b (lookUp (sheetOf s) (decodeTable t) i) (found (meaning v) flag) t tags numbers
+  stored-returns v m e flag f b over =
+      subst (λ x. Leaves s t tags generation b (lookUp (sheetOf s) (decodeTable t) i) (found (meaning v) x) t tags numbers) (sym f)
+      (leaves-stored lent tags numbers generation i (meaning v) (markMeaning m) low memo (sym reads ∙ ap cellMeaning e) b over)
+
+  pub recalled-returns : (recall : Rattle.engine.specs.declared.memo.Recall.Recall) → recallMeaning recall ≡ remembered tags numbers generation i → (seen : Rattle.engine.specs.declared.memo.Seen.Seen) → recall ≡ Known seen
+      → (b : ℕ) → i < b → Leaves s t tags generation b (lookUp (sheetOf s) (decodeTable t) i) (seenMeaning seen) t tags numbers
+  recalled-returns recall r seen e b over =
+      leaves-remembered lent tags numbers generation i (seenMeaning seen) low memo (ap recallMeaning (sym e) ∙ r) b over
+
+  pub worked-figure : (noticed : Bool) → cell ≡ Unk noticed → isFigure (itemAt (sheetOf s) i) ≡ true
+  worked-figure noticed e = unstored-figure lent i noticed low (sym reads ∙ ap cellMeaning e)
+
+  pub worked-returns : (noticed : Bool) → cell ≡ Unk noticed
+      → (kept : Bool) → kept ≡ keptOf (fieldItem s (getD offsets i 0))
+      → (w : Found) (t₁ tags₁ : List ℕ) (numbers₁ : List ℤ) → length t₁ ≡ length t
+      → ((b : ℕ) → i ≤ b → Leaves s t tags generation b (work (sheetOf s) (decodeTable t) i) w t₁ tags₁ numbers₁)
+      → (f : Found) (t₂ tags₂ : List ℕ) (numbers₂ : List ℤ) → Settled i generation kept noticed w t₁ tags₁ numbers₁ f t₂ tags₂ numbers₂
+      → (b : ℕ) → i < b → Leaves s t tags generation b (lookUp (sheetOf s) (decodeTable t) i) f t₂ tags₂ numbers₂
+  worked-returns noticed e kept k w t₁ tags₁ numbers₁ len worked f t₂ tags₂ numbers₂ settled =
+      leaves-worked lent tags generation i noticed low (sym reads ∙ ap cellMeaning e) w t₁ tags₁ numbers₁ len worked kept
+      (k ∙ ap keptOf (located-item s offsets (lent .located) i low)) f t₂ tags₂ numbers₂ settled

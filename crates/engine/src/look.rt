@@ -13,10 +13,11 @@ ghost use Rattle.table.specs.Record.{width, encodeCell};
 ghost use Rattle.table.specs.Meaning.{markMeaning};
 ghost use Rattle.engine.specs.Memo.{Found, seenMeaning, Memo, tagOf};
 ghost use Rattle.engine.specs.Pass.{Lent, Leaves, Settled};
-
 use crate::memo;
-use crate::memo::{Recall, Seen};
-use table::{Cell, Mark};
+use crate::memo::Recall;
+use crate::memo::Seen;
+use table::Cell;
+use table::Mark;
 use value::Value;
 
 pub fn is_notice(m: Mark) -> bool
@@ -87,8 +88,8 @@ pub fn look_up(
         Cell::Unk(noticed) => match memo::recalled(tags, numbers, generation, i) {
             Recall::Known(seen) => seen,
             Recall::Unknown => {
-                let worked = work_out(sheet, offsets, table, tags, numbers, generation, i);
                 let kept = item::is_kept(sheet, offsets[i]);
+                let worked = work_out(sheet, offsets, table, tags, numbers, generation, i);
                 settle(table, tags, numbers, generation, i, kept, noticed, worked)
             }
         },

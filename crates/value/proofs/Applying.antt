@@ -45,7 +45,7 @@ module _ (op : Operation) (o : rules.Operation) (is : operationMeaning op ≡ so
   applied-all r e =
       record {
         result = rw (is, e);
-        formed = rw e (apply-wellFormed o (firstValues ks zs n) formed)
+        formed = rw e (apply-wellFormed o (firstValues ks zs n) formed);
       }
 
   -- the values that two arrays hold, read one by one

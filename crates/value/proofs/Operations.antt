@@ -23,15 +23,16 @@ not-coded code n e = rw e
 pub no-code : (code : ℕ) → (code ≡ 1 → ⊥) → (code ≡ 2 → ⊥) → (code ≡ 3 → ⊥) → (code ≡ 4 → ⊥) → (code ≡ 5 → ⊥) → (code ≡ 6 → ⊥) → (code ≡ 7 → ⊥) → (code ≡ 8 → ⊥) → coded code ≡ none
 unfolding coded
 no-code code a b c d e f g h =
-    rw
-    (ne-eqb code 1 a,
-    ne-eqb code 2 b,
-    ne-eqb code 3 c,
-    ne-eqb code 4 d,
-    ne-eqb code 5 e,
-    ne-eqb code 6 f,
-    ne-eqb code 7 g,
-    ne-eqb code 8 h)
+    rw (
+      ne-eqb code 1 a,
+      ne-eqb code 2 b,
+      ne-eqb code 3 c,
+      ne-eqb code 4 d,
+      ne-eqb code 5 e,
+      ne-eqb code 6 f,
+      ne-eqb code 7 g,
+      ne-eqb code 8 h,
+    )
 
 pub enough : (n : ℕ) → 1 ≤ n → n < 17 → oneOrMore n ≡ true
 unfolding oneOrMore maxParents
