@@ -1,0 +1,15 @@
+use Rattle.value.proofs.greater.Statement.{statement}
+use Rattle.value.proofs.greater.Tie as tie
+use Rattle.value.proofs.greater.Reads as reads
+use Rattle.value.proofs.greater.Lts as lts
+
+-- src/lib.rt:243:1
+returns : tie.Need-returns
+returns c = ?
+
+-- src/lib.rt:243:1
+returns-2 : tie.Need-returns-2
+returns-2 c = ?
+
+pub greater-spec : {M : Type 1} → statement M
+greater-spec = tie.close (tie.spec returns returns-2)

@@ -1,0 +1,15 @@
+use Rattle.value.proofs.lesser.Statement.{statement}
+use Rattle.value.proofs.lesser.Tie as tie
+use Rattle.value.proofs.lesser.Reads as reads
+use Rattle.value.proofs.lesser.Lts as lts
+
+-- src/lib.rt:237:1
+returns : tie.Need-returns
+returns c = ?
+
+-- src/lib.rt:237:1
+returns-2 : tie.Need-returns-2
+returns-2 c = ?
+
+pub lesser-spec : {M : Type 1} → statement M
+lesser-spec = tie.close (tie.spec returns returns-2)

@@ -1,0 +1,11 @@
+use Rattle.value.proofs.limit.Statement.{statement}
+use Rattle.value.proofs.limit.Tie as tie
+use Rattle.value.proofs.limit.Reads as reads
+use Rattle.value.proofs.limit.Lts as lts
+
+-- src/lib.rt:32:1
+returns : tie.Need-returns
+returns c = ?
+
+pub limit-spec : {M : Type 1} → statement M
+limit-spec = tie.close (tie.spec returns)
