@@ -7,23 +7,43 @@ use mathlib.Core.List.{List, [], _∷_, _++_, map}
 use lib.Dec.{ltb}
 use lib.ListN.{length, getD, take, drop}
 use Rattle.field.specs.Field.{cutAt, le16At}
+use Rattle.circuit.specs.Calls.{firstCause}
 use Rattle.circuit.specs.Sheet.{Sheet}
 use Rattle.sheet.specs.Layout.{all, highest, machineItem}
-use Rattle.sheet.specs.Read.{Placed, Scan, going, stopped, scan, SheetRead, opens, refused, readSheet, judge, headTests, headContent, editionIn, countIn}
+use Rattle.sheet.specs.Read.{Placed, Scan, going, stopped, scan, SheetRead, opens, refused, readSheet, judge, headTests, itemTests, itemIn, itemLevel, headContent, editionIn, countIn}
 use Rattle.sheet.specs.declared.Checked.{Checked}
 use Rattle.sheet.specs.declared.Checked.the-variants.{Opens, Refused}
 use Rattle.sheet.specs.declared.Judged.{Judged}
 use Rattle.sheet.specs.declared.Judged.the-variants.{Sound, Fault}
+
+abbrev pub offsetsOf : List Placed → List ℕ
+offsetsOf ps = map (λ p. p .offset) ps
+
+abbrev pub levelsOf : List Placed → List ℕ
+levelsOf ps = map (λ p. p .level) ps
 
 -- the check's answer
 abbrev pub checkedOf : SheetRead → Checked
 checkedOf (opens edition ps) = Opens edition (length ps)
 checkedOf (refused k at) = Refused k at
 
+-- the most items of a sheet of any edition: what the scratch arrays must hold
+unfoldable pub mostItems : ℕ
+mostItems = 1024
+
 -- a field's answer: its level, or the number of its lowest cause
 abbrev pub judgedOf : ℕ → ℕ → Judged
 judgedOf zero level = Sound level
 judgedOf (suc k) level = Fault (suc k)
+
+-- the answer for the field of item number `length ps`, after the items ps
+abbrev pub judgedItem : ℕ → List Placed → ℕ → List ℕ → Judged
+judgedItem edition ps tag content =
+    judgedOf (firstCause (itemTests edition ps tag content)) (itemLevel ps (itemIn tag content))
+
+-- the array begins with the levels of the items ps
+abbrev pub LevelsAt : List ℕ → List Placed → Type 0
+LevelsAt levels ps = take (length ps) levels ≡ levelsOf ps
 
 -- the items read before the first fault
 abbrev pub latest : Scan → List Placed → List Placed
@@ -45,12 +65,6 @@ readSoFar s =
 -- xs written over the front of ys
 abbrev pub over : List ℕ → List ℕ → List ℕ
 over xs ys = xs ++ drop (length xs) ys
-
-abbrev pub offsetsOf : List Placed → List ℕ
-offsetsOf ps = map (λ p. p .offset) ps
-
-abbrev pub levelsOf : List Placed → List ℕ
-levelsOf ps = map (λ p. p .level) ps
 
 -- the items of a sheet that opens, none of one that is refused
 abbrev pub placedIn : SheetRead → List Placed

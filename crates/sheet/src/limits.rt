@@ -7,8 +7,20 @@ pub const ENTRY_TAG: u8 = 2;
 pub const FIGURE_TAG: u8 = 3;
 pub const LAST_TAG: u8 = 4;
 
-// The length of the first field's content.
+// The first field's content: its length, and where the item count stands after the edition.
 pub const HEAD_LENGTH: usize = 4;
+pub const COUNT_AT: usize = 2;
+
+// The offset after the first field.
+pub const HEAD_NEXT: usize = 7;
+
+// A figure's content: where each part stands, and a parent's width.
+pub const RULE_AT: usize = 0;
+pub const KEEP_AT: usize = 1;
+pub const SPREAD_AT: usize = 2;
+pub const PARENT_COUNT_AT: usize = 3;
+pub const PARENTS_AT: usize = 4;
+pub const PARENT_WIDTH: usize = 2;
 
 // The most items of a sheet of any edition.
 pub const ITEM_LIMIT: usize = 1024;

@@ -1,67 +1,80 @@
+-- `sheet::level_over` meets its contract. The loop's invariant: each parent passed is below the item, and their highest level is known.
+-- Assumes nothing.
+use borrow.Author.Needs.{needs}
+use native.Mathlib.Omega.{arith}
+use mathlib.Core.Path.{_≡_, refl, ap, _∙_}
+use mathlib.Core.Bool.{true}
+use mathlib.Core.List.{map}
+use Prim.Native.Nat.{_-_, _≤_, max}
+use lib.Dec.{ltb}
+use lib.ListN.{getD}
+use Rattle.sheet.specs.Layout.{all, highest}
+use Rattle.sheet.specs.Check.{numbersAt}
+use Rattle.sheet.proofs.Levels.{below-more, highest-more, level-fails, level-passes}
 use Rattle.sheet.proofs.level_over.Statement.{statement}
 use Rattle.sheet.proofs.level_over.Tie as tie
-use Rattle.sheet.proofs.level_over.Reads as reads
-use Rattle.sheet.proofs.level_over.Lts as lts
-use Rattle.field.proofs.u16_at.Reads as u16-at-reads
-use Rattle.sheet.proofs.greater.Reads as greater-reads
 
 abbrev Inv-loop : tie.InvT-loop
-Inv-loop s at p i levels highest₀ k₀ highest k = ?
+Inv-loop s at p i levels highest₀ k₀ high k =
+    (k ≤ p)
+    × (all (λ q. ltb q i) (numbersAt s at k) ≡ true)
+    × (high ≡ highest (map (λ q. getD levels q 0) (numbersAt s at k)))
+    × (high ≤ 255)
 
 abbrev μ-loop : tie.MeasureT-loop
-μ-loop s at p i levels highest₀ k₀ highest k = ?
+μ-loop s at p i levels highest₀ k₀ high k = p - k
 
--- src/lib.rt:60:5
 loop-holds : tie.Need-loop-holds Inv-loop μ-loop
-loop-holds c = ?
+unfolding all numbersAt highest
+loop-holds c = (search needs, refl, refl, search needs)
 
--- src/lib.rt:61:44
 mul-u16-at : tie.Need-mul-u16-at Inv-loop μ-loop
-mul-u16-at c = ?
+mul-u16-at c = omega arith
 
--- src/lib.rt:61:39
 add-u16-at : tie.Need-add-u16-at Inv-loop μ-loop
-add-u16-at c = ?
+add-u16-at c = omega arith
 
--- src/lib.rt:61:13
 u16-at-requires : tie.Need-u16-at-requires Inv-loop μ-loop
-u16-at-requires c κs = ?
+u16-at-requires c κs = omega arith
 
--- src/lib.rt:63:13
 returns : tie.Need-returns Inv-loop μ-loop
-returns c = ?
+returns c = 
+    let a = c .before .before .before .before .before .before .args in
+    let u = c .before .u16-at in
+    (level-fails (a .s .now) (a .at) (a .i) (a .levels .now) (c .before .before .before .loop .k) (a .p) (u .result) (c .before .before .loop-test .taken) (u .ensures .0) (c .if1 .taken), search needs)
 
--- src/lib.rt:65:36
-element-copy-out-greater : tie.Need-element-copy-out-greater Inv-loop μ-loop
-element-copy-out-greater c = ?
+shared-slice-read-wide : tie.Need-shared-slice-read-wide Inv-loop μ-loop
+shared-slice-read-wide c = omega arith
 
--- src/lib.rt:65:36
-cast-greater : tie.Need-cast-greater Inv-loop μ-loop
-cast-greater c = ?
+wide-requires : tie.Need-wide-requires Inv-loop μ-loop
+wide-requires c κs = search needs
 
--- src/lib.rt:65:9
 greater-requires : tie.Need-greater-requires Inv-loop μ-loop
-greater-requires c κs = ?
+greater-requires c κs = search needs
 
--- src/lib.rt:60:9
 add-k : tie.Need-add-k Inv-loop μ-loop
-add-k c = ?
+add-k c = omega arith
 
--- src/lib.rt:60:5
 loop-less : tie.Need-loop-less Inv-loop μ-loop
-loop-less c = ?
+loop-less c = omega arith
 
--- src/lib.rt:60:5
 loop-again : tie.Need-loop-again Inv-loop μ-loop
-loop-again c = ?
+loop-again c = 
+    let a = c .before .before .before .before .before .before .before .before .before .args in
+    let u = c .before .before .before .before .u16-at in
+    let l = c .before .before .before .before .before .before .loop in
+    let w = c .before .wide .ensures in
+    let g = highest-more (a .s .now) (a .at) (a .i) (a .levels .now) (l .k) (u .result) (l .highest) (u .ensures .0) (l .inv .2) in
+    (search needs, below-more (a .s .now) (a .at) (a .i) (l .k) (u .result) (u .ensures .0) (c .before .before .before .if1 .left) (l .inv .1), c .greater .ensures ∙ ap (max (l .highest)) (w .0) ∙ g, omega arith)
 
--- src/lib.rt:67:5
 add-result : tie.Need-add-result Inv-loop μ-loop
-add-result c = ?
+add-result c = omega arith
 
--- src/lib.rt:55:1
 returns-2 : tie.Need-returns-2 Inv-loop μ-loop
-returns-2 c = ?
+returns-2 c = 
+    let a = c .before .before .before .before .args in
+    let k : c .before .loop .k ≡ a .p = omega arith in
+    (level-passes (a .s .now) (a .at) (a .i) (a .levels .now) (a .p) (c .before .loop .highest) (rw k at (c .before .loop .inv .1)) (rw k at (c .before .loop .inv .2)), search needs)
 
 pub level-over-spec : {M : Type 1} → statement M
 level-over-spec =
@@ -74,8 +87,8 @@ level-over-spec =
     add-u16-at
     u16-at-requires
     returns
-    element-copy-out-greater
-    cast-greater
+    shared-slice-read-wide
+    wide-requires
     greater-requires
     add-k
     loop-less

@@ -10,7 +10,7 @@ item-limit-requires c κs = search needs
 
 returns : tie.Need-returns
 unfolding countAllowed
-returns c = ?
+returns c = simp (le-leb _ _ (c .before .if1 .taken), c .item-limit .ensures)
 
 returns-2 : tie.Need-returns-2
 unfolding countAllowed
