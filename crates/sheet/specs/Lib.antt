@@ -3,3 +3,4 @@ pub mod Read
 pub mod Write
 pub mod Index
 pub mod Check
+pub mod Places
