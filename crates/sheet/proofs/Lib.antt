@@ -3,6 +3,7 @@ pub mod Names
 pub mod Levels
 pub mod Content
 pub mod Judging
+pub mod Fields
 pub mod Scan
 pub mod Items
 pub mod Exactly

@@ -1,108 +1,131 @@
+-- `sheet::judge_figure` meets its contract: at each `return` the tests that led there say what the field's answer is. Assumes nothing.
+use borrow.Author.Tests.{not-true, not-false}
+use mathlib.Core.Path.{sym, ap, _∙_}
+use mathlib.Core.Bool.{_&&_}
+use Prim.Native.Nat.{_+_}
+use lib.ListN.{getD}
+use Rattle.sheet.specs.Layout.{levelLimit, ruleAllowed, keepAllowed, spreadAllowed}
+use Rattle.sheet.proofs.Judging.{figure-short, figure-narrow, figure-unnamed, figure-unruled, figure-above, figure-high, figure-sound}
 use borrow.Author.Needs.{needs}
 use Rattle.sheet.proofs.judge_figure.Statement.{statement}
 use Rattle.sheet.proofs.judge_figure.Tie as tie
-use Rattle.sheet.proofs.judge_figure.Reads as reads
-use Rattle.sheet.proofs.judge_figure.Lts as lts
-use Rattle.sheet.proofs.figure_allowed.Reads as figure-allowed-reads
-use Rattle.sheet.proofs.level_over.Reads as level-over-reads
-use Rattle.sheet.proofs.name_allowed.Reads as name-allowed-reads
-use Rattle.sheet.proofs.wide.Reads as wide-reads
 
--- src/lib.rt:94:9
 returns : tie.Need-returns
-returns c = ?
+returns c = 
+    λ ps n l.
+    let a = c .before .before .before in
+    figure-short (a .args .s .now) (a .args .edition) (a .args .start) (a .args .len) (a .pre .0) ps (c .if1 .taken)
 
--- src/lib.rt:96:19
 add-count : tie.Need-add-count
 add-count c = search needs
 
--- src/lib.rt:96:17
 shared-slice-read-count : tie.Need-shared-slice-read-count
 shared-slice-read-count c = search needs
 
--- src/lib.rt:97:9
 wide-requires : tie.Need-wide-requires
 wide-requires c κs = search needs
 
--- src/lib.rt:98:31
 mul-before : tie.Need-mul-before
 mul-before c = search needs
 
--- src/lib.rt:98:18
 add-before : tie.Need-add-before
 add-before c = search needs
 
--- src/lib.rt:100:9
 returns-2 : tie.Need-returns-2
-returns-2 c = ?
+returns-2 c = 
+    λ ps n l.
+    let a = c .before .before .before .before .before .before in
+    let w = c .before .wide .ensures .0 in
+    figure-narrow (a .args .s .now) (a .args .edition) (a .args .start) (a .args .len) (a .pre .0) ps (c .before .wide .result) w (c .before .before .before .if1 .left) (c .if2 .taken)
 
--- src/lib.rt:102:25
 add-name-allowed : tie.Need-add-name-allowed
 add-name-allowed c = search needs
 
--- src/lib.rt:102:9
 name-allowed-requires : tie.Need-name-allowed-requires
 name-allowed-requires c κs = search needs
 
--- src/lib.rt:103:9
 returns-3 : tie.Need-returns-3
-returns-3 c = ?
+returns-3 c = 
+    λ ps n l.
+    let a = c .before .before .before .before .before .before .before .before in
+    let w = c .before .before .before .wide .ensures .0 in
+    figure-unnamed (a .args .s .now) (a .args .edition) (a .args .start) (a .args .len) (a .pre .0) ps (c .before .before .before .wide .result) w (c .before .before .before .before .before .if1 .left) (c .before .before .if2 .left)
+    (sym (c .before .name-allowed .ensures) ∙ not-true _ (c .if3 .taken))
 
--- src/lib.rt:105:35
 add-figure-allowed : tie.Need-add-figure-allowed
 add-figure-allowed c = search needs
 
--- src/lib.rt:105:33
 shared-slice-read-figure-allowed : tie.Need-shared-slice-read-figure-allowed
 shared-slice-read-figure-allowed c = search needs
 
--- src/lib.rt:105:55
 add-figure-allowed-2 : tie.Need-add-figure-allowed-2
 add-figure-allowed-2 c = search needs
 
--- src/lib.rt:105:53
 shared-slice-read-figure-allowed-2 : tie.Need-shared-slice-read-figure-allowed-2
 shared-slice-read-figure-allowed-2 c = search needs
 
--- src/lib.rt:105:75
 add-figure-allowed-3 : tie.Need-add-figure-allowed-3
 add-figure-allowed-3 c = search needs
 
--- src/lib.rt:105:73
 shared-slice-read-figure-allowed-3 : tie.Need-shared-slice-read-figure-allowed-3
 shared-slice-read-figure-allowed-3 c = search needs
 
--- src/lib.rt:105:9
 figure-allowed-requires : tie.Need-figure-allowed-requires
 figure-allowed-requires c κs = search needs
 
--- src/lib.rt:106:9
 returns-4 : tie.Need-returns-4
-returns-4 c = ?
+returns-4 c = 
+    λ ps n l.
+    let a = c .before .before .before .before .before .before .before .before .before .before .before .before .before in
+    let w = c .before .before .before .before .before .before .before .before .wide .ensures .0 in
+    figure-unruled (a .args .s .now) (a .args .edition) (a .args .start) (a .args .len) (a .pre .0) ps (c .before .before .before .before .before .before .before .before .wide .result) w (c .before .before .before .before .before .before .before .before .before .before .if1 .left) (c .before .before .before .before .before .before .before .if2 .left)
+    (sym (c .before .before .before .before .before .before .name-allowed .ensures) ∙ not-false _ (c .before .before .before .before .before .if3 .left))
+    (ap (λ q. ruleAllowed (getD (a .args .s .now) (a .args .start + 0) 0) q && keepAllowed (getD (a .args .s .now) (a .args .start + 1) 0) && spreadAllowed (a .args .edition) (getD (a .args .s .now) (a .args .start + 2) 0)) w
+          ∙ sym (c .before .figure-allowed .ensures) ∙ not-true _ (c .if4 .taken))
 
--- src/lib.rt:108:31
 add-level-over : tie.Need-add-level-over
 add-level-over c = search needs
 
--- src/lib.rt:108:9
 level-over-requires : tie.Need-level-over-requires
 level-over-requires c κs = search needs
 
--- src/lib.rt:110:9
 returns-5 : tie.Need-returns-5
-returns-5 c = ?
+returns-5 c = 
+    λ ps n l.
+    let a = c .before .before .before .before .before .before .before .before .before .before .before .before .before .before .before in
+    let w = c .before .before .before .before .before .before .before .before .before .before .wide .ensures .0 in
+    figure-above (a .args .s .now) (a .args .edition) (a .args .start) (a .args .len) (a .pre .0) ps (c .before .before .before .before .before .before .before .before .before .before .wide .result) w (c .before .before .before .before .before .before .before .before .before .before .before .before .if1 .left) (c .before .before .before .before .before .before .before .before .before .if2 .left)
+    (sym (c .before .before .before .before .before .before .before .before .name-allowed .ensures) ∙ not-false _ (c .before .before .before .before .before .before .before .if3 .left))
+    (ap (λ q. ruleAllowed (getD (a .args .s .now) (a .args .start + 0) 0) q && keepAllowed (getD (a .args .s .now) (a .args .start + 1) 0) && spreadAllowed (a .args .edition) (getD (a .args .s .now) (a .args .start + 2) 0)) w
+          ∙ sym (c .before .before .before .figure-allowed .ensures) ∙ not-false _ (c .before .before .if4 .left))
+    (a .args .i) n (a .args .levels .now) l (c .before .level-over .result) (c .before .level-over .ensures .0) (c .if5 .taken)
 
--- src/lib.rt:113:9
 returns-6 : tie.Need-returns-6
-returns-6 c = ?
+unfolding levelLimit
+returns-6 c = 
+    λ ps n l.
+    let a = c .before .before .before .before .before .before .before .before .before .before .before .before .before .before .before .before in
+    let w = c .before .before .before .before .before .before .before .before .before .before .before .wide .ensures .0 in
+    figure-high (a .args .s .now) (a .args .edition) (a .args .start) (a .args .len) (a .pre .0) ps (c .before .before .before .before .before .before .before .before .before .before .before .wide .result) w (c .before .before .before .before .before .before .before .before .before .before .before .before .before .if1 .left) (c .before .before .before .before .before .before .before .before .before .before .if2 .left)
+    (sym (c .before .before .before .before .before .before .before .before .before .name-allowed .ensures) ∙ not-false _ (c .before .before .before .before .before .before .before .before .if3 .left))
+    (ap (λ q. ruleAllowed (getD (a .args .s .now) (a .args .start + 0) 0) q && keepAllowed (getD (a .args .s .now) (a .args .start + 1) 0) && spreadAllowed (a .args .edition) (getD (a .args .s .now) (a .args .start + 2) 0)) w
+          ∙ sym (c .before .before .before .before .figure-allowed .ensures) ∙ not-false _ (c .before .before .before .if4 .left))
+    (a .args .i) n (a .args .levels .now) l (c .before .before .level-over .result) (c .before .before .level-over .ensures .0) (c .before .if5 .left) (c .if6 .taken)
 
--- src/lib.rt:115:28
 cast-t14 : tie.Need-cast-t14
 cast-t14 c = search needs
 
--- src/lib.rt:89:1
 returns-7 : tie.Need-returns-7
-returns-7 c = ?
+unfolding levelLimit
+returns-7 c = 
+    λ ps n l.
+    let a = c .before .before .before .before .before .before .before .before .before .before .before .before .before .before .before .before in
+    let w = c .before .before .before .before .before .before .before .before .before .before .before .wide .ensures .0 in
+    figure-sound (a .args .s .now) (a .args .edition) (a .args .start) (a .args .len) (a .pre .0) ps (c .before .before .before .before .before .before .before .before .before .before .before .wide .result) w (c .before .before .before .before .before .before .before .before .before .before .before .before .before .if1 .left) (c .before .before .before .before .before .before .before .before .before .before .if2 .left)
+    (sym (c .before .before .before .before .before .before .before .before .before .name-allowed .ensures) ∙ not-false _ (c .before .before .before .before .before .before .before .before .if3 .left))
+    (ap (λ q. ruleAllowed (getD (a .args .s .now) (a .args .start + 0) 0) q && keepAllowed (getD (a .args .s .now) (a .args .start + 1) 0) && spreadAllowed (a .args .edition) (getD (a .args .s .now) (a .args .start + 2) 0)) w
+          ∙ sym (c .before .before .before .before .figure-allowed .ensures) ∙ not-false _ (c .before .before .before .if4 .left))
+    (a .args .i) n (a .args .levels .now) l (c .before .before .level-over .result) (c .before .before .level-over .ensures .0) (c .before .if5 .left) (c .if6 .left)
 
 pub judge-figure-spec : {M : Type 1} → statement M
 judge-figure-spec =
