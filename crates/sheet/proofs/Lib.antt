@@ -7,3 +7,4 @@ pub mod Fields
 pub mod Scan
 pub mod Items
 pub mod Exactly
+pub mod Scanned
