@@ -8,3 +8,4 @@ pub mod Scan
 pub mod Items
 pub mod Exactly
 pub mod Scanned
+pub mod Whole
