@@ -1,16 +1,21 @@
--- Laws of values and rules: equal values are the same value, and every rule gives NULL where all parents are NULL.
--- Assumes nothing.
-use Prim.Native.Nat.{ℕ, zero, suc}
-use mathlib.Core.Path.{_≡_, refl, ap, sym, _∙_}
+-- Laws of values and rules: equal values are the same value; every rule gives NULL where all parents are NULL, OUT where
+-- one is OUT, and a well-formed value where all are well formed; a quotient is rounded down; a sum of numbers within the
+-- range is at most that many times the limit. Assumes nothing.
+use Prim.Native.Nat.{ℕ, zero, suc, _+_, _-_, _*_, _/_, _≤_, _<_}
+use mathlib.Core.Path.{_≡_, refl, ap}
 use mathlib.Core.Bool.{Bool, true, false, cond, _&&_, _||_}
-use mathlib.Core.List.{List, [], _∷_, map}
-use borrow.Author.Tests.{eqb-true, eq-eqb}
-use lib.Dec.{eqb}
-use lib.IntN.{ℤ, pos, negsuc}
-use lib.ListN.{getD}
+use mathlib.Core.List.{List, [], _∷_, _++_, map}
+use borrow.Author.Tests.{eqb-true, eq-eqb, ltb-true, leb-true, le-leb, lt-ltb}
+use lib.Dec.{ltb}
+use lib.IntN.{ℤ, pos, negsuc, natAbs, negℤ, sucℤ, subℕ, _+ℤ_, _-ℤ_, _*ℤ_}
+use lib.ListN.{length}
+use lib.Signed.{leZ, ltZ}
+use native.Mathlib.Nat.{zero-mul, suc-mul, mul-comm, div-mul-le-self, lt-mul-div-succ}
+use native.Mathlib.Numerals.{add-one}
 use native.Mathlib.Omega.{arith}
-use Rattle.circuit.specs.Value.{Value, null, out, num, isNull, isOut, wellFormed, same, sameNumber}
-use Rattle.circuit.specs.Rules.{Operation, sum, difference, smallest, largest, share, choice, count, atLeast, apply, anyOut, numbers, nth}
+use Rattle.circuit.specs.Value.{Value, null, out, num, limit, inRange, isNull, wellFormed, ranged, same, sameNumber}
+use Rattle.circuit.specs.WellFormed.{allWellFormed}
+use Rattle.circuit.specs.Rules.{Operation, sum, difference, smallest, largest, share, choice, count, atLeast, apply, anyOut, numbers, nth, ofNumbers, total, least, greatest, howMany, orZero, floorDiv, whole}
 
 -- ---- equal values
 
@@ -87,8 +92,158 @@ all-null choice vs e = rw (allNull-anyOut vs e, allNull-nth vs 0 e)
 all-null count vs e = rw (allNull-anyOut vs e, allNull-numbers vs e)
 all-null atLeast vs e = rw (allNull-anyOut vs e, allNull-nth vs 0 e)
 
+-- ---- a parent OUT
+
+-- every rule gives OUT where a parent is
+pub any-out : (op : Operation) (vs : List Value) → anyOut vs ≡ true → apply op vs ≡ out
+unfolding apply
+any-out sum vs e = rw e
+any-out difference vs e = rw e
+any-out smallest vs e = rw e
+any-out largest vs e = rw e
+any-out share vs e = rw e
+any-out choice vs e = rw e
+any-out count vs e = rw e
+any-out atLeast vs e = rw e
+
 -- ---- well-formed values
 
-unfoldable pub allWellFormed : List Value → Bool
-allWellFormed [] = true
-allWellFormed (v ∷ vs) = wellFormed v && allWellFormed vs
+pub and-left : (a b : Bool) → (a && b) ≡ true → a ≡ true
+and-left true b e = refl
+and-left false b e = e
+
+pub and-right : (a b : Bool) → (a && b) ≡ true → b ≡ true
+and-right true b e = e
+and-right false b e = cc
+
+pub and-true : (a b : Bool) → a ≡ true → b ≡ true → (a && b) ≡ true
+and-true a b e f = rw (e, f)
+
+-- one more value at the end
+pub allWellFormed-snoc : (vs : List Value) (v : Value) → allWellFormed (vs ++ (v ∷ [])) ≡ (allWellFormed vs && wellFormed v)
+unfolding allWellFormed
+allWellFormed-snoc [] v = go (wellFormed v)
+  where
+    go : (b : Bool) → (b && true) ≡ b
+    go true = refl
+    go false = refl
+allWellFormed-snoc (w ∷ vs) v = go (wellFormed w) (allWellFormed-snoc vs v)
+  where
+    go : (b : Bool) → allWellFormed (vs ++ (v ∷ [])) ≡ (allWellFormed vs && wellFormed v) → (b && allWellFormed (vs ++ (v ∷ []))) ≡ ((b && allWellFormed vs) && wellFormed v)
+    go true e = e
+    go false e = refl
+
+nth-wellFormed : (vs : List Value) (k : ℕ) → allWellFormed vs ≡ true → wellFormed (nth vs k) ≡ true
+unfolding allWellFormed
+nth-wellFormed [] k e = refl
+nth-wellFormed (v ∷ vs) zero e = and-left (wellFormed v) (allWellFormed vs) e
+nth-wellFormed (v ∷ vs) (suc k) e = nth-wellFormed vs k (and-right (wellFormed v) (allWellFormed vs) e)
+
+-- an exact result is well formed
+pub ranged-wellFormed : (z : ℤ) → wellFormed (ranged z) ≡ true
+ranged-wellFormed z = go (inRange z) refl
+  where
+    go : (b : Bool) → inRange z ≡ b → wellFormed (cond b (num z) out) ≡ true
+    go true e = e
+    go false e = refl
+
+cond-wellFormed : (b : Bool) (v w : Value) → wellFormed v ≡ true → wellFormed w ≡ true → wellFormed (cond b v w) ≡ true
+cond-wellFormed true v w e f = e
+cond-wellFormed false v w e f = f
+
+ofNumbers-wellFormed : (f : ℤ → List ℤ → ℤ) (zs : List ℤ) → wellFormed (ofNumbers f zs) ≡ true
+ofNumbers-wellFormed f [] = refl
+ofNumbers-wellFormed f (z ∷ zs) = ranged-wellFormed (f z zs)
+
+-- every rule gives a well-formed value on well-formed values
+pub apply-wellFormed : (op : Operation) (vs : List Value) → allWellFormed vs ≡ true → wellFormed (apply op vs) ≡ true
+unfolding apply
+apply-wellFormed sum vs e = cond-wellFormed (anyOut vs) _ _ refl (ofNumbers-wellFormed total (numbers vs))
+apply-wellFormed difference vs e = cond-wellFormed (anyOut vs) _ _ refl (cond-wellFormed (isNull (nth vs 0) && isNull (nth vs 1)) _ _ refl (ranged-wellFormed (orZero (nth vs 0) -ℤ orZero (nth vs 1))))
+apply-wellFormed smallest vs e = cond-wellFormed (anyOut vs) _ _ refl (ofNumbers-wellFormed least (numbers vs))
+apply-wellFormed largest vs e = cond-wellFormed (anyOut vs) _ _ refl (ofNumbers-wellFormed greatest (numbers vs))
+apply-wellFormed share vs e =
+    cond-wellFormed (anyOut vs) _ _ refl
+    (cond-wellFormed (isNull (nth vs 0) || isNull (nth vs 1)) _ _ refl
+    (cond-wellFormed (leZ (pos 0) (orZero (nth vs 1)) && leZ (orZero (nth vs 1)) (pos whole)) _ _ (ranged-wellFormed (floorDiv (orZero (nth vs 0) *ℤ orZero (nth vs 1)) whole)) refl))
+apply-wellFormed choice vs e =
+    cond-wellFormed (anyOut vs) _ _ refl
+    (cond-wellFormed (isNull (nth vs 0)) _ _ refl
+    (cond-wellFormed (ltZ (pos 0) (orZero (nth vs 0))) _ _ (nth-wellFormed vs 1 e) (nth-wellFormed vs 2 e)))
+apply-wellFormed count vs e = cond-wellFormed (anyOut vs) _ _ refl (ofNumbers-wellFormed howMany (numbers vs))
+apply-wellFormed atLeast vs e =
+    cond-wellFormed (anyOut vs) _ _ refl
+    (cond-wellFormed (isNull (nth vs 0) || isNull (nth vs 1)) _ _ refl
+    (ranged-wellFormed (cond (leZ (orZero (nth vs 1)) (orZero (nth vs 0))) (pos 1) (pos 0))))
+
+-- ---- the size of a sum
+
+sub-size : (a b : ℕ) → natAbs (subℕ a b) ≤ a + b
+sub-size a b = go (ltb a b) refl
+  where
+    go : (t : Bool) → ltb a b ≡ t → natAbs (cond t (negsuc (b - suc a)) (pos (a - b))) ≤ a + b
+    go true e = omega (arith, ltb-true a b e)
+    go false e = omega arith
+
+-- a sum is no larger than its two parts together
+pub add-size : (x y : ℤ) → natAbs (x +ℤ y) ≤ natAbs x + natAbs y
+add-size (pos a) (pos b) = omega arith
+add-size (pos a) (negsuc b) = sub-size a (suc b)
+add-size (negsuc a) (pos b) = omega (arith, sub-size b (suc a))
+add-size (negsuc a) (negsuc b) = omega arith
+
+pub neg-size : (x : ℤ) → natAbs (negℤ x) ≡ natAbs x
+neg-size (pos zero) = refl
+neg-size (pos (suc n)) = refl
+neg-size (negsuc n) = refl
+
+-- a number within the range
+pub inRange-size : (z : ℤ) → inRange z ≡ true → natAbs z ≤ limit
+unfolding inRange
+inRange-size z e = leb-true (natAbs z) limit e
+
+pub size-inRange : (z : ℤ) → natAbs z ≤ limit → inRange z ≡ true
+unfolding inRange
+size-inRange z h = le-leb (natAbs z) limit h
+
+unfoldable pub allInRange : List ℤ → Bool
+allInRange [] = true
+allInRange (z ∷ zs) = inRange z && allInRange zs
+
+-- the sum of numbers within the range is at most that many times the limit
+pub total-size : (zs : List ℤ) (z : ℤ) → allInRange zs ≡ true → natAbs (total z zs) ≤ natAbs z + length zs * limit
+unfolding total allInRange
+total-size [] z e = omega (arith, zero-mul limit)
+total-size (y ∷ zs) z e =
+    omega
+    (arith,
+    total-size zs (z +ℤ y) (and-right (inRange y) (allInRange zs) e),
+    add-size z y,
+    inRange-size y (and-left (inRange y) (allInRange zs) e),
+    suc-mul (length zs) limit)
+
+-- ---- a quotient rounded down
+
+-- the quotient times the divisor is at most the number
+pub floor-below : (z : ℤ) (d : ℕ) → 0 < d → leZ (floorDiv z d *ℤ pos d) z ≡ true
+floor-below (pos n) d h = le-leb (n / d * d) n (div-mul-le-self n d)
+floor-below (negsuc n) d h = go (suc (n / d) * d) refl
+  where
+    go : (k : ℕ) → suc (n / d) * d ≡ k → leZ (negℤ (pos k)) (negsuc n) ≡ true
+    go zero e = absurd (positive-product (n / d) d h e)
+      where
+        positive-product : (q d : ℕ) → 0 < d → suc q * d ≡ zero → ⊥
+        positive-product q d h e = omega (arith, suc-mul q d)
+    go (suc k) e = le-leb n k (omega (arith, lt-mul-div-succ n h, mul-comm d (n / d + 1), add-one (n / d), e))
+
+-- and one more quotient would be above it
+pub floor-above : (z : ℤ) (d : ℕ) → 0 < d → ltZ z (sucℤ (floorDiv z d) *ℤ pos d) ≡ true
+floor-above (pos n) d h = lt-ltb n (suc (n / d) * d) (omega (arith, lt-mul-div-succ n h, mul-comm d (n / d + 1), add-one (n / d)))
+floor-above (negsuc n) d h = go (n / d) refl
+  where
+    neg : (k : ℕ) → k ≤ n → ltZ (negsuc n) (negℤ (pos k)) ≡ true
+    neg zero l = refl
+    neg (suc k) l = lt-ltb k n l
+    go : (q : ℕ) → n / d ≡ q → ltZ (negsuc n) (sucℤ (negsuc q) *ℤ pos d) ≡ true
+    go zero e = refl
+    go (suc q) e = neg (suc q * d) (omega (arith, div-mul-le-self n d, ap (λ (k : ℕ). k * d) e))

@@ -7,3 +7,4 @@ pub mod Machine
 pub mod Calls
 pub mod Fresh
 pub mod Words
+pub mod WellFormed

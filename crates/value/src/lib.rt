@@ -7,7 +7,7 @@ ghost use lib.IntN.{pos, _-ℤ_, _*ℤ_};
 ghost use lib.Signed.{leZ};
 ghost use Rattle.circuit.specs.Value as circuit;
 ghost use Rattle.circuit.specs.Rules as rules;
-ghost use Rattle.circuit.proofs.RuleLaws.{allWellFormed};
+ghost use Rattle.circuit.specs.WellFormed.{allWellFormed};
 ghost use Rattle.value.specs.Meaning.{meaning, partsOf, partsMeaning, operationMeaning, valueAt, firstValues, allows, Applied};
 ghost use Rattle.value.specs.Tally.{Room, empty, counted, taken, takenAll};
 
@@ -187,7 +187,7 @@ pub enum Operation {
 }
 
 // The operation of a rule code with a number of parents. The only place of the code that has codes and counts.
-pub fn operation_of(code: u8, count: u8) -> Operation
+pub fn operation_of(code: u8, count: usize) -> Operation
     ensures { λ r. ⌜ operationMeaning r ≡ rules.operationOf code count ⌝ }
 {
     match code {

@@ -1,3 +1,4 @@
+use Rattle.value.proofs.Cases.{greater-yes, greater-no}
 use Rattle.value.proofs.greater.Statement.{statement}
 use Rattle.value.proofs.greater.Tie as tie
 use Rattle.value.proofs.greater.Reads as reads
@@ -5,11 +6,11 @@ use Rattle.value.proofs.greater.Lts as lts
 
 -- src/lib.rt:243:1
 returns : tie.Need-returns
-returns c = ?
+returns c = greater-yes (c .before .args .a) (c .before .args .b) (c .before .fits .a) (c .before .fits .b) (c .if1 .taken)
 
 -- src/lib.rt:243:1
 returns-2 : tie.Need-returns-2
-returns-2 c = ?
+returns-2 c = greater-no (c .before .args .a) (c .before .args .b) (c .before .fits .a) (c .before .fits .b) (c .if1 .left)
 
 pub greater-spec : {M : Type 1} → statement M
 greater-spec = tie.close (tie.spec returns returns-2)

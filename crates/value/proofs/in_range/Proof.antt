@@ -1,3 +1,5 @@
+use Rattle.circuit.specs.Value.{limit}
+use Rattle.value.proofs.Cases.{in-range-yes, in-range-no}
 use Rattle.value.proofs.in_range.Statement.{statement}
 use Rattle.value.proofs.in_range.Tie as tie
 use Rattle.value.proofs.in_range.Reads as reads
@@ -5,11 +7,13 @@ use Rattle.value.proofs.in_range.Lts as lts
 
 -- src/lib.rt:38:1
 returns : tie.Need-returns
-returns c = ?
+unfolding limit
+returns c = in-range-yes (c .before .args .n) (c .before .fits .n) (c .if1 .taken)
 
 -- src/lib.rt:38:1
 returns-2 : tie.Need-returns-2
-returns-2 c = ?
+unfolding limit
+returns-2 c = in-range-no (c .before .args .n) (c .before .fits .n) (c .if1 .left)
 
 pub in-range-spec : {M : Type 1} → statement M
 in-range-spec = tie.close (tie.spec returns returns-2)

@@ -1,3 +1,4 @@
+use Rattle.value.proofs.Cases.{lesser-yes, lesser-no}
 use Rattle.value.proofs.lesser.Statement.{statement}
 use Rattle.value.proofs.lesser.Tie as tie
 use Rattle.value.proofs.lesser.Reads as reads
@@ -5,11 +6,11 @@ use Rattle.value.proofs.lesser.Lts as lts
 
 -- src/lib.rt:237:1
 returns : tie.Need-returns
-returns c = ?
+returns c = lesser-yes (c .before .args .a) (c .before .args .b) (c .before .fits .a) (c .before .fits .b) (c .if1 .taken)
 
 -- src/lib.rt:237:1
 returns-2 : tie.Need-returns-2
-returns-2 c = ?
+returns-2 c = lesser-no (c .before .args .a) (c .before .args .b) (c .before .fits .a) (c .before .fits .b) (c .if1 .left)
 
 pub lesser-spec : {M : Type 1} → statement M
 lesser-spec = tie.close (tie.spec returns returns-2)

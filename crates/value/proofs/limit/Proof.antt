@@ -1,3 +1,5 @@
+use mathlib.Core.Path.{refl}
+use Rattle.circuit.specs.Value.{limit}
 use Rattle.value.proofs.limit.Statement.{statement}
 use Rattle.value.proofs.limit.Tie as tie
 use Rattle.value.proofs.limit.Reads as reads
@@ -5,7 +7,8 @@ use Rattle.value.proofs.limit.Lts as lts
 
 -- src/lib.rt:32:1
 returns : tie.Need-returns
-returns c = ?
+unfolding limit
+returns c = refl
 
 pub limit-spec : {M : Type 1} → statement M
 limit-spec = tie.close (tie.spec returns)

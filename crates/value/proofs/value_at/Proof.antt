@@ -1,3 +1,5 @@
+use Rattle.value.proofs.Parents.{null-at, out-at, number-at}
+use mathlib.Core.Path.{_≡_}
 use borrow.Author.Needs.{needs}
 use Rattle.value.proofs.value_at.Statement.{statement}
 use Rattle.value.proofs.value_at.Tie as tie
@@ -23,15 +25,15 @@ number-requires c κs = search needs
 
 -- src/lib.rt:249:1
 returns : tie.Need-returns
-returns c = ?
+returns c = null-at (c .before .before .before .args .kinds .now) (c .before .before .before .args .numbers .now) (c .before .before .before .args .k) (c .match .keys1)
 
 -- src/lib.rt:249:1
 returns-2 : tie.Need-returns-2
-returns-2 c = ?
+returns-2 c = out-at (c .before .before .before .args .kinds .now) (c .before .before .before .args .numbers .now) (c .before .before .before .args .k) (c .match .keys2)
 
 -- src/lib.rt:249:1
 returns-3 : tie.Need-returns-3
-returns-3 c = ?
+returns-3 c = number-at (c .before .before .before .before .args .kinds .now) (c .before .before .before .before .args .numbers .now) (c .before .before .before .before .args .k) (c .before .match .rest .0 .1) (c .before .match .rest .1) (search needs) _ (c .number2 .ensures)
 
 pub value-at-spec : {M : Type 1} → statement M
 value-at-spec =

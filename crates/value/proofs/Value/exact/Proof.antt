@@ -1,3 +1,4 @@
+use Rattle.value.proofs.Cases.{exact-in, exact-out}
 use borrow.Author.Needs.{needs}
 use Rattle.value.proofs.Value.exact.Statement.{statement}
 use Rattle.value.proofs.Value.exact.Tie as tie
@@ -16,11 +17,11 @@ number-requires c κs = search needs
 
 -- src/lib.rt:67:5
 returns : tie.Need-returns
-returns c = ?
+returns c = exact-in (c .before .before .before .args .n) _ _ (c .before .before .before .fits .n) (c .before .before .in-range .ensures) (c .before .if1 .taken) (c .number .ensures)
 
 -- src/lib.rt:67:5
 returns-2 : tie.Need-returns-2
-returns-2 c = ?
+returns-2 c = exact-out (c .before .before .args .n) _ (c .before .before .fits .n) (c .before .in-range .ensures) (c .if1 .left)
 
 pub exact-spec : {M : Type 1} → statement M
 exact-spec = tie.close (tie.spec in-range-requires number-requires returns returns-2)

@@ -1,3 +1,4 @@
+use Rattle.value.proofs.Cases.{same-numbers}
 use borrow.Author.Needs.{needs}
 use Rattle.value.proofs.Value.same.Statement.{statement}
 use Rattle.value.proofs.Value.same.Tie as tie
@@ -56,7 +57,7 @@ returns-4 c = search needs
 
 -- src/lib.rt:154:5
 returns-5 : tie.Need-returns-5
-returns-5 c = ?
+returns-5 c = same-numbers _ _ _ _ (c .before .before .before .before .x .given .1) (c .before .y .given .1) (search needs) (search needs)
 
 pub same-spec : {M : Type 1} → statement M
 same-spec =

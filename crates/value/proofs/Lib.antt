@@ -1,0 +1,7 @@
+pub mod Signed
+pub mod Tallies
+pub mod Parents
+pub mod Cases
+pub mod Shares
+pub mod Operations
+pub mod Applying
