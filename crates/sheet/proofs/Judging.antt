@@ -60,10 +60,10 @@ module _ (edition : ℕ) (ps : List Placed) (content : List ℕ) where
 
   figure-cause : 4 ≤ length content
       → firstCause (itemTests edition ps figureTag content)
-        ≡ figureCause (nameAllowed (nameIn content))
-            (ruleAllowed (ruleIn content) (length listed) && keepAllowed (keepIn content) && spreadAllowed edition (spreadIn content))
-            (all (λ q. ltb q (length ps)) listed)
-            (ltb levelLimit (suc (highest (map (levelOf ps) listed))))
+      ≡ figureCause (nameAllowed (nameIn content))
+      (ruleAllowed (ruleIn content) (length listed) && keepAllowed (keepIn content) && spreadAllowed edition (spreadIn content))
+      (all (λ q. ltb q (length ps)) listed)
+      (ltb levelLimit (suc (highest (map (levelOf ps) listed))))
   unfolding itemTests firstCause lengthOrName itemIn figureCause
   figure-cause h = simp (le-ltb (length content) 4 h)
 

@@ -2,6 +2,7 @@ pub mod Lists
 pub mod Names
 pub mod Levels
 pub mod Content
+pub mod Operations
 pub mod Judging
 pub mod Fields
 pub mod Scan

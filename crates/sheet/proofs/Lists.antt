@@ -50,7 +50,7 @@ module _ (f : ℕ → Bool) where
       let n : len ≡ (k + 1) + (len - (k + 1)) = omega arith in
       let m = take-add (k + 1) (len - (k + 1)) (drop at s) in
       let p : all f (take (k + 1) (drop at s)) ≡ false =
-            all-part-more s at k (omega arith) ∙ ap (λ b. all f (take k (drop at s)) && b) e ∙ and-false (all f (take k (drop at s))) in
+      all-part-more s at k (omega arith) ∙ ap (λ b. all f (take k (drop at s)) && b) e ∙ and-false (all f (take k (drop at s))) in
       ap (λ j. all f (take j (drop at s))) n
       ∙ ap (all f) m
       ∙ all-append (take (k + 1) (drop at s)) (take (len - (k + 1)) (drop (k + 1) (drop at s)))

@@ -29,10 +29,11 @@ module _ (s : List ℕ) (at len : ℕ) (h : at + len ≤ length s) where
   unfolding nameAllowed nameLimit
   name-fails a b k l e =
       let n = part-length s at len h in
-      simp
-      (le-leb (length (contentAt s at len)) 16 (omega arith),
-      le-leb 1 (length (contentAt s at len)) (omega arith),
-      all-part-fails nameByte s at k len h l e)
+      simp (
+        le-leb (length (contentAt s at len)) 16 (omega arith),
+        le-leb 1 (length (contentAt s at len)) (omega arith),
+        all-part-fails nameByte s at k len h l e,
+      )
 
   pub name-passes : 1 ≤ len → len ≤ nameLimit → all nameByte (contentAt s at len) ≡ true → true ≡ nameAllowed (contentAt s at len)
   unfolding nameAllowed nameLimit

@@ -99,35 +99,42 @@ module _ (s : List ℕ) (edition count i at : ℕ) (offsets offsets₀ levels le
     (l : levels ≡ over (levelsOf (soundItems s edition i)) levels₀) where
   pub stop : (number : ℕ) → i < count → scan s edition (suc i) ≡ stopped number at
       → (Refused number at ≡ checkedOf (conclude edition (scanLast s (scan s edition count))))
-        × ((offsets ≡ over (offsetsOf (soundItems s edition count)) offsets₀) × (levels ≡ over (levelsOf (soundItems s edition count)) levels₀))
+      × ((offsets ≡ over (offsetsOf (soundItems s edition count)) offsets₀) × (levels ≡ over (levelsOf (soundItems s edition count)) levels₀))
   stop number h x =
-      let q = sym (stop-items s edition i count number at h x) in
-      (stop-answer s edition i count number at h x,
-      (o ∙ ap (λ ps. over (offsetsOf ps) offsets₀) q,
-      l ∙ ap (λ ps. over (levelsOf ps) levels₀) q))
+      let q = sym (stop-items s edition i count number at h x) in (
+        stop-answer s edition i count number at h x,
+        (
+          o ∙ ap (λ ps. over (offsetsOf ps) offsets₀) q,
+          l ∙ ap (λ ps. over (levelsOf ps) levels₀) q,
+        ),
+      )
 
   pub turn : (tag start len next level : ℕ) → cutAt s at ≡ Field tag start len next → i < length offsets₀ → i < length levels₀
       → Sound level ≡ judgedItem edition (soundItems s edition i) tag (contentAt s start len)
       → (scan s edition (i + 1) ≡ going next (soundItems s edition (i + 1)))
-        × (set offsets i at ≡ over (offsetsOf (soundItems s edition (i + 1))) offsets₀)
-        × (set levels i level ≡ over (levelsOf (soundItems s edition (i + 1))) levels₀)
+      × (set offsets i at ≡ over (offsetsOf (soundItems s edition (i + 1))) offsets₀)
+      × (set levels i level ≡ over (levelsOf (soundItems s edition (i + 1))) levels₀)
   turn tag start len next level cut ho hl j =
       let ps : List Placed = soundItems s edition i in
       let p : Placed = placed at (itemIn tag (contentAt s start len)) level in
       let n = scan-length s edition i at ps e in
       let x = scan-sound s edition i at ps e tag start len next cut level j in
       let q = sound-more s edition i next (ps ++ (p ∷ [])) x in
-      rw (add-one i, q)
-      (x,
-      array-more (λ r. r .offset) ps p i offsets offsets₀ o n ho,
-      array-more (λ r. r .level) ps p i levels levels₀ l n hl)
+      rw (add-one i, q) (
+        x,
+        array-more (λ r. r .offset) ps p i offsets offsets₀ o n ho,
+        array-more (λ r. r .level) ps p i levels levels₀ l n hl,
+      )
 
   pub finish : i ≡ count → (r : Checked) → ((ps : List Placed) → length ps ≡ count → r ≡ checkedOf (conclude edition (scanLast s (going at ps))))
       → (r ≡ checkedOf (conclude edition (scanLast s (scan s edition count))))
-        × ((offsets ≡ over (offsetsOf (soundItems s edition count)) offsets₀) × (levels ≡ over (levelsOf (soundItems s edition count)) levels₀))
+      × ((offsets ≡ over (offsetsOf (soundItems s edition count)) offsets₀) × (levels ≡ over (levelsOf (soundItems s edition count)) levels₀))
   finish k r f =
       let n = scan-length s edition i at (soundItems s edition i) e in
-      let x : scan s edition count ≡ going at (soundItems s edition i) = ap (scan s edition) (sym k) ∙ e in
-      (f (soundItems s edition i) (n ∙ k) ∙ sym (ap (λ v. checkedOf (conclude edition (scanLast s v))) x),
-      (o ∙ ap (λ m. over (offsetsOf (soundItems s edition m)) offsets₀) k,
-      l ∙ ap (λ m. over (levelsOf (soundItems s edition m)) levels₀) k))
+      let x : scan s edition count ≡ going at (soundItems s edition i) = ap (scan s edition) (sym k) ∙ e in (
+        f (soundItems s edition i) (n ∙ k) ∙ sym (ap (λ v. checkedOf (conclude edition (scanLast s v))) x),
+        (
+          o ∙ ap (λ m. over (offsetsOf (soundItems s edition m)) offsets₀) k,
+          l ∙ ap (λ m. over (levelsOf (soundItems s edition m)) levels₀) k,
+        ),
+      )

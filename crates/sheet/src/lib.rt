@@ -12,7 +12,20 @@ ghost use Rattle.sheet.specs.Check.{checkedOf, judgedItem, LevelsAt, mos
 pub mod limits;
 
 use field::Cut;
-use limits::{COUNT_AT, ENTRY_TAG, FIGURE_TAG, HEAD_LENGTH, HEAD_TAG, KEEP_AT, LAST_TAG, LEVEL_LIMIT, NAME_LIMIT, PARENTS_AT, PARENT_COUNT_AT, PARENT_WIDTH, RULE_AT, SPREAD_AT};
+use limits::COUNT_AT;
+use limits::ENTRY_TAG;
+use limits::FIGURE_TAG;
+use limits::HEAD_LENGTH;
+use limits::HEAD_TAG;
+use limits::KEEP_AT;
+use limits::LAST_TAG;
+use limits::LEVEL_LIMIT;
+use limits::NAME_LIMIT;
+use limits::PARENT_COUNT_AT;
+use limits::PARENT_WIDTH;
+use limits::PARENTS_AT;
+use limits::RULE_AT;
+use limits::SPREAD_AT;
 use value::Operation;
 
 // What the check of a sheet gives: its edition and item count, or the number and the offset of its first fault.
@@ -75,7 +88,7 @@ fn level_over(s: &[u8], at: usize, p: usize, i: usize, levels: &[u8]) -> usize
 }
 
 // Whether a figure's rule, keep and spread are allowed, with p parents.
-fn figure_allowed(edition: usize, rule: u8, keep: u8, spread: u8, p: u8) -> bool
+fn figure_allowed(edition: usize, rule: u8, keep: u8, spread: u8, p: usize) -> bool
     ensures { λ r. ⌜ r ≡ (ruleAllowed rule p && keepAllowed keep && spreadAllowed edition spread) ⌝ }
 {
     let operation = value::operation_of(rule, p);
@@ -86,15 +99,21 @@ fn figure_allowed(edition: usize, rule: u8, keep: u8, spread: u8, p: u8) -> bool
 }
 
 // The field of a figure, item number i, with its content of len bytes from start.
-fn judge_figure(s: &[u8], edition: usize, start: usize, len: usize, i: usize, levels: &[u8]) -> Judged
+fn judge_figure(
+    s: &[u8],
+    edition: usize,
+    start: usize,
+    len: usize,
+    i: usize,
+    levels: &[u8],
+) -> Judged
     requires { ⌜ (start + len ≤ length (now s)) × (i ≤ length (now levels)) ⌝ }
     ensures { λ r. ⌜ ((ps : List Placed) → length ps ≡ i → LevelsAt (now (levels .entry)) ps → r ≡ judgedItem edition ps figureTag (contentAt (now (s .entry)) start len)) ⌝ }
 {
     if len < PARENTS_AT {
         return Judged::Fault { number: 3 };
     }
-    let count = s[start + PARENT_COUNT_AT];
-    let p = wide(count);
+    let p = wide(s[start + PARENT_COUNT_AT]);
     let before = PARENTS_AT + PARENT_WIDTH * p;
     if len < before {
         return Judged::Fault { number: 3 };
@@ -102,7 +121,13 @@ fn judge_figure(s: &[u8], edition: usize, start: usize, len: usize, i: usize, le
     if !name_allowed(s, start + before, len - before) {
         return Judged::Fault { number: 3 };
     }
-    if !figure_allowed(edition, s[start + RULE_AT], s[start + KEEP_AT], s[start + SPREAD_AT], count) {
+    if !figure_allowed(
+        edition,
+        s[start + RULE_AT],
+        s[start + KEEP_AT],
+        s[start + SPREAD_AT],
+        p,
+    ) {
         return Judged::Fault { number: 5 };
     }
     let level = level_over(s, start + PARENTS_AT, p, i, levels);
@@ -116,7 +141,15 @@ fn judge_figure(s: &[u8], edition: usize, start: usize, len: usize, i: usize, le
 }
 
 // The field of item number i, with its tag and its content of len bytes from start.
-fn judge_item(s: &[u8], edition: usize, tag: u8, start: usize, len: usize, i: usize, levels: &[u8]) -> Judged
+fn judge_item(
+    s: &[u8],
+    edition: usize,
+    tag: u8,
+    start: usize,
+    len: usize,
+    i: usize,
+    levels: &[u8],
+) -> Judged
     requires { ⌜ (start + len ≤ length (now s)) × (i ≤ length (now levels)) ⌝ }
     ensures { λ r. ⌜ ((ps : List Placed) → length ps ≡ i → LevelsAt (now (levels .entry)) ps → r ≡ judgedItem edition ps tag (contentAt (now (s .entry)) start len)) ⌝ }
 {
@@ -159,23 +192,47 @@ fn head_cause(s: &[u8], tag: u8, start: usize, len: usize) -> u64
 fn check_last(s: &[u8], at: usize, edition: usize, count: usize) -> Checked
     ensures { λ r. ⌜ ((ps : List Placed) → length ps ≡ count → r ≡ checkedOf (conclude edition (scanLast (now (s .entry)) (going at ps)))) ⌝ }
 {
-    let Cut::Field { tag, start: _, len, next } = field::field_at(s, at) else {
-        return Checked::Refused { number: 1, offset: at };
+    let Cut::Field {
+        tag,
+        start: _,
+        len,
+        next,
+    } = field::field_at(s, at)
+    else {
+        return Checked::Refused {
+            number: 1,
+            offset: at,
+        };
     };
     if tag != LAST_TAG {
-        return Checked::Refused { number: 2, offset: at };
+        return Checked::Refused {
+            number: 2,
+            offset: at,
+        };
     }
     if len != 0 {
-        return Checked::Refused { number: 3, offset: at };
+        return Checked::Refused {
+            number: 3,
+            offset: at,
+        };
     }
     if next < s.len() {
-        return Checked::Refused { number: 2, offset: next };
+        return Checked::Refused {
+            number: 2,
+            offset: next,
+        };
     }
     Checked::Opens { edition, count }
 }
 
 // The items and the last field.
-fn check_items(s: &[u8], edition: usize, count: usize, offsets: &mut [usize], levels: &mut [u8]) -> Checked
+fn check_items(
+    s: &[u8],
+    edition: usize,
+    count: usize,
+    offsets: &mut [usize],
+    levels: &mut [u8],
+) -> Checked
     requires { ⌜ (count ≤ length (now offsets)) × (count ≤ length (now levels)) ⌝ }
     ensures answer { λ r. ⌜ r ≡ checkedOf (conclude edition (scanLast (now (s .entry)) (scan (now (s .entry)) edition count))) ⌝ }
     ensures found { λ r. ⌜ now (offsets .exit) ≡ over (offsetsOf (soundItems (now (s .entry)) edition count)) (now (offsets .entry)) ⌝ }
@@ -183,8 +240,17 @@ fn check_items(s: &[u8], edition: usize, count: usize, offsets: &mut [usize], le
 {
     let mut at = limits::HEAD_NEXT;
     for i in 0..count {
-        let Cut::Field { tag, start, len, next } = field::field_at(s, at) else {
-            return Checked::Refused { number: 1, offset: at };
+        let Cut::Field {
+            tag,
+            start,
+            len,
+            next,
+        } = field::field_at(s, at)
+        else {
+            return Checked::Refused {
+                number: 1,
+                offset: at,
+            };
         };
         match judge_item(s, edition, tag, start, len, i, levels) {
             Judged::Fault { number } => {
@@ -207,8 +273,17 @@ pub fn check(s: &[u8], offsets: &mut [usize], levels: &mut [u8]) -> Checked
     ensures found { λ r. ⌜ now (offsets .exit) ≡ over (offsetsOf (readSoFar (now (s .entry)))) (now (offsets .entry)) ⌝ }
     ensures leveled { λ r. ⌜ now (levels .exit) ≡ over (levelsOf (readSoFar (now (s .entry)))) (now (levels .entry)) ⌝ }
 {
-    let Cut::Field { tag, start, len, next: _ } = field::field_at(s, 0) else {
-        return Checked::Refused { number: 1, offset: 0 };
+    let Cut::Field {
+        tag,
+        start,
+        len,
+        next: _,
+    } = field::field_at(s, 0)
+    else {
+        return Checked::Refused {
+            number: 1,
+            offset: 0,
+        };
     };
     let number = head_cause(s, tag, start, len);
     if number != 0 {

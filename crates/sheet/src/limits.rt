@@ -3,12 +3,16 @@ ghost use mathlib.Core.Path.{_≡_};
 ghost use Rattle.sheet.specs.Layout.{editionKnown, itemLimit, countAllowed, keepAllowed, spreadAllowed, nameByte};
 
 pub const HEAD_TAG: u8 = 1;
+
 pub const ENTRY_TAG: u8 = 2;
+
 pub const FIGURE_TAG: u8 = 3;
+
 pub const LAST_TAG: u8 = 4;
 
 // The first field's content: its length, and where the item count stands after the edition.
 pub const HEAD_LENGTH: usize = 4;
+
 pub const COUNT_AT: usize = 2;
 
 // The offset after the first field.
@@ -16,10 +20,15 @@ pub const HEAD_NEXT: usize = 7;
 
 // A figure's content: where each part stands, and a parent's width.
 pub const RULE_AT: usize = 0;
+
 pub const KEEP_AT: usize = 1;
+
 pub const SPREAD_AT: usize = 2;
+
 pub const PARENT_COUNT_AT: usize = 3;
+
 pub const PARENTS_AT: usize = 4;
+
 pub const PARENT_WIDTH: usize = 2;
 
 // The most items of a sheet of any edition.
@@ -30,6 +39,7 @@ pub const LEVEL_LIMIT: usize = 64;
 pub const NAME_LIMIT: usize = 16;
 
 const FIRST_NAME_BYTE: u8 = 33;
+
 const LAST_NAME_BYTE: u8 = 126;
 
 pub fn name_byte(b: u8) -> bool

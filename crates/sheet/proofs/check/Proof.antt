@@ -16,18 +16,18 @@ enum-known-tag : tie.Need-enum-known-tag
 enum-known-tag c = search needs
 
 returns : tie.Need-returns
-returns c = 
+returns c =
     let a = c .before .before .before .before .before .args in
     head-refused (a .s .now) 1 (a .offsets .now) (a .levels .now) (λ z. omega arith) (missing headTests (a .s .now) 0 (c .before .field-at .result) (c .before .field-at .ensures) (c .match .keys2))
 
 head-cause-requires : tie.Need-head-cause-requires
-head-cause-requires c κs = 
+head-cause-requires c κs =
     let f = c .before .tag .given in
     let g = matched-field (c .before .before .before .before .before .before .before .args .s .now) 0 (c .before .before .before .field-at .ensures) (f .1) in
     omega arith
 
 returns-2 : tie.Need-returns-2
-returns-2 c = 
+returns-2 c =
     let a = c .before .before .before .before .before .before .before .before .before .args in
     let f = c .before .before .before .tag .given in
     let cut = sym (c .before .before .before .before .before .field-at .ensures) ∙ f .1 in
@@ -35,7 +35,7 @@ returns-2 c =
     head-refused (a .s .now) (c .before .head-cause .result) (a .offsets .now) (a .levels .now) (c .if1 .taken) j
 
 u16-at-requires : tie.Need-u16-at-requires
-u16-at-requires c κs = 
+u16-at-requires c κs =
     let a = c .before .before .before .before .before .before .before .before .before .args in
     let f = c .before .before .before .tag .given in
     let cut = sym (c .before .before .before .before .before .field-at .ensures) ∙ f .1 in
@@ -44,7 +44,7 @@ u16-at-requires c κs =
     omega arith
 
 add-u16-at : tie.Need-add-u16-at
-add-u16-at c = 
+add-u16-at c =
     let a = c .before .before .before .before .before .before .before .before .before .before .args in
     let f = c .before .before .before .before .tag .given in
     let cut = sym (c .before .before .before .before .before .before .field-at .ensures) ∙ f .1 in
@@ -53,7 +53,7 @@ add-u16-at c =
     omega arith
 
 u16-at-requires-2 : tie.Need-u16-at-requires-2
-u16-at-requires-2 c κs = 
+u16-at-requires-2 c κs =
     let a = c .before .before .before .before .before .before .before .before .before .before .args in
     let f = c .before .before .before .before .tag .given in
     let cut = sym (c .before .before .before .before .before .before .field-at .ensures) ∙ f .1 in
@@ -62,7 +62,7 @@ u16-at-requires-2 c κs =
     omega arith
 
 check-items-requires : tie.Need-check-items-requires
-check-items-requires c κs = 
+check-items-requires c κs =
     let a = c .before .before .before .before .before .before .before .before .before .before .before .before .before .args in
     let f = c .before .before .before .before .before .before .before .tag .given in
     let cut = sym (c .before .before .before .before .before .before .before .before .before .field-at .ensures) ∙ f .1 in
@@ -78,7 +78,7 @@ same-length-2 : tie.Need-same-length-2
 same-length-2 c = search needs
 
 returns-3 : tie.Need-returns-3
-returns-3 c = 
+returns-3 c =
     let a = c .before .before .before .before .before .before .before .before .before .before .before .before .before .before .before .before .before .before .args in
     let f = c .before .before .before .before .before .before .before .before .before .before .before .before .tag .given in
     let cut = sym (c .before .before .before .before .before .before .before .before .before .before .before .before .before .before .field-at .ensures) ∙ f .1 in

@@ -43,7 +43,7 @@ same-length-2 : tie.Need-same-length-2 Inv-loop μ-loop
 same-length-2 c = search needs
 
 returns : tie.Need-returns Inv-loop μ-loop
-returns c = 
+returns c =
     let a = c .before .before .before .before .before .before .before .args in
     let l = c .before .before .before .loop in
     let ps = soundItems (a .s .now) (a .edition) (l .i) in
@@ -52,7 +52,7 @@ returns c =
     (scan-missing (a .s .now) (a .edition) (l .i) (l .at) ps (l .inv .1) j)
 
 judge-item-requires : tie.Need-judge-item-requires Inv-loop μ-loop
-judge-item-requires c κs = 
+judge-item-requires c κs =
     let f = c .before .before .tag .given in
     let g = matched-field (c .before .before .before .before .before .before .before .before .before .before .args .s .now) (c .before .before .before .before .before .before .loop .at) (c .before .before .before .before .field-at .ensures) (f .1) in
     (omega arith, omega arith)
@@ -67,7 +67,7 @@ same-length-4 : tie.Need-same-length-4 Inv-loop μ-loop
 same-length-4 c = search needs
 
 returns-2 : tie.Need-returns-2 Inv-loop μ-loop
-returns-2 c = 
+returns-2 c =
     let a = c .before .before .before .before .before .before .before .before .before .before .before .before .before .before .args in
     let l = c .before .before .before .before .before .before .before .before .before .before .loop in
     let ps = soundItems (a .s .now) (a .edition) (l .i) in
@@ -98,7 +98,7 @@ loop-less : tie.Need-loop-less Inv-loop μ-loop
 loop-less c = search needs
 
 loop-again : tie.Need-loop-again Inv-loop μ-loop
-loop-again c = 
+loop-again c =
     let a = c .before .before .before .before .before .before .before .before .before .before .before .before .before .before .args in
     let l = c .before .before .before .before .before .before .before .before .before .before .loop in
     let ps = soundItems (a .s .now) (a .edition) (l .i) in
@@ -120,7 +120,7 @@ same-length-6 : tie.Need-same-length-6 Inv-loop μ-loop
 same-length-6 c = search needs
 
 returns-3 : tie.Need-returns-3 Inv-loop μ-loop
-returns-3 c = 
+returns-3 c =
     let a = c .before .before .before .before .before .before .args in
     let l = c .before .before .loop in
     let k : l .i ≡ a .count = omega arith in

@@ -13,13 +13,13 @@ enum-known-tag : tie.Need-enum-known-tag
 enum-known-tag c = search needs
 
 returns : tie.Need-returns
-returns c = 
+returns c =
     λ ps n.
     let a = c .before .before .before .args in
     end-missing (a .s .now) (a .at) (a .edition) (a .count) ps (missing lastTests (a .s .now) (a .at) (c .before .field-at .result) (c .before .field-at .ensures) (c .match .keys2))
 
 returns-2 : tie.Need-returns-2
-returns-2 c = 
+returns-2 c =
     λ ps n.
     let a = c .before .before .before .before .before .before .args in
     let f = c .before .before .tag .given in
@@ -27,7 +27,7 @@ returns-2 c =
     (sym (c .before .before .before .before .field-at .ensures) ∙ f .1) (c .if1 .taken)
 
 returns-3 : tie.Need-returns-3
-returns-3 c = 
+returns-3 c =
     λ ps n.
     let a = c .before .before .before .before .before .before .before .args in
     let f = c .before .before .before .tag .given in
@@ -35,7 +35,7 @@ returns-3 c =
     (sym (c .before .before .before .before .before .field-at .ensures) ∙ f .1) (c .before .if1 .left) (c .if2 .taken)
 
 returns-4 : tie.Need-returns-4
-returns-4 c = 
+returns-4 c =
     λ ps n.
     let a = c .before .before .before .before .before .before .before .before .args in
     let f = c .before .before .before .before .tag .given in
@@ -43,7 +43,7 @@ returns-4 c =
     (sym (c .before .before .before .before .before .before .field-at .ensures) ∙ f .1) (c .before .before .if1 .left) (c .before .if2 .left) (c .if3 .taken)
 
 returns-5 : tie.Need-returns-5
-returns-5 c = 
+returns-5 c =
     λ ps n.
     let a = c .before .before .before .before .before .before .before .before .args in
     let f = c .before .before .before .before .tag .given in

@@ -29,7 +29,7 @@ edition-known-requires : tie.Need-edition-known-requires
 edition-known-requires c κs = search needs
 
 returns-3 : tie.Need-returns-3
-returns-3 c = 
+returns-3 c =
     let a = c .before .before .before .before .before .before .before in
     let e = c .before .before .before .u16-at .ensures .0 in
     let k : editionKnown (le16At (a .args .s .now) (a .args .start)) ≡ false = sym (ap editionKnown e) ∙ sym (c .before .edition-known .ensures) ∙ not-true _ (c .if3 .taken) in
@@ -39,23 +39,23 @@ count-allowed-requires : tie.Need-count-allowed-requires
 count-allowed-requires c κs = search needs
 
 returns-4 : tie.Need-returns-4
-returns-4 c = 
+returns-4 c =
     let a = c .before .before .before .before .before .before .before .before .before in
     let e = c .before .before .before .before .before .u16-at .ensures .0 in
     let m = c .before .before .before .before .u16-at2 .ensures .0 in
     let k : editionKnown (le16At (a .args .s .now) (a .args .start)) ≡ true = sym (ap editionKnown e) ∙ sym (c .before .before .before .edition-known .ensures) ∙ not-false _ (c .before .before .if3 .left) in
     let n : countAllowed (le16At (a .args .s .now) (a .args .start)) (le16At (a .args .s .now) (a .args .start + 2)) ≡ false =
-          sym (ap₂ countAllowed e m) ∙ sym (c .before .count-allowed .ensures) ∙ not-true _ (c .if4 .taken) in
+    sym (ap₂ countAllowed e m) ∙ sym (c .before .count-allowed .ensures) ∙ not-true _ (c .if4 .taken) in
     head-count (a .args .s .now) (a .args .tag) (a .args .start) (a .args .len) (a .pre) (c .before .before .before .before .before .before .before .if1 .left) (c .before .before .before .before .before .before .if2 .left) k n
 
 returns-5 : tie.Need-returns-5
-returns-5 c = 
+returns-5 c =
     let a = c .before .before .before .before .before .before .before .before .before in
     let e = c .before .before .before .before .before .u16-at .ensures .0 in
     let m = c .before .before .before .before .u16-at2 .ensures .0 in
     let k : editionKnown (le16At (a .args .s .now) (a .args .start)) ≡ true = sym (ap editionKnown e) ∙ sym (c .before .before .before .edition-known .ensures) ∙ not-false _ (c .before .before .if3 .left) in
     let n : countAllowed (le16At (a .args .s .now) (a .args .start)) (le16At (a .args .s .now) (a .args .start + 2)) ≡ true =
-          sym (ap₂ countAllowed e m) ∙ sym (c .before .count-allowed .ensures) ∙ not-false _ (c .if4 .left) in
+    sym (ap₂ countAllowed e m) ∙ sym (c .before .count-allowed .ensures) ∙ not-false _ (c .if4 .left) in
     head-sound (a .args .s .now) (a .args .tag) (a .args .start) (a .args .len) (a .pre) (c .before .before .before .before .before .before .before .if1 .left) (c .before .before .before .before .before .before .if2 .left) k n
 
 pub head-cause-spec : {M : Type 1} → statement M

@@ -1,26 +1,23 @@
 -- `sheet::judge_figure` meets its contract: at each `return` the tests that led there say what the field's answer is. Assumes nothing.
 use borrow.Author.Tests.{not-true, not-false}
-use mathlib.Core.Path.{sym, ap, _∙_}
-use mathlib.Core.Bool.{_&&_}
-use Prim.Native.Nat.{_+_}
-use lib.ListN.{getD}
-use Rattle.sheet.specs.Layout.{levelLimit, ruleAllowed, keepAllowed, spreadAllowed}
+use mathlib.Core.Path.{sym, _∙_}
+use Rattle.sheet.specs.Layout.{levelLimit}
 use Rattle.sheet.proofs.Judging.{figure-short, figure-narrow, figure-unnamed, figure-unruled, figure-above, figure-high, figure-sound}
 use borrow.Author.Needs.{needs}
 use Rattle.sheet.proofs.judge_figure.Statement.{statement}
 use Rattle.sheet.proofs.judge_figure.Tie as tie
 
 returns : tie.Need-returns
-returns c = 
+returns c =
     λ ps n l.
     let a = c .before .before .before in
     figure-short (a .args .s .now) (a .args .edition) (a .args .start) (a .args .len) (a .pre .0) ps (c .if1 .taken)
 
-add-count : tie.Need-add-count
-add-count c = search needs
+add-wide : tie.Need-add-wide
+add-wide c = search needs
 
-shared-slice-read-count : tie.Need-shared-slice-read-count
-shared-slice-read-count c = search needs
+shared-slice-read-wide : tie.Need-shared-slice-read-wide
+shared-slice-read-wide c = search needs
 
 wide-requires : tie.Need-wide-requires
 wide-requires c κs = search needs
@@ -32,7 +29,7 @@ add-before : tie.Need-add-before
 add-before c = search needs
 
 returns-2 : tie.Need-returns-2
-returns-2 c = 
+returns-2 c =
     λ ps n l.
     let a = c .before .before .before .before .before .before in
     let w = c .before .wide .ensures .0 in
@@ -45,7 +42,7 @@ name-allowed-requires : tie.Need-name-allowed-requires
 name-allowed-requires c κs = search needs
 
 returns-3 : tie.Need-returns-3
-returns-3 c = 
+returns-3 c =
     λ ps n l.
     let a = c .before .before .before .before .before .before .before .before in
     let w = c .before .before .before .wide .ensures .0 in
@@ -74,14 +71,13 @@ figure-allowed-requires : tie.Need-figure-allowed-requires
 figure-allowed-requires c κs = search needs
 
 returns-4 : tie.Need-returns-4
-returns-4 c = 
+returns-4 c =
     λ ps n l.
     let a = c .before .before .before .before .before .before .before .before .before .before .before .before .before in
     let w = c .before .before .before .before .before .before .before .before .wide .ensures .0 in
     figure-unruled (a .args .s .now) (a .args .edition) (a .args .start) (a .args .len) (a .pre .0) ps (c .before .before .before .before .before .before .before .before .wide .result) w (c .before .before .before .before .before .before .before .before .before .before .if1 .left) (c .before .before .before .before .before .before .before .if2 .left)
     (sym (c .before .before .before .before .before .before .name-allowed .ensures) ∙ not-false _ (c .before .before .before .before .before .if3 .left))
-    (ap (λ q. ruleAllowed (getD (a .args .s .now) (a .args .start + 0) 0) q && keepAllowed (getD (a .args .s .now) (a .args .start + 1) 0) && spreadAllowed (a .args .edition) (getD (a .args .s .now) (a .args .start + 2) 0)) w
-          ∙ sym (c .before .figure-allowed .ensures) ∙ not-true _ (c .if4 .taken))
+    (sym (c .before .figure-allowed .ensures) ∙ not-true _ (c .if4 .taken))
 
 add-level-over : tie.Need-add-level-over
 add-level-over c = search needs
@@ -90,41 +86,38 @@ level-over-requires : tie.Need-level-over-requires
 level-over-requires c κs = search needs
 
 returns-5 : tie.Need-returns-5
-returns-5 c = 
+returns-5 c =
     λ ps n l.
     let a = c .before .before .before .before .before .before .before .before .before .before .before .before .before .before .before in
     let w = c .before .before .before .before .before .before .before .before .before .before .wide .ensures .0 in
     figure-above (a .args .s .now) (a .args .edition) (a .args .start) (a .args .len) (a .pre .0) ps (c .before .before .before .before .before .before .before .before .before .before .wide .result) w (c .before .before .before .before .before .before .before .before .before .before .before .before .if1 .left) (c .before .before .before .before .before .before .before .before .before .if2 .left)
     (sym (c .before .before .before .before .before .before .before .before .name-allowed .ensures) ∙ not-false _ (c .before .before .before .before .before .before .before .if3 .left))
-    (ap (λ q. ruleAllowed (getD (a .args .s .now) (a .args .start + 0) 0) q && keepAllowed (getD (a .args .s .now) (a .args .start + 1) 0) && spreadAllowed (a .args .edition) (getD (a .args .s .now) (a .args .start + 2) 0)) w
-          ∙ sym (c .before .before .before .figure-allowed .ensures) ∙ not-false _ (c .before .before .if4 .left))
+    (sym (c .before .before .before .figure-allowed .ensures) ∙ not-false _ (c .before .before .if4 .left))
     (a .args .i) n (a .args .levels .now) l (c .before .level-over .result) (c .before .level-over .ensures .0) (c .if5 .taken)
 
 returns-6 : tie.Need-returns-6
 unfolding levelLimit
-returns-6 c = 
+returns-6 c =
     λ ps n l.
     let a = c .before .before .before .before .before .before .before .before .before .before .before .before .before .before .before .before in
     let w = c .before .before .before .before .before .before .before .before .before .before .before .wide .ensures .0 in
     figure-high (a .args .s .now) (a .args .edition) (a .args .start) (a .args .len) (a .pre .0) ps (c .before .before .before .before .before .before .before .before .before .before .before .wide .result) w (c .before .before .before .before .before .before .before .before .before .before .before .before .before .if1 .left) (c .before .before .before .before .before .before .before .before .before .before .if2 .left)
     (sym (c .before .before .before .before .before .before .before .before .before .name-allowed .ensures) ∙ not-false _ (c .before .before .before .before .before .before .before .before .if3 .left))
-    (ap (λ q. ruleAllowed (getD (a .args .s .now) (a .args .start + 0) 0) q && keepAllowed (getD (a .args .s .now) (a .args .start + 1) 0) && spreadAllowed (a .args .edition) (getD (a .args .s .now) (a .args .start + 2) 0)) w
-          ∙ sym (c .before .before .before .before .figure-allowed .ensures) ∙ not-false _ (c .before .before .before .if4 .left))
+    (sym (c .before .before .before .before .figure-allowed .ensures) ∙ not-false _ (c .before .before .before .if4 .left))
     (a .args .i) n (a .args .levels .now) l (c .before .before .level-over .result) (c .before .before .level-over .ensures .0) (c .before .if5 .left) (c .if6 .taken)
 
-cast-t14 : tie.Need-cast-t14
-cast-t14 c = search needs
+cast-t13 : tie.Need-cast-t13
+cast-t13 c = search needs
 
 returns-7 : tie.Need-returns-7
 unfolding levelLimit
-returns-7 c = 
+returns-7 c =
     λ ps n l.
     let a = c .before .before .before .before .before .before .before .before .before .before .before .before .before .before .before .before in
     let w = c .before .before .before .before .before .before .before .before .before .before .before .wide .ensures .0 in
     figure-sound (a .args .s .now) (a .args .edition) (a .args .start) (a .args .len) (a .pre .0) ps (c .before .before .before .before .before .before .before .before .before .before .before .wide .result) w (c .before .before .before .before .before .before .before .before .before .before .before .before .before .if1 .left) (c .before .before .before .before .before .before .before .before .before .before .if2 .left)
     (sym (c .before .before .before .before .before .before .before .before .before .name-allowed .ensures) ∙ not-false _ (c .before .before .before .before .before .before .before .before .if3 .left))
-    (ap (λ q. ruleAllowed (getD (a .args .s .now) (a .args .start + 0) 0) q && keepAllowed (getD (a .args .s .now) (a .args .start + 1) 0) && spreadAllowed (a .args .edition) (getD (a .args .s .now) (a .args .start + 2) 0)) w
-          ∙ sym (c .before .before .before .before .figure-allowed .ensures) ∙ not-false _ (c .before .before .before .if4 .left))
+    (sym (c .before .before .before .before .figure-allowed .ensures) ∙ not-false _ (c .before .before .before .if4 .left))
     (a .args .i) n (a .args .levels .now) l (c .before .before .level-over .result) (c .before .before .level-over .ensures .0) (c .before .if5 .left) (c .if6 .left)
 
 pub judge-figure-spec : {M : Type 1} → statement M
@@ -132,8 +125,8 @@ judge-figure-spec =
     tie.close
     (tie.spec
     returns
-    add-count
-    shared-slice-read-count
+    add-wide
+    shared-slice-read-wide
     wide-requires
     mul-before
     add-before
@@ -153,5 +146,5 @@ judge-figure-spec =
     level-over-requires
     returns-5
     returns-6
-    cast-t14
+    cast-t13
     returns-7)

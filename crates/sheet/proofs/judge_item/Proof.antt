@@ -12,13 +12,13 @@ judge-figure-requires : tie.Need-judge-figure-requires
 judge-figure-requires c κs = search needs
 
 returns : tie.Need-returns
-returns c = 
+returns c =
     λ ps n l.
     let a = c .before .before .before .before .args in
     c .judge-figure .ensures ps n l ∙ sym (ap (λ t. judgedItem (a .edition) ps t (contentAt (a .s .now) (a .start) (a .len))) (c .before .if1 .taken))
 
 returns-2 : tie.Need-returns-2
-returns-2 c = 
+returns-2 c =
     λ ps n l.
     let a = c .before .before .before .before .args in
     sym (other-judged (a .edition) ps (contentAt (a .s .now) (a .start) (a .len)) (a .tag) (c .if2 .taken) (c .before .if1 .left))
@@ -27,14 +27,14 @@ name-allowed-requires : tie.Need-name-allowed-requires
 name-allowed-requires c κs = search needs
 
 returns-3 : tie.Need-returns-3
-returns-3 c = 
+returns-3 c =
     λ ps n l.
     let a = c .before .before .before .before .before .before .args in
     let content = contentAt (a .s .now) (a .start) (a .len) in
     sym (ap (λ t. judgedItem (a .edition) ps t content) (c .before .before .if2 .left) ∙ entry-judged (a .edition) ps content true (sym (c .if3 .taken) ∙ c .before .name-allowed .ensures))
 
 returns-4 : tie.Need-returns-4
-returns-4 c = 
+returns-4 c =
     λ ps n l.
     let a = c .before .before .before .before .before .before .args in
     let content = contentAt (a .s .now) (a .start) (a .len) in

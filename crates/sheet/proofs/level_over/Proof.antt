@@ -38,7 +38,7 @@ u16-at-requires : tie.Need-u16-at-requires Inv-loop μ-loop
 u16-at-requires c κs = omega arith
 
 returns : tie.Need-returns Inv-loop μ-loop
-returns c = 
+returns c =
     let a = c .before .before .before .before .before .before .args in
     let u = c .before .u16-at in
     (level-fails (a .s .now) (a .at) (a .i) (a .levels .now) (c .before .before .before .loop .k) (a .p) (u .result) (c .before .before .loop-test .taken) (u .ensures .0) (c .if1 .taken), search needs)
@@ -59,7 +59,7 @@ loop-less : tie.Need-loop-less Inv-loop μ-loop
 loop-less c = omega arith
 
 loop-again : tie.Need-loop-again Inv-loop μ-loop
-loop-again c = 
+loop-again c =
     let a = c .before .before .before .before .before .before .before .before .before .args in
     let u = c .before .before .before .before .u16-at in
     let l = c .before .before .before .before .before .before .loop in
@@ -71,7 +71,7 @@ add-result : tie.Need-add-result Inv-loop μ-loop
 add-result c = omega arith
 
 returns-2 : tie.Need-returns-2 Inv-loop μ-loop
-returns-2 c = 
+returns-2 c =
     let a = c .before .before .before .before .args in
     let k : c .before .loop .k ≡ a .p = omega arith in
     (level-passes (a .s .now) (a .at) (a .i) (a .levels .now) (a .p) (c .before .loop .highest) (rw k at (c .before .loop .inv .1)) (rw k at (c .before .loop .inv .2)), search needs)

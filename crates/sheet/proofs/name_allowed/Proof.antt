@@ -40,7 +40,7 @@ name-byte-requires c κs = search needs
 
 returns-3 : tie.Need-returns-3 Inv-loop μ-loop
 unfolding nameLimit
-returns-3 c = 
+returns-3 c =
     let a = c .before .before .before .before .before .before .before .before in
     let one : 1 ≤ a .args .len = omega arith in
     let e = not-true _ (c .if3 .taken) in
@@ -54,7 +54,7 @@ loop-less : tie.Need-loop-less Inv-loop μ-loop
 loop-less c = omega arith
 
 loop-again : tie.Need-loop-again Inv-loop μ-loop
-loop-again c = 
+loop-again c =
     let a = c .before .before .before .before .before .before .before .before in
     let k = c .before .before .before .before .loop .k in
     let e : nameByte (getD (a .args .s .now) (a .args .at + k) 0) ≡ true = sym (c .before .name-byte .ensures) ∙ not-false _ (c .if3 .left) in
@@ -63,7 +63,7 @@ loop-again c =
 
 returns-4 : tie.Need-returns-4 Inv-loop μ-loop
 unfolding nameLimit
-returns-4 c = 
+returns-4 c =
     let a = c .before .before .before .before .before in
     let one : 1 ≤ a .args .len = omega arith in
     let k : c .before .loop .k ≡ a .args .len = omega arith in
