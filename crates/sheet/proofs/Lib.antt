@@ -10,3 +10,5 @@ pub mod Items
 pub mod Exactly
 pub mod Scanned
 pub mod Whole
+pub mod Here
+pub mod Located

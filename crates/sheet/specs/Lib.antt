@@ -3,4 +3,5 @@ pub mod Read
 pub mod Write
 pub mod Index
 pub mod Check
+pub mod Parts
 pub mod Places

@@ -10,6 +10,9 @@ pub const FIGURE_TAG: u8 = 3;
 
 pub const LAST_TAG: u8 = 4;
 
+// The tag and the length of a field.
+pub const FIELD_HEADER: usize = 3;
+
 // The first field's content: its length, and where the item count stands after the edition.
 pub const HEAD_LENGTH: usize = 4;
 
