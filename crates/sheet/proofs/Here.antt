@@ -166,9 +166,9 @@ module _ (s : List ℕ) (i at : ℕ) (f : Here s i at) (fig : isFigure (itemAt (
       let p : ℕ = getD s (at + 6) 0 in
       let st : f .start + 4 ≡ at + 7 = omega arith in
       let ps : parentsIn inside (parentCountIn inside) ≡ numbersAt s (at + 7) p =
-            ap (parentsIn inside) b₃ ∙ parents-are s (f .start) (f .len) p (omega arith) ∙ ap (λ k. numbersAt s k p) st in
+      ap (parentsIn inside) b₃ ∙ parents-are s (f .start) (f .len) p (omega arith) ∙ ap (λ k. numbersAt s k p) st in
       let it : itemIn figureTag inside
-            ≡ figureField (getD s (at + 3) 0) (getD s (at + 4) 0) (getD s (at + 5) 0) (numbersAt s (at + 7) p) (nameIn inside) = cc in
+      ≡ figureField (getD s (at + 3) 0) (getD s (at + 4) 0) (getD s (at + 5) 0) (numbersAt s (at + 7) p) (nameIn inside) = cc in
       let rf′ = ap (ruleWrong (f .edition)) (sym it) ∙ rf in
       let pf′ = ap (parentWrong (length (f .earlier))) (sym it) ∙ pf in
       let a = and-left _ _ (and-left _ _ (not-false _ rf′)) in
@@ -197,7 +197,7 @@ module _ (s : List ℕ) (i at p : ℕ) (g : FigureHere s i at p) where
   parent-below k h =
       let n = numbers-at s (at + 7) p k (omega (arith, parent-count-here)) in
       let b = ltb-true (getD (numbersAt s (at + 7) p) k 0) i
-          (all-at (λ q. ltb q i) (numbersAt s (at + 7) p) k (g .parents-below) (omega (arith, parent-count-here, numbers-length s (at + 7) p))) in
+      (all-at (λ q. ltb q i) (numbersAt s (at + 7) p) k (g .parents-below) (omega (arith, parent-count-here, numbers-length s (at + 7) p))) in
       omega arith
 
   pub operation-here : operationIn (itemAt (sheetOf s) i) ≡ operationOf (getD s (at + 3) 0) p

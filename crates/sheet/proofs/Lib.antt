@@ -12,3 +12,4 @@ pub mod Scanned
 pub mod Whole
 pub mod Here
 pub mod Located
+pub mod Indexes

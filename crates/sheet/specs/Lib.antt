@@ -4,4 +4,5 @@ pub mod Write
 pub mod Index
 pub mod Check
 pub mod Parts
+pub mod Offsets
 pub mod Places

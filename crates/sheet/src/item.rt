@@ -7,7 +7,6 @@ ghost use Rattle.circuit.specs.Sheet.{size, itemAt, isFigure, parents, keptOf, 
 ghost use Rattle.value.specs.Meaning.{operationMeaning};
 ghost use Rattle.sheet.specs.Check.{Located, sheetOf};
 ghost use Rattle.sheet.specs.Parts.{operationIn, spreadMeaning};
-
 use crate::limits::FIELD_HEADER;
 use crate::limits::FIGURE_TAG;
 use crate::limits::KEEP_AT;
@@ -26,9 +25,13 @@ pub enum Spread {
 
 // Where each part of a figure stands from the offset of its field.
 const RULE: usize = FIELD_HEADER + RULE_AT;
+
 const KEEP: usize = FIELD_HEADER + KEEP_AT;
+
 const SPREAD: usize = FIELD_HEADER + SPREAD_AT;
+
 const PARENT_COUNT: usize = FIELD_HEADER + PARENT_COUNT_AT;
+
 const PARENTS: usize = FIELD_HEADER + PARENTS_AT;
 
 pub fn is_figure(s: &[u8], offsets: &[usize], i: usize) -> bool

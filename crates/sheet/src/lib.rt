@@ -9,6 +9,7 @@ ghost use Rattle.sheet.specs.Layout.{figureTag, ruleAllowed, keepAllowed
 ghost use Rattle.sheet.specs.Read.{Placed, contentAt, headTests, going, scan, scanLast, conclude, readSheet};
 ghost use Rattle.sheet.specs.Check.{checkedOf, judgedItem, LevelsAt, mostItems, soundItems, readSoFar, over, offsetsOf, levelsOf, numbersAt, levelOver};
 
+pub mod index;
 pub mod item;
 pub mod limits;
 

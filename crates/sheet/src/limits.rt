@@ -41,6 +41,9 @@ pub const LEVEL_LIMIT: usize = 64;
 
 pub const NAME_LIMIT: usize = 16;
 
+// The bytes of an index entry.
+pub const INDEX_WIDTH: usize = 4;
+
 const FIRST_NAME_BYTE: u8 = 33;
 
 const LAST_NAME_BYTE: u8 = 126;

@@ -9,19 +9,19 @@ use Rattle.sheet.proofs.item.is_kept.Statement.{statement}
 use Rattle.sheet.proofs.item.is_kept.Tie as tie
 
 mul-at : tie.Need-mul-at
-mul-at c = 
+mul-at c =
     let a = c in
     let h = in-array (a .args .s .now) (a .args .offsets .now) (a .args .i) (a .pre .0) (a .pre .1) in
     search needs
 
 shared-slice-read-at : tie.Need-shared-slice-read-at
-shared-slice-read-at c = 
+shared-slice-read-at c =
     let a = c .before in
     let h = in-array (a .args .s .now) (a .args .offsets .now) (a .args .i) (a .pre .0) (a .pre .1) in
     search needs
 
 add-result : tie.Need-add-result
-add-result c = 
+add-result c =
     let a = c .before in
     let x = getD (a .args .offsets .now) (a .args .i) 0 in
     let f = here (a .args .s .now) (a .args .offsets .now) (a .args .i) (a .pre .0) (a .pre .1) in
@@ -30,7 +30,7 @@ add-result c =
     omega arith
 
 shared-slice-read-result : tie.Need-shared-slice-read-result
-shared-slice-read-result c = 
+shared-slice-read-result c =
     let a = c .before .before in
     let x = getD (a .args .offsets .now) (a .args .i) 0 in
     let f = here (a .args .s .now) (a .args .offsets .now) (a .args .i) (a .pre .0) (a .pre .1) in
@@ -39,7 +39,7 @@ shared-slice-read-result c =
     omega arith
 
 returns : tie.Need-returns
-returns c = 
+returns c =
     let a = c .before .before in
     let x = getD (a .args .offsets .now) (a .args .i) 0 in
     let f = here (a .args .s .now) (a .args .offsets .now) (a .args .i) (a .pre .0) (a .pre .1) in

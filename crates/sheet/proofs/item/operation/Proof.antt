@@ -10,19 +10,19 @@ use Rattle.sheet.proofs.item.operation.Statement.{statement}
 use Rattle.sheet.proofs.item.operation.Tie as tie
 
 mul-at : tie.Need-mul-at
-mul-at c = 
+mul-at c =
     let a = c .before .before in
     let h = in-array (a .args .s .now) (a .args .offsets .now) (a .args .i) (a .pre .0) (a .pre .1) in
     search needs
 
 shared-slice-read-at : tie.Need-shared-slice-read-at
-shared-slice-read-at c = 
+shared-slice-read-at c =
     let a = c .before .before .before in
     let h = in-array (a .args .s .now) (a .args .offsets .now) (a .args .i) (a .pre .0) (a .pre .1) in
     search needs
 
 add-operation-of : tie.Need-add-operation-of
-add-operation-of c = 
+add-operation-of c =
     let a = c .before .before .before in
     let x = getD (a .args .offsets .now) (a .args .i) 0 in
     let f = here (a .args .s .now) (a .args .offsets .now) (a .args .i) (a .pre .0) (a .pre .1) in
@@ -31,7 +31,7 @@ add-operation-of c =
     omega arith
 
 shared-slice-read-operation-of : tie.Need-shared-slice-read-operation-of
-shared-slice-read-operation-of c = 
+shared-slice-read-operation-of c =
     let a = c .before .before .before .before in
     let x = getD (a .args .offsets .now) (a .args .i) 0 in
     let f = here (a .args .s .now) (a .args .offsets .now) (a .args .i) (a .pre .0) (a .pre .1) in
@@ -40,7 +40,7 @@ shared-slice-read-operation-of c =
     omega arith
 
 add-wide : tie.Need-add-wide
-add-wide c = 
+add-wide c =
     let a = c .before .before .before .before in
     let x = getD (a .args .offsets .now) (a .args .i) 0 in
     let f = here (a .args .s .now) (a .args .offsets .now) (a .args .i) (a .pre .0) (a .pre .1) in
@@ -49,7 +49,7 @@ add-wide c =
     omega arith
 
 shared-slice-read-wide : tie.Need-shared-slice-read-wide
-shared-slice-read-wide c = 
+shared-slice-read-wide c =
     let a = c .before .before .before .before .before in
     let x = getD (a .args .offsets .now) (a .args .i) 0 in
     let f = here (a .args .s .now) (a .args .offsets .now) (a .args .i) (a .pre .0) (a .pre .1) in
@@ -64,7 +64,7 @@ operation-of-requires : tie.Need-operation-of-requires
 operation-of-requires c κs = search needs
 
 returns : tie.Need-returns
-returns c = 
+returns c =
     let a = c .before .before .before .before .before .before .before in
     let x = getD (a .args .offsets .now) (a .args .i) 0 in
     let f = here (a .args .s .now) (a .args .offsets .now) (a .args .i) (a .pre .0) (a .pre .1) in

@@ -9,19 +9,19 @@ use Rattle.sheet.proofs.item.parent.Statement.{statement}
 use Rattle.sheet.proofs.item.parent.Tie as tie
 
 mul-at : tie.Need-mul-at
-mul-at c = 
+mul-at c =
     let a = c .before .before in
     let h = in-array (a .args .s .now) (a .args .offsets .now) (a .args .i) (a .pre .0) (a .pre .1) in
     search needs
 
 shared-slice-read-at : tie.Need-shared-slice-read-at
-shared-slice-read-at c = 
+shared-slice-read-at c =
     let a = c .before .before .before in
     let h = in-array (a .args .s .now) (a .args .offsets .now) (a .args .i) (a .pre .0) (a .pre .1) in
     search needs
 
 add-u16-at : tie.Need-add-u16-at
-add-u16-at c = 
+add-u16-at c =
     let a = c .before .before .before in
     let x = getD (a .args .offsets .now) (a .args .i) 0 in
     let f = here (a .args .s .now) (a .args .offsets .now) (a .args .i) (a .pre .0) (a .pre .1) in
@@ -33,7 +33,7 @@ add-u16-at c =
     omega arith
 
 mul-u16-at : tie.Need-mul-u16-at
-mul-u16-at c = 
+mul-u16-at c =
     let a = c .before .before .before in
     let x = getD (a .args .offsets .now) (a .args .i) 0 in
     let f = here (a .args .s .now) (a .args .offsets .now) (a .args .i) (a .pre .0) (a .pre .1) in
@@ -45,7 +45,7 @@ mul-u16-at c =
     omega arith
 
 add-u16-at-2 : tie.Need-add-u16-at-2
-add-u16-at-2 c = 
+add-u16-at-2 c =
     let a = c .before .before .before in
     let x = getD (a .args .offsets .now) (a .args .i) 0 in
     let f = here (a .args .s .now) (a .args .offsets .now) (a .args .i) (a .pre .0) (a .pre .1) in
@@ -57,7 +57,7 @@ add-u16-at-2 c =
     omega arith
 
 u16-at-requires : tie.Need-u16-at-requires
-u16-at-requires c κs = 
+u16-at-requires c κs =
     let a = c .before .before .before in
     let x = getD (a .args .offsets .now) (a .args .i) 0 in
     let f = here (a .args .s .now) (a .args .offsets .now) (a .args .i) (a .pre .0) (a .pre .1) in
@@ -69,7 +69,7 @@ u16-at-requires c κs =
     omega arith
 
 returns : tie.Need-returns
-returns c = 
+returns c =
     let a = c .before .before .before .before in
     let x = getD (a .args .offsets .now) (a .args .i) 0 in
     let f = here (a .args .s .now) (a .args .offsets .now) (a .args .i) (a .pre .0) (a .pre .1) in

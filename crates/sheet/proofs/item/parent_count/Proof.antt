@@ -9,19 +9,19 @@ use Rattle.sheet.proofs.item.parent_count.Statement.{statement}
 use Rattle.sheet.proofs.item.parent_count.Tie as tie
 
 mul-at : tie.Need-mul-at
-mul-at c = 
+mul-at c =
     let a = c .before .before in
     let h = in-array (a .args .s .now) (a .args .offsets .now) (a .args .i) (a .pre .0) (a .pre .1) in
     search needs
 
 shared-slice-read-at : tie.Need-shared-slice-read-at
-shared-slice-read-at c = 
+shared-slice-read-at c =
     let a = c .before .before .before in
     let h = in-array (a .args .s .now) (a .args .offsets .now) (a .args .i) (a .pre .0) (a .pre .1) in
     search needs
 
 add-wide : tie.Need-add-wide
-add-wide c = 
+add-wide c =
     let a = c .before .before .before in
     let x = getD (a .args .offsets .now) (a .args .i) 0 in
     let f = here (a .args .s .now) (a .args .offsets .now) (a .args .i) (a .pre .0) (a .pre .1) in
@@ -30,7 +30,7 @@ add-wide c =
     omega arith
 
 shared-slice-read-wide : tie.Need-shared-slice-read-wide
-shared-slice-read-wide c = 
+shared-slice-read-wide c =
     let a = c .before .before .before .before in
     let x = getD (a .args .offsets .now) (a .args .i) 0 in
     let f = here (a .args .s .now) (a .args .offsets .now) (a .args .i) (a .pre .0) (a .pre .1) in
@@ -42,7 +42,7 @@ wide-requires : tie.Need-wide-requires
 wide-requires c κs = search needs
 
 returns : tie.Need-returns
-returns c = 
+returns c =
     let a = c .before .before .before .before .before in
     let x = getD (a .args .offsets .now) (a .args .i) 0 in
     let f = here (a .args .s .now) (a .args .offsets .now) (a .args .i) (a .pre .0) (a .pre .1) in

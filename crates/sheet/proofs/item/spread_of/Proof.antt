@@ -11,19 +11,19 @@ use Rattle.sheet.proofs.item.spread_of.Statement.{statement}
 use Rattle.sheet.proofs.item.spread_of.Tie as tie
 
 mul-at : tie.Need-mul-at
-mul-at c = 
+mul-at c =
     let a = c in
     let h = in-array (a .args .s .now) (a .args .offsets .now) (a .args .i) (a .pre .0) (a .pre .1) in
     search needs
 
 shared-slice-read-at : tie.Need-shared-slice-read-at
-shared-slice-read-at c = 
+shared-slice-read-at c =
     let a = c .before in
     let h = in-array (a .args .s .now) (a .args .offsets .now) (a .args .i) (a .pre .0) (a .pre .1) in
     search needs
 
 add-match : tie.Need-add-match
-add-match c = 
+add-match c =
     let a = c .before in
     let x = getD (a .args .offsets .now) (a .args .i) 0 in
     let f = here (a .args .s .now) (a .args .offsets .now) (a .args .i) (a .pre .0) (a .pre .1) in
@@ -32,7 +32,7 @@ add-match c =
     omega arith
 
 shared-slice-read-match : tie.Need-shared-slice-read-match
-shared-slice-read-match c = 
+shared-slice-read-match c =
     let a = c .before .before in
     let x = getD (a .args .offsets .now) (a .args .i) 0 in
     let f = here (a .args .s .now) (a .args .offsets .now) (a .args .i) (a .pre .0) (a .pre .1) in
@@ -42,7 +42,7 @@ shared-slice-read-match c =
 
 returns : tie.Need-returns
 unfolding spreadMeant
-returns c = 
+returns c =
     let a = c .before .before .before in
     let x = getD (a .args .offsets .now) (a .args .i) 0 in
     let f = here (a .args .s .now) (a .args .offsets .now) (a .args .i) (a .pre .0) (a .pre .1) in
@@ -52,7 +52,7 @@ returns c =
 
 returns-2 : tie.Need-returns-2
 unfolding spreadMeant
-returns-2 c = 
+returns-2 c =
     let a = c .before .before .before in
     let x = getD (a .args .offsets .now) (a .args .i) 0 in
     let f = here (a .args .s .now) (a .args .offsets .now) (a .args .i) (a .pre .0) (a .pre .1) in
@@ -62,7 +62,7 @@ returns-2 c =
 
 returns-3 : tie.Need-returns-3
 unfolding spreadMeant
-returns-3 c = 
+returns-3 c =
     let a = c .before .before .before in
     let x = getD (a .args .offsets .now) (a .args .i) 0 in
     let f = here (a .args .s .now) (a .args .offsets .now) (a .args .i) (a .pre .0) (a .pre .1) in
