@@ -49,7 +49,11 @@ operationMeaning Count = some rules.count
 operationMeaning AtLeast = some rules.atLeast
 operationMeaning Refused = none
 
--- the number under which the answer is given: 0, or refusal 5
+abbrev pub refuses : Option rules.Operation → Bool
+refuses none = true
+refuses (some op) = false
+
+-- the number of the answer: 0, or refusal 5
 abbrev pub operationNumber : Operation → ℕ
 operationNumber Sum = 0
 operationNumber Difference = 0

@@ -8,7 +8,7 @@ ghost use lib.Signed.{leZ};
 ghost use Rattle.circuit.specs.Value as circuit;
 ghost use Rattle.circuit.specs.Rules as rules;
 ghost use Rattle.circuit.specs.WellFormed.{allWellFormed};
-ghost use Rattle.value.specs.Meaning.{meaning, partsOf, partsMeaning, operationMeaning, valueAt, firstValues, allows, Applied};
+ghost use Rattle.value.specs.Meaning.{meaning, partsOf, partsMeaning, operationMeaning, refuses, valueAt, firstValues, allows, Applied};
 ghost use Rattle.value.specs.Tally.{Room, empty, counted, taken, takenAll};
 
 pub enum Amount {
@@ -224,6 +224,23 @@ pub fn operation_of(code: u8, count: usize) -> Operation
             _ => Operation::Refused,
         },
         _ => Operation::Refused,
+    }
+}
+
+// Whether the rule or its count of parents was refused.
+pub fn is_refused(op: Operation) -> bool
+    ensures { λ r. ⌜ r ≡ refuses (operationMeaning op) ⌝ }
+{
+    match op {
+        Operation::Sum => false,
+        Operation::Difference => false,
+        Operation::Smallest => false,
+        Operation::Largest => false,
+        Operation::Share => false,
+        Operation::Choice => false,
+        Operation::Count => false,
+        Operation::AtLeast => false,
+        Operation::Refused => true,
     }
 }
 
