@@ -1,7 +1,7 @@
 -- A signed number's size, made without a step out of the 64 bits. Assumes nothing.
-use Prim.Native.Nat.{ℕ, zero, suc, _+_, _-_, _^_, _<_}
-use mathlib.Core.Path.{_≡_, refl, sym, ap, _∙_}
-use mathlib.Core.Bool.{Bool, true, false, cond}
+use Prim.Native.Nat.{ℕ, suc, _+_, _-_, _^_, _<_}
+use mathlib.Core.Bool.{true, false}
+use mathlib.Core.Path.{_≡_, ap, _∙_}
 use native.Mathlib.Omega.{arith}
 use borrow.Author.Tests.{ltb-true, le-ltb}
 use lib.Dec.{T}
@@ -9,8 +9,8 @@ use lib.IntN.{ℤ, pos, negsuc, natAbs, _-ℤ_}
 use lib.Signed.{ltZ, mag, nonNeg}
 use mir.Syntax.{w64}
 use mir.Val.{Fits, SFits, toZ, ofZ}
-use Rattle.value.proofs.Signed.{back}
 use Rattle.value.proofs.Shares.{not-below, not-less}
+use Rattle.value.proofs.Signed.{back}
 
 module _ (n : ℤ) (f : SFits w64 n) where
   module _ (e : ltZ (toZ w64 (ofZ w64 n)) (pos 0) ≡ true) where

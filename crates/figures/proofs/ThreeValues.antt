@@ -1,17 +1,17 @@
 -- Three well-formed values, kept as kinds and numbers, are well-formed values. Assumes nothing.
 use Prim.Native.Nat.{ℕ, _≤_}
-use mathlib.Core.Path.{_≡_, refl, sym, _∙_}
-use mathlib.Core.Bool.{Bool, true, _&&_}
-use mathlib.Core.List.{List, [], _∷_}
+use mathlib.Core.Bool.{true}
+use mathlib.Core.List.{List, _∷_}
+use mathlib.Core.Path.{_≡_, refl}
 use lib.IntN.{ℤ}
 use mir.Syntax.{w64}
 use mir.Val.{SFits, toZ, ofZ}
+use Rattle.circuit.proofs.RuleLaws.{ranged-wellFormed, and-true}
 use Rattle.circuit.specs.Value.{Value, ranged, wellFormed, kindOf, numberOf}
 use Rattle.circuit.specs.WellFormed.{allWellFormed}
-use Rattle.circuit.proofs.RuleLaws.{ranged-wellFormed, and-true}
 use Rattle.value.specs.Meaning.{ofParts, firstValues}
-use Rattle.value.proofs.Signed.{back}
 use Rattle.value.proofs.Parents.{of-own-parts, firstValues-wellFormed}
+use Rattle.value.proofs.Signed.{back}
 
 pub exact-formed : (v : Value) (z : ℤ) → v ≡ ranged z → wellFormed v ≡ true
 exact-formed v z e = rw e (ranged-wellFormed z)

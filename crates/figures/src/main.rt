@@ -86,13 +86,55 @@ fn main() {
     let top = value::limit();
     figure(b"sum(NULL, NULL)", 1, 2, none, none, none);
     figure(b"sum(5, NULL)", 1, 2, Value::number(5), none, none);
-    figure(b"sum(LIMIT, 1)", 1, 2, Value::number(top), Value::number(1), none);
-    figure(b"sum(LIMIT, 1, -1)", 1, 3, Value::number(top), Value::number(1), Value::number(-1));
+    figure(
+        b"sum(LIMIT, 1)",
+        1,
+        2,
+        Value::number(top),
+        Value::number(1),
+        none,
+    );
+    figure(
+        b"sum(LIMIT, 1, -1)",
+        1,
+        3,
+        Value::number(top),
+        Value::number(1),
+        Value::number(-1),
+    );
     figure(b"difference(NULL, 3)", 2, 2, none, Value::number(3), none);
-    figure(b"share(-1, 5000)", 5, 2, Value::number(-1), Value::number(5000), none);
-    figure(b"share(7, 10001)", 5, 2, Value::number(7), Value::number(10001), none);
-    figure(b"choice(0, 7, 9)", 6, 3, Value::number(0), Value::number(7), Value::number(9));
+    figure(
+        b"share(-1, 5000)",
+        5,
+        2,
+        Value::number(-1),
+        Value::number(5000),
+        none,
+    );
+    figure(
+        b"share(7, 10001)",
+        5,
+        2,
+        Value::number(7),
+        Value::number(10001),
+        none,
+    );
+    figure(
+        b"choice(0, 7, 9)",
+        6,
+        3,
+        Value::number(0),
+        Value::number(7),
+        Value::number(9),
+    );
     figure(b"count(NULL, 4)", 7, 2, none, Value::number(4), none);
-    figure(b"at least(3, 3)", 8, 2, Value::number(3), Value::number(3), none);
+    figure(
+        b"at least(3, 3)",
+        8,
+        2,
+        Value::number(3),
+        Value::number(3),
+        none,
+    );
     figure(b"smallest(NULL, -2)", 3, 2, none, Value::number(-2), none);
 }

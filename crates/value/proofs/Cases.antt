@@ -1,30 +1,29 @@
 -- What the functions on values ask, case by case, over plain variables. Assumes nothing.
 use Prim.Native.Nat.{ℕ, _+_, _≤_, _<_, zero-le}
-use mathlib.Core.Path.{_≡_, refl, sym, ap, _∙_}
 use mathlib.Core.Bool.{Bool, true, false, cond, _&&_, _||_}
 use mathlib.Core.List.{List, [], _∷_}
-use mathlib.Core.Option.{Option, none, some}
-use native.Mathlib.Omega.{arith}
+use mathlib.Core.Option.{none, some}
+use mathlib.Core.Path.{_≡_, refl, sym, ap, _∙_}
 use native.Mathlib.Numerals.{add-one}
+use native.Mathlib.Omega.{arith}
 use borrow.Author.Tests.{eq-eqb, ne-eqb}
 use lib.Dec.{eqb}
-use lib.IntN.{ℤ, pos, negsuc, natAbs, negℤ, _+ℤ_, _-ℤ_}
+use lib.IntN.{ℤ, pos, negsuc, negℤ, _+ℤ_, _-ℤ_}
 use lib.Signed.{leZ, ltZ}
 use mir.Syntax.{w64}
 use mir.Val.{SFits, toZ, ofZ}
-use Rattle.circuit.specs.Value as circuit
-use Rattle.circuit.specs.Rules as rules
-use Rattle.circuit.specs.WellFormed.{allWellFormed}
 use Rattle.circuit.proofs.RuleLaws.{any-out, size-inRange}
-use Rattle.value.specs.declared.Amount.{Amount}
-use Rattle.value.specs.declared.Amount.the-variants.{Null, Out, Number}
-use Rattle.value.specs.declared.Value.{Value}
-use Rattle.value.specs.declared.Tally.{Tally}
+use Rattle.circuit.specs.Rules as rules
+use Rattle.circuit.specs.Value as circuit
+use Rattle.circuit.specs.WellFormed.{allWellFormed}
 use Rattle.value.specs.Meaning.{meaning, partsOf, valueAt, firstValues}
 use Rattle.value.specs.Tally.{Room, empty, counted, taken, takenAll}
+use Rattle.value.specs.declared.Amount.the-variants.{Out, Number}
+use Rattle.value.specs.declared.Tally.{Tally}
+use Rattle.value.specs.declared.Value.{Value}
 use Rattle.value.proofs.Parents.{firstValues-length, firstValues-wellFormed, valueAt-wellFormed}
-use Rattle.value.proofs.Tallies.{takenAll-snoc, room}
 use Rattle.value.proofs.Signed.{back, above-low, below-low, same-bits, sum-fits, difference-fits}
+use Rattle.value.proofs.Tallies.{takenAll-snoc, room}
 
 -- ---- the range
 
@@ -99,17 +98,18 @@ count-first t z f e = rw (back z f, eq-eqb (t .count) 0 e)
 
 pub count-next : (t : Tally) (z low high : ℤ) → Room t → circuit.inRange z ≡ true → SFits w64 (t .total) → SFits w64 z → SFits w64 (t .least) → SFits w64 (t .greatest) → SFits w64 low → SFits w64 high → (t .count ≡ 0 → ⊥) → low ≡ rules.lesser (toZ w64 (ofZ w64 (t .least))) (toZ w64 (ofZ w64 z)) → high ≡ rules.greater (toZ w64 (ofZ w64 (t .greatest))) (toZ w64 (ofZ w64 z)) → _≡_ {A = Tally} (record { out = t .out; count = t .count + 1; total = toZ w64 (ofZ w64 (toZ w64 (ofZ w64 (t .total)) +ℤ toZ w64 (ofZ w64 z))); least = toZ w64 (ofZ w64 low); greatest = toZ w64 (ofZ w64 high) }) (counted t z)
 count-next t z low high room e ft fz fl fg flow fhigh h l g =
-    rw
-    (back low flow,
-    back high fhigh,
-    l,
-    g,
-    back (t .total) ft,
-    back (t .least) fl,
-    back (t .greatest) fg,
-    back z fz,
-    back (t .total +ℤ z) (sum-fits (t .total) z (room .total) e),
-    ne-eqb (t .count) 0 h)
+    rw (
+      back low flow,
+      back high fhigh,
+      l,
+      g,
+      back (t .total) ft,
+      back (t .least) fl,
+      back (t .greatest) fg,
+      back z fz,
+      back (t .total +ℤ z) (sum-fits (t .total) z (room .total) e),
+      ne-eqb (t .count) 0 h,
+    )
 
 pub next-fits : (t : Tally) (z : ℤ) → Room t → circuit.inRange z ≡ true → SFits w64 (t .total) → SFits w64 z → SFits w64 (toZ w64 (ofZ w64 (t .total)) +ℤ toZ w64 (ofZ w64 z))
 next-fits t z room e f g = rw (back (t .total) f, back z g) (sum-fits (t .total) z (room .total) e)

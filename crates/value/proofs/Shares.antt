@@ -1,10 +1,10 @@
 -- A share: the quotient by the whole in two parts, neither of which grows beyond the number that is shared, and rounding
 -- down on both sides of 0. Assumes nothing.
-use Prim.Native.Nat.{ℕ, zero, suc, _+_, _-_, _*_, _/_, _%_, _^_, _≤_, _<_}
-use mathlib.Core.Path.{_≡_, refl, sym, ap, subst, _∙_}
+use Prim.Native.Nat.{ℕ, zero, suc, _+_, _*_, _/_, _%_, _^_, _≤_, _<_}
 use mathlib.Core.Bool.{Bool, true, false, cond, _&&_}
+use mathlib.Core.Path.{_≡_, refl, sym, ap, _∙_}
+use native.Mathlib.Nat.{mul-comm, mul-assoc, add-mul, mul-le-mul-left, mul-le-mul, le-of-lt, le-trans, div-add-mod', div-mul-le-self, mod-lt, mul-add-div-right, div-lt-iff-lt-mul, suc-mul}
 use native.Mathlib.Omega.{arith}
-use native.Mathlib.Nat.{zero-add, mul-comm, mul-assoc, add-mul, add-assoc, mul-le-mul-left, mul-le-mul, le-of-lt, le-trans, div-add-mod', div-mul-le-self, mod-lt, mul-add-div-right, div-lt-iff-lt-mul, suc-mul, lt-of-lt-of-le}
 use borrow.Author.Tests.{leb-true, ltb-true, ltb-false, le-leb, lt-leb}
 use lib.Dec.{T, lit<, leb·zero}
 use lib.IntN.{ℤ, pos, negsuc, natAbs, negℤ, _-ℤ_, _*ℤ_, +ℤ-idl}
@@ -12,9 +12,9 @@ use lib.Signed.{leZ, ltZ, nonNeg}
 use mir.Syntax.{w64}
 use mir.Val.{Fits, SFits, toZ, ofZ}
 use mir.ValLaws.{toZ-pos}
-use Rattle.circuit.specs.Value as circuit
-use Rattle.circuit.specs.Rules.{floorDiv, whole, shareOf}
 use Rattle.circuit.proofs.RuleLaws.{inRange-size, neg-size}
+use Rattle.circuit.specs.Rules.{floorDiv, whole, shareOf}
+use Rattle.circuit.specs.Value as circuit
 use Rattle.value.proofs.Signed.{sixteen-fit, fits, back}
 
 whole-pos : 0 < whole
@@ -38,13 +38,15 @@ two-parts m p e = sym (mul-add-div-right whole-pos (m / whole * p) (m % whole * 
   where
     moved : m / whole * p * whole ≡ m / whole * whole * p
     moved = mul-assoc (m / whole) p whole ∙ ap (λ (k : ℕ). m / whole * k) (mul-comm p whole) ∙ sym (mul-assoc (m / whole) whole p)
+
     joined : m / whole * p * whole + (m % whole * p + e) ≡ m * p + e
     joined =
-        omega
-        (arith,
-        moved,
-        add-mul (m / whole * whole) (m % whole) p,
-        ap (λ (k : ℕ). k * p) (div-add-mod' m whole))
+        omega (
+          arith,
+          moved,
+          add-mul (m / whole * whole) (m % whole) p,
+          ap (λ (k : ℕ). k * p) (div-add-mod' m whole),
+        )
 
 -- the whole quotient is no larger than what is shared
 pub quotient-size : (m p e : ℕ) → p ≤ whole → e < whole → (m * p + e) / whole ≤ m
@@ -69,6 +71,7 @@ negative-share m k = go (suc m * k)
   where
     up : (j : ℕ) → (suc j + 9999) / 10_000 ≡ suc (j / 10_000)
     up j = omega arith
+
     go : (n : ℕ) → negℤ (pos ((n + 9999) / 10_000)) ≡ floorDiv (negℤ (pos n)) 10_000
     go zero = refl
     go (suc j) = ap (λ (q : ℕ). negℤ (pos q)) (up j)

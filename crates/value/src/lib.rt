@@ -55,6 +55,7 @@ impl Value {
     pub const NULL: Value = Value {
         amount: Amount::Null,
     };
+
     pub const OUT: Value = Value {
         amount: Amount::Out,
     };
@@ -530,7 +531,10 @@ pub fn apply(op: Operation, kinds: &[u8; 16], numbers: &[i64; 16], n: usize) -> 
 {
     match op {
         Operation::Sum => sum(kinds, numbers, n),
-        Operation::Difference => difference(value_at(kinds, numbers, 0), value_at(kinds, numbers, 1)),
+        Operation::Difference => difference(
+            value_at(kinds, numbers, 0),
+            value_at(kinds, numbers, 1),
+        ),
         Operation::Smallest => smallest(kinds, numbers, n),
         Operation::Largest => largest(kinds, numbers, n),
         Operation::Share => share(value_at(kinds, numbers, 0), value_at(kinds, numbers, 1)),

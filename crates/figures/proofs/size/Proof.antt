@@ -1,31 +1,24 @@
-use Rattle.figures.proofs.Sizes.{less-fits, less-cast, size-fits, size-is, plain-cast}
+-- `figures::size` meets its contract. Assumes nothing.
 use borrow.Author.Needs.{needs}
+use Rattle.figures.proofs.Sizes.{less-fits, less-cast, size-fits, size-is, plain-cast}
 use Rattle.figures.proofs.size.Statement.{statement}
 use Rattle.figures.proofs.size.Tie as tie
-use Rattle.figures.proofs.size.Reads as reads
-use Rattle.figures.proofs.size.Lts as lts
 
--- src/main.rt:21:18
 sub-result : tie.Need-sub-result
 sub-result c = less-fits (c .before .args .n) (c .before .fits .n) (c .if1 .taken)
 
--- src/main.rt:21:17
 cast-result : tie.Need-cast-result
 cast-result c = less-cast (c .before .args .n) (c .before .fits .n) (c .if1 .taken)
 
--- src/main.rt:21:16
 add-result : tie.Need-add-result
 add-result c = size-fits (c .before .args .n) (c .before .fits .n) (c .if1 .taken)
 
--- src/main.rt:21:9
 returns : tie.Need-returns
 returns c = size-is (c .before .args .n) (c .before .fits .n) (c .if1 .taken)
 
--- src/main.rt:23:5
 cast-result-2 : tie.Need-cast-result-2
 cast-result-2 c = plain-cast (c .before .args .n) (c .before .fits .n) (c .if1 .left)
 
--- src/main.rt:17:1
 returns-2 : tie.Need-returns-2
 returns-2 c = search needs
 
