@@ -96,23 +96,26 @@ parts-none k z a b c = rw (ne-eqb k 1 a, ne-eqb k 2 b, ne-eqb k 3 c)
 pub count-first : (t : Tally) (z : ℤ) → SFits w64 z → t .count ≡ 0 → _≡_ {A = Tally} (record { out = t .out; count = 1; total = toZ w64 (ofZ w64 z); least = toZ w64 (ofZ w64 z); greatest = toZ w64 (ofZ w64 z) }) (counted t z)
 count-first t z f e = rw (back z f, eq-eqb (t .count) 0 e)
 
-pub count-next : (t : Tally) (z low high : ℤ) → Room t → circuit.inRange z ≡ true → SFits w64 (t .total) → SFits w64 z → SFits w64 (t .least) → SFits w64 (t .greatest) → SFits w64 low → SFits w64 high → (t .count ≡ 0 → ⊥) → low ≡ rules.lesser (toZ w64 (ofZ w64 (t .least))) (toZ w64 (ofZ w64 z)) → high ≡ rules.greater (toZ w64 (ofZ w64 (t .greatest))) (toZ w64 (ofZ w64 z)) → _≡_ {A = Tally} (record { out = t .out; count = t .count + 1; total = toZ w64 (ofZ w64 (toZ w64 (ofZ w64 (t .total)) +ℤ toZ w64 (ofZ w64 z))); least = toZ w64 (ofZ w64 low); greatest = toZ w64 (ofZ w64 high) }) (counted t z)
-count-next t z low high room e ft fz fl fg flow fhigh h l g =
-    rw (
-      back low flow,
-      back high fhigh,
-      l,
-      g,
-      back (t .total) ft,
-      back (t .least) fl,
-      back (t .greatest) fg,
-      back z fz,
-      back (t .total +ℤ z) (sum-fits (t .total) z (room .total) e),
-      ne-eqb (t .count) 0 h,
-    )
+module _ (t : Tally) (z : ℤ) (room : Room t) (e : circuit.inRange z ≡ true) (ft : SFits w64 (t .total)) (fz : SFits w64 z) where
+  pub next-fits : SFits w64 (toZ w64 (ofZ w64 (t .total)) +ℤ toZ w64 (ofZ w64 z))
+  next-fits = rw (back (t .total) ft, back z fz) (sum-fits (t .total) z (room .total) e)
 
-pub next-fits : (t : Tally) (z : ℤ) → Room t → circuit.inRange z ≡ true → SFits w64 (t .total) → SFits w64 z → SFits w64 (toZ w64 (ofZ w64 (t .total)) +ℤ toZ w64 (ofZ w64 z))
-next-fits t z room e f g = rw (back (t .total) f, back z g) (sum-fits (t .total) z (room .total) e)
+  -- with the sum s, the smaller low and the larger high of the last number and z
+  module _ (s low high : ℤ) (fs : SFits w64 s) (flow : SFits w64 low) (fhigh : SFits w64 high) where
+    pub count-next : (t .count ≡ 0 → ⊥) → SFits w64 (t .least) → SFits w64 (t .greatest) → s ≡ (toZ w64 (ofZ w64 (t .total)) +ℤ toZ w64 (ofZ w64 z)) → low ≡ rules.lesser (toZ w64 (ofZ w64 (t .least))) (toZ w64 (ofZ w64 z)) → high ≡ rules.greater (toZ w64 (ofZ w64 (t .greatest))) (toZ w64 (ofZ w64 z)) → _≡_ {A = Tally} (record { out = t .out; count = t .count + 1; total = toZ w64 (ofZ w64 s); least = toZ w64 (ofZ w64 low); greatest = toZ w64 (ofZ w64 high) }) (counted t z)
+    count-next h fl fg es el eg =
+        rw
+        (back s fs,
+        back low flow,
+        back high fhigh,
+        es,
+        el,
+        eg,
+        back (t .total) ft,
+        back (t .least) fl,
+        back (t .greatest) fg,
+        back z fz,
+        ne-eqb (t .count) 0 h)
 
 pub number-in-range : (v : Value) (z : ℤ) → v .amount ≡ Number z → SFits w64 z → circuit.wellFormed (meaning v) ≡ true → circuit.inRange (toZ w64 (ofZ w64 z)) ≡ true
 number-in-range v z p f e = rw (back z f) (rw p at e)
