@@ -16,7 +16,7 @@ use Rattle.circuit.proofs.RuleLaws.{allWellFormed-snoc, and-left, and-right}
 use Rattle.circuit.specs.Value.{Value, null, out, num, wellFormed, kindOf, numberOf}
 use Rattle.circuit.specs.WellFormed.{allWellFormed}
 use Rattle.value.specs.Meaning.{ofParts, valueAt, firstValues}
-use Rattle.value.proofs.Signed.{back}
+use Rattle.value.proofs.Signed.{back, read}
 
 -- a value is what its own kind and number stand for
 pub of-own-parts : (v : Value) → ofParts (kindOf v) (numberOf v) ≡ v
@@ -87,5 +87,5 @@ null-at ks zs k e = rw e
 pub out-at : (ks : List ℕ) (zs : List ℤ) (k : ℕ) → getD ks k 0 ≡ 2 → out ≡ valueAt ks zs k
 out-at ks zs k e = rw e
 
-pub number-at : (ks : List ℕ) (zs : List ℤ) (k : ℕ) → (getD ks k 0 ≡ 1 → ⊥) → (getD ks k 0 ≡ 2 → ⊥) → SFits w64 (getD zs k (pos 0)) → (r : Value) → r ≡ num (toZ w64 (ofZ w64 (getD zs k (pos 0)))) → r ≡ valueAt ks zs k
+pub number-at : (ks : List ℕ) (zs : List ℤ) (k : ℕ) → (getD ks k 0 ≡ 1 → ⊥) → (getD ks k 0 ≡ 2 → ⊥) → SFits w64 (getD zs k (pos 0)) → (r : Value) → r ≡ num (read (getD zs k (pos 0))) → r ≡ valueAt ks zs k
 number-at ks zs k a b f r e = e ∙ rw (back (getD zs k (pos 0)) f, ne-eqb (getD ks k 0) 1 a, ne-eqb (getD ks k 0) 2 b)

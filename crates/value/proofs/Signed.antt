@@ -26,8 +26,12 @@ fits (negsuc n) h = record { sfits = omega (arith, sixteen-fit) }
 pub inRange-fits : (z : ℤ) → inRange z ≡ true → SFits w64 z
 inRange-fits z e = fits z (omega (arith, inRange-size z e))
 
--- a number that fits is what is read back from its bits
-pub back : (z : ℤ) → SFits w64 z → toZ w64 (ofZ w64 z) ≡ z
+-- what is read back from the bits of z
+abbrev pub read : ℤ → ℤ
+read z = toZ w64 (ofZ w64 z)
+
+-- a number that fits is read back
+pub back : (z : ℤ) → SFits w64 z → read z ≡ z
 back z f = toZ-ofZ w64 z f
 
 -- ---- sums and differences

@@ -77,7 +77,22 @@ returns : tie.Need-returns
 returns c = search needs
 
 apply-requires : tie.Need-apply-requires
-apply-requires c κs = (chosen-takes _ _ (operationMeaning (c .before .before .before .before .operation-of .result)) (c .before .before .before .before .operation-of .ensures) (sym (c .before .before .before .is-refused .ensures) ∙ c .before .before .if1 .left), three-formed (meaning (c .before .before .before .before .before .before .before .before .before .before .before .before .before .before .before .before .formed .result)) (meaning (c .before .before .before .before .before .before .before .before .before .before .before .before .before .before .before .formed2 .result)) (meaning (c .before .before .before .before .before .before .before .before .before .before .before .before .before .before .formed3 .result)) (c .before .before .before .before .before .before .before .before .before .before .before .before .before .before .before .before .formed .ensures) (c .before .before .before .before .before .before .before .before .before .before .before .before .before .before .before .formed2 .ensures) (c .before .before .before .before .before .before .before .before .before .before .before .before .before .before .formed3 .ensures) _ _ _ _ _ _ (search needs) (search needs) (search needs) (c .before .before .before .before .before .before .before .before .before .before .before .before .before .kind .ensures) (c .before .before .before .before .before .before .before .before .before .before .before .kind2 .ensures) (c .before .before .before .before .before .before .before .before .before .kind3 .ensures) (c .before .before .before .before .before .before .before .before .before .before .before .before .number-or-zero .ensures) (c .before .before .before .before .before .before .before .before .before .before .number-or-zero2 .ensures) (c .before .before .before .before .before .before .before .before .number-or-zero3 .ensures) _ _ (c .before .before .before .before .before .before .before .before .before .before .before .before .before .before .before .before .before .before .args .n) (c .before .before .before .before .before .before .before .before .before .before .before .before .before .before .before .before .before .before .pre))
+apply-requires c κs =
+    let s = c .before .before .before .before .before .before .before .before .before .before .before .before .before .before .before .before .before .before in (
+      chosen-takes _ _ (operationMeaning (c .before .before .before .before .operation-of .result)) (c .before .before .before .before .operation-of .ensures)
+          (sym (c .before .before .before .is-refused .ensures) ∙ c .before .before .if1 .left),
+      three-formed (meaning (c .before .before .before .before .before .before .before .before .before .before .before .before .before .before .before .before .formed .result))
+          (meaning (c .before .before .before .before .before .before .before .before .before .before .before .before .before .before .before .formed2 .result))
+          (meaning (c .before .before .before .before .before .before .before .before .before .before .before .before .before .before .formed3 .result))
+          (c .before .before .before .before .before .before .before .before .before .before .before .before .before .before .before .before .formed .ensures)
+          (c .before .before .before .before .before .before .before .before .before .before .before .before .before .before .before .formed2 .ensures)
+          (c .before .before .before .before .before .before .before .before .before .before .before .before .before .before .formed3 .ensures)
+          _ _ _ _ _ _ (search needs) (search needs) (search needs) (c .before .before .before .before .before .before .before .before .before .before .before .before .before .kind .ensures)
+          (c .before .before .before .before .before .before .before .before .before .before .before .kind2 .ensures) (c .before .before .before .before .before .before .before .before .before .kind3 .ensures)
+          (c .before .before .before .before .before .before .before .before .before .before .before .before .number-or-zero .ensures)
+          (c .before .before .before .before .before .before .before .before .before .before .number-or-zero2 .ensures) (c .before .before .before .before .before .before .before .before .number-or-zero3 .ensures)
+          _ _ (s .args .n) (s .pre),
+    )
 
 write-value-requires : tie.Need-write-value-requires
 write-value-requires c κs = search needs

@@ -13,7 +13,12 @@ enum-told c = search needs
 
 sum-requires : tie.Need-sum-requires
 unfolding rules.countAllowed
-sum-requires c κs = (up-to-sixteen (c .before .before .args .n) (takes-count (c .before .before .args .op) rules.sum (ap operationMeaning (c .enum-told .given .1)) (c .before .before .args .kinds .now) (c .before .before .args .numbers .now) (c .before .before .args .n) (c .before .before .pre .0) (c .before .before .pre .1)), c .before .before .pre .1)
+sum-requires c κs =
+    let s = c .before .before in (
+      up-to-sixteen (s .args .n) (takes-count (s .args .op) rules.sum (ap operationMeaning (c .enum-told .given .1)) (s .args .kinds .now)
+          (s .args .numbers .now) (s .args .n) (s .pre .0) (s .pre .1)),
+      s .pre .1,
+    )
 
 enum-told-2 : tie.Need-enum-told-2
 enum-told-2 c = search needs
@@ -26,21 +31,42 @@ value-at-requires-2 c κs = search needs
 
 difference-requires : tie.Need-difference-requires
 unfolding rules.countAllowed
-difference-requires c κs = (formed-at (c .before .before .before .before .args .op) rules.difference (ap operationMeaning (c .before .before .enum-told2 .given .1)) (c .before .before .before .before .args .kinds .now) (c .before .before .before .before .args .numbers .now) (c .before .before .before .before .args .n) (c .before .before .before .before .pre .0) (c .before .before .before .before .pre .1) 0 (meaning (c .before .value-at .result)) (more-than-0 (c .before .before .before .before .args .n) (takes-count (c .before .before .before .before .args .op) rules.difference (ap operationMeaning (c .before .before .enum-told2 .given .1)) (c .before .before .before .before .args .kinds .now) (c .before .before .before .before .args .numbers .now) (c .before .before .before .before .args .n) (c .before .before .before .before .pre .0) (c .before .before .before .before .pre .1))) (c .before .value-at .ensures), formed-at (c .before .before .before .before .args .op) rules.difference (ap operationMeaning (c .before .before .enum-told2 .given .1)) (c .before .before .before .before .args .kinds .now) (c .before .before .before .before .args .numbers .now) (c .before .before .before .before .args .n) (c .before .before .before .before .pre .0) (c .before .before .before .before .pre .1) 1 (meaning (c .value-at2 .result)) (more-than-1 (c .before .before .before .before .args .n) (takes-count (c .before .before .before .before .args .op) rules.difference (ap operationMeaning (c .before .before .enum-told2 .given .1)) (c .before .before .before .before .args .kinds .now) (c .before .before .before .before .args .numbers .now) (c .before .before .before .before .args .n) (c .before .before .before .before .pre .0) (c .before .before .before .before .pre .1))) (c .value-at2 .ensures))
+difference-requires c κs =
+    let s = c .before .before .before .before in (
+      formed-at (s .args .op) rules.difference (ap operationMeaning (c .before .before .enum-told2 .given .1)) (s .args .kinds .now)
+          (s .args .numbers .now) (s .args .n) (s .pre .0) (s .pre .1) 0 (meaning (c .before .value-at .result)) (more-than-0 (s .args .n)
+          (takes-count (s .args .op) rules.difference (ap operationMeaning (c .before .before .enum-told2 .given .1)) (s .args .kinds .now)
+          (s .args .numbers .now) (s .args .n) (s .pre .0) (s .pre .1))) (c .before .value-at .ensures),
+      formed-at (s .args .op)
+          rules.difference (ap operationMeaning (c .before .before .enum-told2 .given .1)) (s .args .kinds .now) (s .args .numbers .now)
+          (s .args .n) (s .pre .0) (s .pre .1) 1 (meaning (c .value-at2 .result)) (more-than-1 (s .args .n) (takes-count (s .args .op)
+          rules.difference (ap operationMeaning (c .before .before .enum-told2 .given .1)) (s .args .kinds .now) (s .args .numbers .now)
+          (s .args .n) (s .pre .0) (s .pre .1))) (c .value-at2 .ensures),
+    )
 
 enum-told-3 : tie.Need-enum-told-3
 enum-told-3 c = search needs
 
 smallest-requires : tie.Need-smallest-requires
 unfolding rules.countAllowed
-smallest-requires c κs = (up-to-sixteen (c .before .before .args .n) (takes-count (c .before .before .args .op) rules.smallest (ap operationMeaning (c .enum-told3 .given .1)) (c .before .before .args .kinds .now) (c .before .before .args .numbers .now) (c .before .before .args .n) (c .before .before .pre .0) (c .before .before .pre .1)), c .before .before .pre .1)
+smallest-requires c κs =
+    let s = c .before .before in (
+      up-to-sixteen (s .args .n) (takes-count (s .args .op) rules.smallest (ap operationMeaning (c .enum-told3 .given .1))
+          (s .args .kinds .now) (s .args .numbers .now) (s .args .n) (s .pre .0) (s .pre .1)),
+      s .pre .1,
+    )
 
 enum-told-4 : tie.Need-enum-told-4
 enum-told-4 c = search needs
 
 largest-requires : tie.Need-largest-requires
 unfolding rules.countAllowed
-largest-requires c κs = (up-to-sixteen (c .before .before .args .n) (takes-count (c .before .before .args .op) rules.largest (ap operationMeaning (c .enum-told4 .given .1)) (c .before .before .args .kinds .now) (c .before .before .args .numbers .now) (c .before .before .args .n) (c .before .before .pre .0) (c .before .before .pre .1)), c .before .before .pre .1)
+largest-requires c κs =
+    let s = c .before .before in (
+      up-to-sixteen (s .args .n) (takes-count (s .args .op) rules.largest (ap operationMeaning (c .enum-told4 .given .1))
+          (s .args .kinds .now) (s .args .numbers .now) (s .args .n) (s .pre .0) (s .pre .1)),
+      s .pre .1,
+    )
 
 enum-told-5 : tie.Need-enum-told-5
 enum-told-5 c = search needs
@@ -53,7 +79,12 @@ value-at-requires-4 c κs = search needs
 
 share-requires : tie.Need-share-requires
 unfolding rules.countAllowed
-share-requires c κs = formed-at (c .before .before .before .before .args .op) rules.share (ap operationMeaning (c .before .before .enum-told5 .given .1)) (c .before .before .before .before .args .kinds .now) (c .before .before .before .before .args .numbers .now) (c .before .before .before .before .args .n) (c .before .before .before .before .pre .0) (c .before .before .before .before .pre .1) 0 (meaning (c .before .value-at3 .result)) (more-than-0 (c .before .before .before .before .args .n) (takes-count (c .before .before .before .before .args .op) rules.share (ap operationMeaning (c .before .before .enum-told5 .given .1)) (c .before .before .before .before .args .kinds .now) (c .before .before .before .before .args .numbers .now) (c .before .before .before .before .args .n) (c .before .before .before .before .pre .0) (c .before .before .before .before .pre .1))) (c .before .value-at3 .ensures)
+share-requires c κs =
+    let s = c .before .before .before .before in
+    formed-at (s .args .op) rules.share (ap operationMeaning (c .before .before .enum-told5 .given .1)) (s .args .kinds .now)
+    (s .args .numbers .now) (s .args .n) (s .pre .0) (s .pre .1) 0 (meaning (c .before .value-at3 .result)) (more-than-0
+    (s .args .n) (takes-count (s .args .op) rules.share (ap operationMeaning (c .before .before .enum-told5 .given .1)) (s .args .kinds .now)
+    (s .args .numbers .now) (s .args .n) (s .pre .0) (s .pre .1))) (c .before .value-at3 .ensures)
 
 enum-told-6 : tie.Need-enum-told-6
 enum-told-6 c = search needs
@@ -75,7 +106,12 @@ enum-told-7 c = search needs
 
 count-requires : tie.Need-count-requires
 unfolding rules.countAllowed
-count-requires c κs = (up-to-sixteen (c .before .before .args .n) (takes-count (c .before .before .args .op) rules.count (ap operationMeaning (c .enum-told7 .given .1)) (c .before .before .args .kinds .now) (c .before .before .args .numbers .now) (c .before .before .args .n) (c .before .before .pre .0) (c .before .before .pre .1)), c .before .before .pre .1)
+count-requires c κs =
+    let s = c .before .before in (
+      up-to-sixteen (s .args .n) (takes-count (s .args .op) rules.count (ap operationMeaning (c .enum-told7 .given .1)) (s .args .kinds .now)
+          (s .args .numbers .now) (s .args .n) (s .pre .0) (s .pre .1)),
+      s .pre .1,
+    )
 
 enum-told-8 : tie.Need-enum-told-8
 enum-told-8 c = search needs
@@ -93,35 +129,73 @@ enum-told-9 : tie.Need-enum-told-9
 enum-told-9 c = search needs
 
 returns : tie.Need-returns
-returns c = applied-all (c .before .before .before .args .op) rules.sum (ap operationMeaning (c .before .enum-told .given .1)) (c .before .before .before .args .kinds .now) (c .before .before .before .args .numbers .now) (c .before .before .before .args .n) (c .before .before .before .pre .0) (c .before .before .before .pre .1) (c .sum .result) (c .sum .ensures)
+returns c =
+    let s = c .before .before .before in
+    applied-all (s .args .op) rules.sum (ap operationMeaning (c .before .enum-told .given .1)) (s .args .kinds .now) (s .args .numbers .now)
+    (s .args .n) (s .pre .0) (s .pre .1) (c .sum .result) (c .sum .ensures)
 
 returns-2 : tie.Need-returns-2
 unfolding rules.countAllowed
-returns-2 c = applied-two (c .before .before .before .before .before .args .op) rules.difference (ap operationMeaning (c .before .before .before .enum-told2 .given .1)) (c .before .before .before .before .before .args .kinds .now) (c .before .before .before .before .before .args .numbers .now) (c .before .before .before .before .before .args .n) (c .before .before .before .before .before .pre .0) (c .before .before .before .before .before .pre .1) (eqb-true (c .before .before .before .before .before .args .n) 2 (takes-count (c .before .before .before .before .before .args .op) rules.difference (ap operationMeaning (c .before .before .before .enum-told2 .given .1)) (c .before .before .before .before .before .args .kinds .now) (c .before .before .before .before .before .args .numbers .now) (c .before .before .before .before .before .args .n) (c .before .before .before .before .before .pre .0) (c .before .before .before .before .before .pre .1))) (c .difference .result) _ _ (c .before .before .value-at .ensures) (c .before .value-at2 .ensures) (c .difference .ensures)
+returns-2 c =
+    let s = c .before .before .before .before .before in
+    applied-two (s .args .op) rules.difference (ap operationMeaning (c .before .before .before .enum-told2 .given .1)) (s .args .kinds .now)
+    (s .args .numbers .now) (s .args .n) (s .pre .0) (s .pre .1) (eqb-true (s .args .n) 2 (takes-count (s .args .op)
+    rules.difference (ap operationMeaning (c .before .before .before .enum-told2 .given .1)) (s .args .kinds .now) (s .args .numbers .now)
+    (s .args .n) (s .pre .0) (s .pre .1))) (c .difference .result) _ _ (c .before .before .value-at .ensures) (c .before .value-at2 .ensures)
+    (c .difference .ensures)
 
 returns-3 : tie.Need-returns-3
-returns-3 c = applied-all (c .before .before .before .args .op) rules.smallest (ap operationMeaning (c .before .enum-told3 .given .1)) (c .before .before .before .args .kinds .now) (c .before .before .before .args .numbers .now) (c .before .before .before .args .n) (c .before .before .before .pre .0) (c .before .before .before .pre .1) (c .smallest .result) (c .smallest .ensures)
+returns-3 c =
+    let s = c .before .before .before in
+    applied-all (s .args .op) rules.smallest (ap operationMeaning (c .before .enum-told3 .given .1)) (s .args .kinds .now)
+    (s .args .numbers .now) (s .args .n) (s .pre .0) (s .pre .1) (c .smallest .result) (c .smallest .ensures)
 
 returns-4 : tie.Need-returns-4
-returns-4 c = applied-all (c .before .before .before .args .op) rules.largest (ap operationMeaning (c .before .enum-told4 .given .1)) (c .before .before .before .args .kinds .now) (c .before .before .before .args .numbers .now) (c .before .before .before .args .n) (c .before .before .before .pre .0) (c .before .before .before .pre .1) (c .largest .result) (c .largest .ensures)
+returns-4 c =
+    let s = c .before .before .before in
+    applied-all (s .args .op) rules.largest (ap operationMeaning (c .before .enum-told4 .given .1)) (s .args .kinds .now)
+    (s .args .numbers .now) (s .args .n) (s .pre .0) (s .pre .1) (c .largest .result) (c .largest .ensures)
 
 returns-5 : tie.Need-returns-5
 unfolding rules.countAllowed
-returns-5 c = applied-two (c .before .before .before .before .before .args .op) rules.share (ap operationMeaning (c .before .before .before .enum-told5 .given .1)) (c .before .before .before .before .before .args .kinds .now) (c .before .before .before .before .before .args .numbers .now) (c .before .before .before .before .before .args .n) (c .before .before .before .before .before .pre .0) (c .before .before .before .before .before .pre .1) (eqb-true (c .before .before .before .before .before .args .n) 2 (takes-count (c .before .before .before .before .before .args .op) rules.share (ap operationMeaning (c .before .before .before .enum-told5 .given .1)) (c .before .before .before .before .before .args .kinds .now) (c .before .before .before .before .before .args .numbers .now) (c .before .before .before .before .before .args .n) (c .before .before .before .before .before .pre .0) (c .before .before .before .before .before .pre .1))) (c .share .result) _ _ (c .before .before .value-at3 .ensures) (c .before .value-at4 .ensures) (c .share .ensures)
+returns-5 c =
+    let s = c .before .before .before .before .before in
+    applied-two (s .args .op) rules.share (ap operationMeaning (c .before .before .before .enum-told5 .given .1)) (s .args .kinds .now)
+    (s .args .numbers .now) (s .args .n) (s .pre .0) (s .pre .1) (eqb-true (s .args .n) 2 (takes-count (s .args .op)
+    rules.share (ap operationMeaning (c .before .before .before .enum-told5 .given .1)) (s .args .kinds .now) (s .args .numbers .now)
+    (s .args .n) (s .pre .0) (s .pre .1))) (c .share .result) _ _ (c .before .before .value-at3 .ensures) (c .before .value-at4 .ensures)
+    (c .share .ensures)
 
 returns-6 : tie.Need-returns-6
 unfolding rules.countAllowed
-returns-6 c = applied-three (c .before .before .before .before .before .before .args .op) rules.choice (ap operationMeaning (c .before .before .before .before .enum-told6 .given .1)) (c .before .before .before .before .before .before .args .kinds .now) (c .before .before .before .before .before .before .args .numbers .now) (c .before .before .before .before .before .before .args .n) (c .before .before .before .before .before .before .pre .0) (c .before .before .before .before .before .before .pre .1) (eqb-true (c .before .before .before .before .before .before .args .n) 3 (takes-count (c .before .before .before .before .before .before .args .op) rules.choice (ap operationMeaning (c .before .before .before .before .enum-told6 .given .1)) (c .before .before .before .before .before .before .args .kinds .now) (c .before .before .before .before .before .before .args .numbers .now) (c .before .before .before .before .before .before .args .n) (c .before .before .before .before .before .before .pre .0) (c .before .before .before .before .before .before .pre .1))) (c .choice .result) _ _ _ (c .before .before .before .value-at5 .ensures) (c .before .before .value-at6 .ensures) (c .before .value-at7 .ensures) (c .choice .ensures)
+returns-6 c =
+    let s = c .before .before .before .before .before .before in
+    applied-three (s .args .op) rules.choice (ap operationMeaning (c .before .before .before .before .enum-told6 .given .1))
+    (s .args .kinds .now) (s .args .numbers .now) (s .args .n) (s .pre .0) (s .pre .1) (eqb-true (s .args .n) 3
+    (takes-count (s .args .op) rules.choice (ap operationMeaning (c .before .before .before .before .enum-told6 .given .1))
+    (s .args .kinds .now) (s .args .numbers .now) (s .args .n) (s .pre .0) (s .pre .1))) (c .choice .result) _ _ _ (c .before .before .before .value-at5 .ensures)
+    (c .before .before .value-at6 .ensures) (c .before .value-at7 .ensures) (c .choice .ensures)
 
 returns-7 : tie.Need-returns-7
-returns-7 c = applied-all (c .before .before .before .args .op) rules.count (ap operationMeaning (c .before .enum-told7 .given .1)) (c .before .before .before .args .kinds .now) (c .before .before .before .args .numbers .now) (c .before .before .before .args .n) (c .before .before .before .pre .0) (c .before .before .before .pre .1) (c .count .result) (c .count .ensures)
+returns-7 c =
+    let s = c .before .before .before in
+    applied-all (s .args .op) rules.count (ap operationMeaning (c .before .enum-told7 .given .1)) (s .args .kinds .now) (s .args .numbers .now)
+    (s .args .n) (s .pre .0) (s .pre .1) (c .count .result) (c .count .ensures)
 
 returns-8 : tie.Need-returns-8
 unfolding rules.countAllowed
-returns-8 c = applied-two (c .before .before .before .before .before .args .op) rules.atLeast (ap operationMeaning (c .before .before .before .enum-told8 .given .1)) (c .before .before .before .before .before .args .kinds .now) (c .before .before .before .before .before .args .numbers .now) (c .before .before .before .before .before .args .n) (c .before .before .before .before .before .pre .0) (c .before .before .before .before .before .pre .1) (eqb-true (c .before .before .before .before .before .args .n) 2 (takes-count (c .before .before .before .before .before .args .op) rules.atLeast (ap operationMeaning (c .before .before .before .enum-told8 .given .1)) (c .before .before .before .before .before .args .kinds .now) (c .before .before .before .before .before .args .numbers .now) (c .before .before .before .before .before .args .n) (c .before .before .before .before .before .pre .0) (c .before .before .before .before .before .pre .1))) (c .at-least .result) _ _ (c .before .before .value-at8 .ensures) (c .before .value-at9 .ensures) (c .at-least .ensures)
+returns-8 c =
+    let s = c .before .before .before .before .before in
+    applied-two (s .args .op) rules.atLeast (ap operationMeaning (c .before .before .before .enum-told8 .given .1)) (s .args .kinds .now)
+    (s .args .numbers .now) (s .args .n) (s .pre .0) (s .pre .1) (eqb-true (s .args .n) 2 (takes-count (s .args .op)
+    rules.atLeast (ap operationMeaning (c .before .before .before .enum-told8 .given .1)) (s .args .kinds .now) (s .args .numbers .now)
+    (s .args .n) (s .pre .0) (s .pre .1))) (c .at-least .result) _ _ (c .before .before .value-at8 .ensures) (c .before .value-at9 .ensures)
+    (c .at-least .ensures)
 
 returns-9 : tie.Need-returns-9
-returns-9 c = absurd (takes-none (c .before .before .args .op) (c .before .before .args .n) (c .enum-told9 .given .1) (c .before .before .pre .0))
+returns-9 c =
+    let s = c .before .before in
+    absurd (takes-none (s .args .op) (s .args .n) (c .enum-told9 .given .1) (s .pre .0))
 
 pub apply-spec : {M : Type 1} → statement M
 apply-spec =

@@ -10,11 +10,15 @@ use Rattle.value.proofs.plus.Reads as plus-reads
 
 -- src/lib.rt:305:9
 returns : tie.Need-returns
-returns c = count-first (c .before .before .before .before .args .t) (c .before .before .before .before .args .n) (c .before .before .before .before .fits .n) (c .if1 .taken)
+returns c =
+    let s = c .before .before .before .before in
+    count-first (s .args .t) (s .args .n) (s .fits .n) (c .if1 .taken)
 
 -- src/lib.rt:313:9
 plus-requires : tie.Need-plus-requires
-plus-requires c κs = next-fits (c .before .before .before .before .args .t) (c .before .before .before .before .args .n) (c .before .before .before .before .pre .0) (c .before .before .before .before .pre .1) (search needs) (c .before .before .before .before .fits .n)
+plus-requires c κs =
+    let s = c .before .before .before .before in
+    next-fits (s .args .t) (s .args .n) (s .pre .0) (s .pre .1) (search needs) (s .fits .n)
 
 -- src/lib.rt:314:9
 lesser-requires : tie.Need-lesser-requires
@@ -30,7 +34,11 @@ add-t12 c = search needs
 
 -- src/lib.rt:295:1
 returns-2 : tie.Need-returns-2
-returns-2 c = count-next (c .before .before .before .before .before .before .before .args .t) (c .before .before .before .before .before .before .before .args .n) (c .before .before .before .before .before .before .before .pre .0) (c .before .before .before .before .before .before .before .pre .1) (search needs) (c .before .before .before .before .before .before .before .fits .n) (c .before .before .plus .result) (c .before .lesser .result) (c .greater .result) (search needs) (search needs) (search needs) (c .before .before .before .if1 .left) (search needs) (search needs) (c .before .before .plus .ensures) (c .before .lesser .ensures) (c .greater .ensures)
+returns-2 c =
+    let s = c .before .before .before .before .before .before .before in
+    count-next (s .args .t) (s .args .n) (s .pre .0) (s .pre .1) (search needs) (s .fits .n) (c .before .before .plus .result)
+    (c .before .lesser .result) (c .greater .result) (search needs) (search needs) (search needs) (c .before .before .before .if1 .left)
+    (search needs) (search needs) (c .before .before .plus .ensures) (c .before .lesser .ensures) (c .greater .ensures)
 
 pub count-in-spec : {M : Type 1} → statement M
 count-in-spec =

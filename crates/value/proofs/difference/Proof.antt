@@ -10,13 +10,18 @@ either-out-requires : tie.Need-either-out-requires
 either-out-requires c κs = search needs
 
 returns : tie.Need-returns
-returns c = two-out (meaning (c .before .before .args .a)) (meaning (c .before .before .args .b)) _ (c .before .either-out .ensures) rules.difference (c .if1 .taken)
+returns c =
+    let s = c .before .before in
+    two-out (meaning (s .args .a)) (meaning (s .args .b)) _ (c .before .either-out .ensures) rules.difference (c .if1 .taken)
 
 both-null-requires : tie.Need-both-null-requires
 both-null-requires c κs = search needs
 
 returns-2 : tie.Need-returns-2
-returns-2 c = difference-null (meaning (c .before .before .before .before .args .a)) (meaning (c .before .before .before .before .args .b)) _ (c .before .before .before .either-out .ensures) (c .before .before .if1 .left) _ (c .before .both-null .ensures) (c .if2 .taken)
+returns-2 c =
+    let s = c .before .before .before .before in
+    difference-null (meaning (s .args .a)) (meaning (s .args .b)) _ (c .before .before .before .either-out .ensures) (c .before .before .if1 .left)
+    _ (c .before .both-null .ensures) (c .if2 .taken)
 
 number-or-zero-requires : tie.Need-number-or-zero-requires
 number-or-zero-requires c κs = search needs
@@ -25,13 +30,23 @@ number-or-zero-requires-2 : tie.Need-number-or-zero-requires-2
 number-or-zero-requires-2 c κs = search needs
 
 minus-requires : tie.Need-minus-requires
-minus-requires c κs = (number-fits (meaning (c .before .before .before .before .before .before .args .a)) _ (search needs) (c .before .number-or-zero .ensures) (c .before .before .before .before .before .before .pre .0), number-fits (meaning (c .before .before .before .before .before .before .args .b)) _ (search needs) (c .number-or-zero2 .ensures) (c .before .before .before .before .before .before .pre .1))
+minus-requires c κs =
+    let s = c .before .before .before .before .before .before in (
+      number-fits (meaning (s .args .a)) _ (search needs) (c .before .number-or-zero .ensures) (s .pre .0),
+      number-fits
+          (meaning (s .args .b)) _ (search needs) (c .number-or-zero2 .ensures) (s .pre .1),
+    )
 
 exact-requires : tie.Need-exact-requires
 exact-requires c κs = search needs
 
 returns-3 : tie.Need-returns-3
-returns-3 c = difference-is (meaning (c .before .before .before .before .before .before .before .before .args .a)) (meaning (c .before .before .before .before .before .before .before .before .args .b)) _ (c .before .before .before .before .before .before .before .either-out .ensures) (c .before .before .before .before .before .before .if1 .left) _ _ (c .before .before .before .number-or-zero .ensures) (c .before .before .number-or-zero2 .ensures) (search needs) (search needs) _ (c .before .before .before .before .before .both-null .ensures) (c .before .before .before .before .if2 .left) _ _ (search needs) (c .before .minus .ensures) (c .exact .ensures)
+returns-3 c =
+    let s = c .before .before .before .before .before .before .before .before in
+    difference-is (meaning (s .args .a)) (meaning (s .args .b)) _ (c .before .before .before .before .before .before .before .either-out .ensures)
+    (c .before .before .before .before .before .before .if1 .left) _ _ (c .before .before .before .number-or-zero .ensures)
+    (c .before .before .number-or-zero2 .ensures) (search needs) (search needs) _ (c .before .before .before .before .before .both-null .ensures)
+    (c .before .before .before .before .if2 .left) _ _ (search needs) (c .before .minus .ensures) (c .exact .ensures)
 
 pub difference-spec : {M : Type 1} → statement M
 difference-spec =

@@ -20,7 +20,14 @@ add-result c = omega (arith, low-fits (c .args .m) (c .args .parts) (c .args .mo
 
 add-result-2 : tie.Need-add-result-2
 unfolding whole
-add-result-2 c = omega (arith, two-parts (c .args .m) (c .args .parts) (c .args .more), quotient-size (c .args .m) (c .args .parts) (c .args .more) (c .pre .1 .0) (c .pre .1 .1), sixteen-fit)
+add-result-2 c =
+    omega (
+      arith,
+      two-parts (c .args .m) (c .args .parts) (c .args .more),
+      quotient-size (c .args .m) (c .args .parts) (c .args .more)
+          (c .pre .1 .0) (c .pre .1 .1),
+      sixteen-fit,
+    )
 
 returns : tie.Need-returns
 unfolding whole

@@ -13,18 +13,25 @@ cast-if2 c = search needs
 
 returns-2 : tie.Need-returns-2
 unfolding whole
-returns-2 c = parts-above (c .before .before .args .x) (c .before .before .args .parts) (c .before .before .fits .parts) (c .if2 .taken)
+returns-2 c =
+    let s = c .before .before in
+    parts-above (s .args .x) (s .args .parts) (s .fits .parts) (c .if2 .taken)
 
 part-of-requires : tie.Need-part-of-requires
 unfolding whole
-part-of-requires c κs = part-asks (c .before .before .args .x) (c .before .before .args .parts) (c .before .before .fits .parts) (c .before .before .pre) (c .before .before .fits .x) (c .before .if1 .left) (c .if2 .left)
+part-of-requires c κs =
+    let s = c .before .before in
+    part-asks (s .args .x) (s .args .parts) (s .fits .parts) (s .pre) (s .fits .x) (c .before .if1 .left) (c .if2 .left)
 
 exact-requires : tie.Need-exact-requires
 exact-requires c κs = search needs
 
 returns-3 : tie.Need-returns-3
 unfolding whole
-returns-3 c = part-gives (c .before .before .before .before .args .x) (c .before .before .before .before .args .parts) (c .before .before .before .before .fits .parts) (c .before .before .before .before .pre) (c .before .before .before .before .fits .x) (c .before .before .before .if1 .left) (c .before .before .if2 .left) _ _ (search needs) (c .before .part-of .ensures) (c .exact .ensures)
+returns-3 c =
+    let s = c .before .before .before .before in
+    part-gives (s .args .x) (s .args .parts) (s .fits .parts) (s .pre) (s .fits .x) (c .before .before .before .if1 .left)
+    (c .before .before .if2 .left) _ _ (search needs) (c .before .part-of .ensures) (c .exact .ensures)
 
 pub share-of-spec : {M : Type 1} → statement M
 share-of-spec =

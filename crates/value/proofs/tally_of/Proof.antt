@@ -22,7 +22,14 @@ value-at-requires : tie.Need-value-at-requires Inv-loop μ-loop
 value-at-requires c κs = omega arith
 
 take-in-requires : tie.Need-take-in-requires Inv-loop μ-loop
-take-in-requires c κs = (turn-room (c .before .before .before .args .kinds .now) (c .before .before .before .args .numbers .now) (c .before .before .before .args .n) (c .before .before .loop .i) (c .before .before .loop .t) (c .before .before .loop .inv .1) (c .before .loop-test .taken) (c .before .before .before .pre .1) (meaning (c .value-at .result)) (c .value-at .ensures) (c .before .before .before .pre .0), turn-formed (c .before .before .before .args .kinds .now) (c .before .before .before .args .numbers .now) (c .before .before .before .args .n) (c .before .before .loop .i) (c .before .before .loop .t) (c .before .before .loop .inv .1) (c .before .loop-test .taken) (c .before .before .before .pre .1) (meaning (c .value-at .result)) (c .value-at .ensures))
+take-in-requires c κs =
+    let s = c .before .before .before in (
+      turn-room (s .args .kinds .now) (s .args .numbers .now) (s .args .n) (c .before .before .loop .i) (c .before .before .loop .t)
+          (c .before .before .loop .inv .1) (c .before .loop-test .taken) (s .pre .1) (meaning (c .value-at .result)) (c .value-at .ensures)
+          (s .pre .0),
+      turn-formed (s .args .kinds .now) (s .args .numbers .now) (s .args .n) (c .before .before .loop .i) (c .before .before .loop .t)
+          (c .before .before .loop .inv .1) (c .before .loop-test .taken) (s .pre .1) (meaning (c .value-at .result)) (c .value-at .ensures),
+    )
 
 add-i : tie.Need-add-i Inv-loop μ-loop
 add-i c = omega arith
@@ -31,10 +38,19 @@ loop-less : tie.Need-loop-less Inv-loop μ-loop
 loop-less c = omega arith
 
 loop-again : tie.Need-loop-again Inv-loop μ-loop
-loop-again c = (omega arith, turn-next (c .before .before .before .before .args .kinds .now) (c .before .before .before .before .args .numbers .now) (c .before .before .before .before .args .n) (c .before .before .before .loop .i) (c .before .before .before .loop .t) (c .before .before .before .loop .inv .1) (c .before .before .loop-test .taken) (c .before .before .before .before .pre .1) (meaning (c .before .value-at .result)) (c .before .value-at .ensures) (c .take-in .result) (c .take-in .ensures))
+loop-again c =
+    let s = c .before .before .before .before in (
+      omega arith,
+      turn-next (s .args .kinds .now) (s .args .numbers .now) (s .args .n) (c .before .before .before .loop .i)
+          (c .before .before .before .loop .t) (c .before .before .before .loop .inv .1) (c .before .before .loop-test .taken)
+          (s .pre .1) (meaning (c .before .value-at .result)) (c .before .value-at .ensures) (c .take-in .result) (c .take-in .ensures),
+    )
 
 returns : tie.Need-returns Inv-loop μ-loop
-returns c = c .before .loop .inv .1 ∙ ap (λ (k : ℕ). takenAll empty (firstValues (c .before .before .args .kinds .now) (c .before .before .args .numbers .now) k)) (omega arith)
+returns c =
+    let s = c .before .before in
+    c .before .loop .inv .1 ∙ ap (λ (k : ℕ). takenAll empty (firstValues (s .args .kinds .now) (s .args .numbers .now) k))
+    (omega arith)
 
 pub tally-of-spec : {M : Type 1} → statement M
 tally-of-spec =

@@ -17,13 +17,20 @@ number-requires : tie.Need-number-requires
 number-requires c κs = search needs
 
 returns : tie.Need-returns
-returns c = null-at (c .before .before .before .args .kinds .now) (c .before .before .before .args .numbers .now) (c .before .before .before .args .k) (c .match .keys1)
+returns c =
+    let s = c .before .before .before in
+    null-at (s .args .kinds .now) (s .args .numbers .now) (s .args .k) (c .match .keys1)
 
 returns-2 : tie.Need-returns-2
-returns-2 c = out-at (c .before .before .before .args .kinds .now) (c .before .before .before .args .numbers .now) (c .before .before .before .args .k) (c .match .keys2)
+returns-2 c =
+    let s = c .before .before .before in
+    out-at (s .args .kinds .now) (s .args .numbers .now) (s .args .k) (c .match .keys2)
 
 returns-3 : tie.Need-returns-3
-returns-3 c = number-at (c .before .before .before .before .args .kinds .now) (c .before .before .before .before .args .numbers .now) (c .before .before .before .before .args .k) (c .before .match .rest .0 .1) (c .before .match .rest .1) (search needs) _ (c .number2 .ensures)
+returns-3 c =
+    let s = c .before .before .before .before in
+    number-at (s .args .kinds .now) (s .args .numbers .now) (s .args .k) (c .before .match .rest .0 .1) (c .before .match .rest .1)
+    (search needs) _ (c .number2 .ensures)
 
 pub value-at-spec : {M : Type 1} → statement M
 value-at-spec =

@@ -11,10 +11,14 @@ number-requires : tie.Need-number-requires
 number-requires c κs = search needs
 
 returns : tie.Need-returns
-returns c = exact-in (c .before .before .before .args .n) _ _ (c .before .before .before .fits .n) (c .before .before .in-range .ensures) (c .before .if1 .taken) (c .number .ensures)
+returns c =
+    let s = c .before .before .before in
+    exact-in (s .args .n) _ _ (s .fits .n) (c .before .before .in-range .ensures) (c .before .if1 .taken) (c .number .ensures)
 
 returns-2 : tie.Need-returns-2
-returns-2 c = exact-out (c .before .before .args .n) _ (c .before .before .fits .n) (c .before .in-range .ensures) (c .if1 .left)
+returns-2 c =
+    let s = c .before .before in
+    exact-out (s .args .n) _ (s .fits .n) (c .before .in-range .ensures) (c .if1 .left)
 
 pub exact-spec : {M : Type 1} → statement M
 exact-spec = tie.close (tie.spec in-range-requires number-requires returns returns-2)

@@ -24,7 +24,8 @@ returns-2 : tie.Need-returns-2
 returns-2 c = sym (ap (λ (a : Amount). numberOf (amountMeaning a)) (c .enum-told2 .given .1))
 
 returns-3 : tie.Need-returns-3
-returns-3 c = back (c .before .a .given .0 .0) (search needs) ∙ sym (ap (λ (a : Amount). numberOf (amountMeaning a)) (c .before .a .given .1))
+returns-3 c =
+    back (c .before .a .given .0 .0) (search needs) ∙ sym (ap (λ (a : Amount). numberOf (amountMeaning a)) (c .before .a .given .1))
 
 pub number-or-zero-spec : {M : Type 1} → statement M
 number-or-zero-spec = tie.close (tie.spec enum-told enum-told-2 enum-known-a returns returns-2 returns-3)

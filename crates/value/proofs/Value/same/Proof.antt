@@ -41,7 +41,9 @@ returns-4 : tie.Need-returns-4
 returns-4 c = search needs
 
 returns-5 : tie.Need-returns-5
-returns-5 c = same-numbers _ _ _ _ (c .before .before .before .before .x .given .1) (c .before .y .given .1) (search needs) (search needs)
+returns-5 c =
+    same-numbers _ _ _ _ (c .before .before .before .before .x .given .1) (c .before .y .given .1) (search needs) (search
+    needs)
 
 pub same-spec : {M : Type 1} → statement M
 same-spec =
