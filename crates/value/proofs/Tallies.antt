@@ -1,21 +1,26 @@
 -- The tally of a list of values: how it grows by one value, that there is room for the next, and what it says of the
 -- list's numbers. Assumes nothing.
-use Prim.Native.Nat.{ℕ, zero, suc, _+_, _*_, _≤_, _<_}
-use mathlib.Core.Path.{_≡_, refl, sym, ap, _∙_}
-use mathlib.Core.Bool.{Bool, true, false, cond, _&&_, _||_}
+use Prim.Native.Nat.{ℕ, _+_, _*_, _≤_, _<_}
+use mathlib.Core.Bool.{Bool, true, false, cond, _||_}
 use mathlib.Core.List.{List, [], _∷_, _++_}
-use native.Mathlib.Omega.{arith}
+use mathlib.Core.Path.{_≡_, refl, sym, ap, _∙_}
 use native.Mathlib.Nat.{zero-mul, suc-mul, mul-le-mul-right}
+use native.Mathlib.Omega.{arith}
 use borrow.Author.Tests.{eqb-true, ne-eqb}
 use lib.Dec.{eqb}
-use lib.IntN.{ℤ, pos, negsuc, natAbs, _+ℤ_}
+use lib.IntN.{ℤ, pos, natAbs, _+ℤ_}
 use lib.ListN.{length}
-use Rattle.circuit.specs.Value.{Value, null, out, num, limit, inRange, wellFormed, ranged}
-use Rattle.circuit.specs.WellFormed.{allWellFormed}
-use Rattle.circuit.specs.Rules.{anyOut, numbers, ofNumbers, strict, total, least, greatest, lesser, greater, howMany}
+use mir.Syntax.{w64}
+use mir.Val.{SFits, toZ}
+use mir.ValLaws.{toZ-pos}
 use Rattle.circuit.proofs.RuleLaws.{add-size, inRange-size, and-left, and-right}
-use Rattle.value.specs.declared.Tally.{Tally}
+use Rattle.circuit.specs.Rules.{anyOut, numbers, ofNumbers, strict, total, least, greatest, lesser, greater, howMany}
+use Rattle.circuit.specs.Value.{Value, null, out, num, limit, wellFormed, ranged}
+use Rattle.circuit.specs.WellFormed.{allWellFormed}
+use Rattle.value.specs.Meaning.{firstValues}
 use Rattle.value.specs.Tally.{Room, empty, counted, taken, takenAll}
+use Rattle.value.specs.declared.Tally.{Tally}
+use Rattle.value.proofs.Parents.{firstValues-length}
 
 -- one more value at the end
 pub takenAll-snoc : (vs : List Value) (t : Tally) (v : Value) → takenAll t (vs ++ (v ∷ [])) ≡ taken (takenAll t vs) v
@@ -50,17 +55,18 @@ takenAll-total : (vs : List Value) (t : Tally) → allWellFormed vs ≡ true →
 unfolding takenAll allWellFormed
 takenAll-total [] t e = omega (arith, zero-mul limit)
 takenAll-total (v ∷ vs) t e =
-    omega
-    (arith,
-    takenAll-total vs (taken t v) (and-right (wellFormed v) (allWellFormed vs) e),
-    taken-total t v (and-left (wellFormed v) (allWellFormed vs) e),
-    suc-mul (length vs) limit)
+    omega (
+      arith,
+      takenAll-total vs (taken t v) (and-right (wellFormed v) (allWellFormed vs) e),
+      taken-total t v (and-left (wellFormed v) (allWellFormed vs) e),
+      suc-mul (length vs) limit,
+    )
 
 pub room : (vs : List Value) → length vs < 16 → allWellFormed vs ≡ true → Room (takenAll empty vs)
 room vs h e =
     record {
       count = omega (arith, takenAll-count vs empty);
-      total = omega (arith, takenAll-total vs empty e, mul-le-mul-right {m = length vs} {n = 15} limit (omega arith))
+      total = omega (arith, takenAll-total vs empty e, mul-le-mul-right {m = length vs} {n = 15} limit (omega arith));
     }
 
 -- ---- what a tally says
@@ -100,6 +106,7 @@ further (num z ∷ vs) t e = go (further vs next (ne-eqb (t .count + 1) 0 λ q. 
   where
     next : Tally
     next = record { out = t .out; count = t .count + 1; total = t .total +ℤ z; least = lesser (t .least) z; greatest = greater (t .greatest) z }
+
     go : Further next (takenAll next vs) (numbers vs) → Further t (takenAll (counted t z) vs) (z ∷ numbers vs)
     go f = rw e (record { count = omega (arith, f .count); total = f .total; least = f .least; greatest = f .greatest })
 
@@ -117,6 +124,7 @@ fresh (num z ∷ vs) t e = go (further vs first refl)
   where
     first : Tally
     first = record { out = t .out; count = 1; total = z; least = z; greatest = z }
+
     go : Further first (takenAll first vs) (numbers vs) → Fresh (takenAll (counted t z) vs) (z ∷ numbers vs)
     go f = rw e (some z (numbers vs) (omega (arith, f .count)) (f .total) (f .least) (f .greatest))
 
@@ -170,3 +178,15 @@ module _ (vs : List Value) (t : Tally) (is : t ≡ takenAll empty vs) where
 
   pub rule-count : t .out ≡ false → (t .count ≡ 0 → ⊥) → ranged (pos (t .count)) ≡ ruleOf howMany vs
   rule-count e q = rw (sym out-is ∙ e) (sym (count-of taken-fresh q))
+
+-- ---- the count as a signed number
+
+module _ (ks : List ℕ) (zs : List ℤ) (n : ℕ) (t : Tally) (is : t ≡ takenAll empty (firstValues ks zs n)) (h : n ≤ 16) where
+  small : t .count ≤ 16
+  small = omega (arith, ap (λ (u : Tally). u .count) is, takenAll-count (firstValues ks zs n) empty, firstValues-length ks zs n)
+
+  pub count-fits : SFits w64 (pos (t .count))
+  count-fits = record { sfits = omega (arith, small) }
+
+  pub count-back : toZ w64 (t .count) ≡ pos (t .count)
+  count-back = toZ-pos w64 (t .count) (count-fits .sfits)
