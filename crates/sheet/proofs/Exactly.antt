@@ -32,7 +32,7 @@ level-same : (ps : List Placed) (p : ℕ) → getD (levels ps) p 0 ≡ levelOf p
 unfolding levels
 level-same ps p = List·getD-map (λ q. q .level) ps p (placed 0 (entryField []) 0)
 
-level-after : (ps : List Placed) (it : LayoutItem) → levelAfter (levels ps) it ≡ itemLevel ps it
+pub level-after : (ps : List Placed) (it : LayoutItem) → levelAfter (levels ps) it ≡ itemLevel ps it
 level-after ps (entryField name) = refl
 level-after ps (figureField rule keep spread parents name) = simp level-same
 
@@ -132,7 +132,7 @@ scan-one s pre post edition k ps it es e w =
     let m : length pre + 3 + length content ≡ length pre + length (itemBytes it) = omega arith in
     rw (e, c, d, f, item-back it, m)
 
-levels-snoc : (at : ℕ) (ps : List Placed) (it : LayoutItem) → levels (placeItem at ps it) ≡ levels ps ++ (levelAfter (levels ps) it ∷ [])
+pub levels-snoc : (at : ℕ) (ps : List Placed) (it : LayoutItem) → levels (placeItem at ps it) ≡ levels ps ++ (levelAfter (levels ps) it ∷ [])
 unfolding levels
 levels-snoc at ps it =
     map-append (λ p. p .level) ps (placed at it (itemLevel ps it) ∷ []) ∙ ap (λ v. levels ps ++ (v ∷ [])) (sym (level-after ps it))
@@ -162,7 +162,7 @@ scan-more s pre post edition k ps (it ∷ its) es e w =
     append-assoc ps (placed (length pre) it (itemLevel ps it) ∷ []) more ∙ ap (λ v. ps ++ (placed (length pre) it v ∷ more)) level in
     rw (k′, l, ← joined, ← ls, ← n) ih
 
-scan-none : (s : List ℕ) (edition : ℕ) → scan s edition 0 ≡ going headNext []
+pub scan-none : (s : List ℕ) (edition : ℕ) → scan s edition 0 ≡ going headNext []
 unfolding scan
 scan-none s edition = refl
 

@@ -3,3 +3,4 @@ pub mod Items
 pub mod Exactly
 pub mod Index
 pub mod Tests
+pub mod Causes
