@@ -1,6 +1,8 @@
 pub mod Scan
 pub mod Items
 pub mod Exactly
-pub mod Index
+pub mod IndexLaws
 pub mod Tests
 pub mod Causes
+pub mod Examples
+pub mod Boundaries
