@@ -38,7 +38,7 @@ level-after ps (figureField rule keep spread parents name) = simp level-same
 
 -- An item within the limits passes the tests of its field, and the other way round.
 
-and-four : (a b c d : Bool) → (a && b && c && d) ≡ true → (a ≡ true) × (b ≡ true) × (c ≡ true) × (d ≡ true)
+pub and-four : (a b c d : Bool) → (a && b && c && d) ≡ true → (a ≡ true) × (b ≡ true) × (c ≡ true) × (d ≡ true)
 and-four true true true true e = (refl, refl, refl, refl)
 and-four true true true false e = let z : _≡_ {A = ℕ} 0 1 = cc in absurd (omega arith)
 and-four true true false d e = let z : _≡_ {A = ℕ} 0 1 = cc in absurd (omega arith)
@@ -167,7 +167,7 @@ unfolding scan
 scan-none s edition = refl
 
 -- The parts of what is within the limits.
-within-parts : (l : Layout) → within l ≡ true
+pub within-parts : (l : Layout) → within l ≡ true
     → (editionKnown (l .edition) ≡ true) × (countAllowed (l .edition) (length (l .items)) ≡ true) × (itemsWithin (l .edition) [] (l .items) ≡ true)
 unfolding within
 within-parts l w =

@@ -1,13 +1,15 @@
 -- The example sheet, read and written; and for each number from 1 to 7 a sheet that is turned back with it. All by computation.
 -- Assumes nothing.
 use mathlib.Core.Path.{_≡_, refl}
+use mathlib.Core.Bool.{true, false}
 use mathlib.Core.List.{List, [], _∷_, _++_, map}
 use Prim.Native.Nat.{ℕ, zero, suc}
 use lib.ListN.{length}
 use Rattle.field.specs.Field.{cutAt, fieldBytes}
 use Rattle.circuit.specs.Calls.{firstCause}
-use Rattle.circuit.specs.Rules.{operationOf, coded, oneOrMore, maxParents}
+use Rattle.circuit.specs.Rules.{sum, operationOf, coded, oneOrMore, maxParents}
 use Rattle.circuit.specs.Rules.{countAllowed as parentsAllowed}
+use Rattle.circuit.specs.Sheet.{figure, defer, renew, forget}
 use Rattle.circuit.proofs.Examples.{daySheet}
 use Rattle.sheet.specs.Layout.{LayoutItem, entryField, figureField, Layout, editionKnown, itemLimit, countAllowed, levelLimit, keepAllowed, spreadAllowed, nameLimit, nameAllowed, all, highest, spreadMeant, machineItem, machineSheet}
 use Rattle.sheet.specs.Read.{parentsIn, itemIn, placed, lengthOrName, headTests, itemTests, lastTests, scan, scanSheet, SheetRead, opens, refused, readSheet, layoutOf}
@@ -121,3 +123,24 @@ chain n = record { edition = 1; items = links n }
 pub gives-7 : Gives (writeSheet (chain 65)) 7 651
 unfolding reading writing
 gives-7 = refl
+
+-- In a field the lowest number counts: a name and a rule wrong, a rule and a parent, a parent and what follows from it; and a
+-- fault of an earlier field comes before any of a later one.
+pub lowest-counts : Gives (head 2 ++ entryA ++ (3 ∷ 7 ∷ 0 ∷ 9 ∷ 0 ∷ 0 ∷ 1 ∷ 5 ∷ 0 ∷ 32 ∷ [])) 3 11
+    × Gives (head 2 ++ entryA ++ figureOf 9 0 0 5) 5 11 × Gives (head 2 ++ entryA ++ figureOf 1 0 0 5) 6 11
+    × Gives (1 ∷ 3 ∷ 0 ∷ 2 ∷ 0 ∷ 0 ∷ []) 3 0 × Gives (9 ∷ 3 ∷ 0 ∷ 2 ∷ 0 ∷ 0 ∷ []) 2 0 × Gives (9 ∷ 3 ∷ 0 ∷ 2 ∷ 0 ∷ []) 1 0
+    × Gives (head 2 ++ figureOf 9 0 0 5 ++ (9 ∷ [])) 5 7
+unfolding reading
+lowest-counts = (refl, refl, refl, refl, refl, refl, refl)
+
+-- the level of a figure with several parents is one more than their highest, wherever that one stands
+pub highest-anywhere : (highest [] ≡ 0) × (highest (0 ∷ 3 ∷ 1 ∷ []) ≡ 3) × (highest (3 ∷ 0 ∷ 1 ∷ []) ≡ 3) × (highest (1 ∷ 0 ∷ 3 ∷ []) ≡ 3)
+unfolding highest
+highest-anywhere = (refl, refl, refl, refl)
+
+-- Spread is 0 defer, 1 renew, 2 forget; keep 1 keeps.
+pub machine-bytes : (spreadMeant 0 ≡ defer) × (spreadMeant 1 ≡ renew) × (spreadMeant 2 ≡ forget)
+    × (machineItem (figureField 1 0 0 (0 ∷ []) (65 ∷ [])) ≡ figure sum false defer (0 ∷ []))
+    × (machineItem (figureField 1 1 0 (0 ∷ []) (65 ∷ [])) ≡ figure sum true defer (0 ∷ []))
+unfolding spreadMeant machineItem operationOf coded oneOrMore maxParents parentsAllowed
+machine-bytes = (refl, refl, refl, refl, refl)

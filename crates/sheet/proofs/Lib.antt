@@ -6,3 +6,5 @@ pub mod Tests
 pub mod Causes
 pub mod Examples
 pub mod Boundaries
+pub mod Highest
+pub mod WrittenBytes
