@@ -1,23 +1,21 @@
 -- The limits of a sheet, from both sides: counts 1,024 and 1,025, levels 64 and 65, names of 16 and 17 bytes, bytes 33 to 126, the
 -- rules' parent counts. Assumes nothing.
-use mathlib.Core.Path.{_≡_, refl, sym, ap, _∙_}
-use mathlib.Core.Bool.{Bool, true, false, cond, not, _&&_, _||_}
+use mathlib.Core.Path.{_≡_, refl}
+use mathlib.Core.Bool.{true, false}
 use mathlib.Core.List.{List, [], _∷_, _++_, map}
-use mathlib.Core.Logic.{_⊎_, inl, inr, _↔_}
-use Prim.Native.Nat.{ℕ, zero, suc, _+_, _*_, _≤_, _<_}
+use mathlib.Core.Logic.{inl, inr}
+use Prim.Native.Nat.{ℕ, zero, suc, _≤_, _<_}
 use native.Mathlib.Omega.{arith}
-use lib.Dec.{leb}
 use lib.ListN.{length, replicate, length-replicate}
 use borrow.Author.Tests.{le-leb}
-use Rattle.field.specs.Field.{le16At, lenAt}
 use Rattle.field.proofs.Cutting.{le16-of}
 use Rattle.circuit.specs.Rules.{operationOf, coded, oneOrMore, maxParents}
 use Rattle.circuit.specs.Rules.{countAllowed as parentsAllowed}
-use Rattle.sheet.specs.Layout.{LayoutItem, entryField, figureField, Layout, editionKnown, itemLimit, countAllowed, levelLimit, keepAllowed, spreadAllowed, ruleAllowed, nameByte, nameLimit, nameAllowed, all}
+use Rattle.sheet.specs.Layout.{entryField, Layout, editionKnown, itemLimit, countAllowed, keepAllowed, spreadAllowed, ruleAllowed, nameByte, nameLimit, nameAllowed, all}
 use Rattle.sheet.specs.Read.{opens, refused, readSheet}
-use Rattle.sheet.specs.Write.{concat, itemBytes, itemsWithin, within, writeSheet}
+use Rattle.sheet.specs.Write.{itemsWithin, within, writeSheet}
 use Rattle.sheet.specs.Places.{places}
-use Rattle.sheet.specs.Causes.{Place, first, fieldOffset, CauseAt, cause1, cause2, cause3, cause4, cause5, cause6, cause7, FirstFault}
+use Rattle.sheet.specs.Causes.{first, fieldOffset, CauseAt, cause1, cause2, cause3, cause4, cause5, cause6, cause7}
 use Rattle.sheet.proofs.Exactly.{written-opens}
 use Rattle.sheet.proofs.Causes.{refused-exactly}
 use Rattle.sheet.proofs.Examples.{chain, reading, writing, gives-7}

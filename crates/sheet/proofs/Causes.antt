@@ -2,27 +2,25 @@
 -- none. Assumes nothing.
 use mathlib.Core.Path.{_≡_, refl, sym, ap, ap₂, _∙_, subst}
 use mathlib.Core.Bool.{Bool, true, false, cond, not, _&&_, _||_}
-use mathlib.Core.List.{List, [], _∷_, _++_, map}
+use mathlib.Core.List.{List, []}
 use mathlib.Core.Logic.{_⊎_, inl, inr, ⊎-elim, _↔_}
-use Prim.Native.Nat.{ℕ, zero, suc, _+_, _*_, _≤_, _<_}
+use Prim.Native.Nat.{ℕ, zero, suc, _+_, _≤_, _<_}
 use native.Mathlib.Omega.{arith}
 use native.Mathlib.Decide.{decLe, decLt, ℕ-discrete}
-use lib.Dec.{eqb, leb, ltb}
-use lib.ListN.{length, getD, take, drop, length-append}
+use lib.Dec.{eqb, ltb}
+use lib.ListN.{length, getD, take, drop}
 use lib.Seq.{getD-take, getD-drop}
-use borrow.Author.Tests.{ltb-true, ltb-false}
-use Rattle.field.specs.Field.{cutAt, le16, le16At, lenAt}
+use Rattle.field.specs.Field.{cutAt, le16, lenAt}
 use Rattle.field.specs.declared.Cut.{Cut}
 use Rattle.field.specs.declared.Cut.the-variants.{Field, Short, Absent}
-use Rattle.field.proofs.Cutting.{Cutting, absent, no-header, no-content, whole, cutting, FieldAt, field-iff, content-length}
-use Rattle.circuit.specs.Calls.{Test, test, firstCause}
-use Rattle.sheet.specs.Layout.{LayoutItem, entryField, figureField, headTag, entryTag, figureTag, lastTag, levelLimit, editionKnown, countAllowed}
-use Rattle.sheet.specs.Read.{contentAt, editionIn, countIn, itemIn, Placed, placed, itemLevel, lengthOrName, ruleWrong, parentWrong, levelWrong, headTests, itemTests, lastTests, judge, Scan, going, stopped, placeItem, goOn, headNext, scan, afterLast, scanEnd, scanLast, headContent, scanSheet, SheetRead, opens, refused, conclude, readSheet}
-use Rattle.sheet.specs.Write.{levelAfter}
+use Rattle.field.proofs.Cutting.{Cutting, absent, no-header, no-content, whole, cutting, field-iff, content-length}
+use Rattle.circuit.specs.Calls.{Test, firstCause}
+use Rattle.sheet.specs.Layout.{headTag, entryTag, figureTag, levelLimit, editionKnown, countAllowed}
+use Rattle.sheet.specs.Read.{contentAt, editionIn, countIn, itemIn, Placed, itemLevel, lengthOrName, parentWrong, levelWrong, headTests, itemTests, lastTests, judge, Scan, going, stopped, goOn, headNext, scan, afterLast, scanEnd, scanLast, headContent, scanSheet, SheetRead, opens, refused, conclude, readSheet}
 use Rattle.sheet.specs.Causes.{Place, first, item, last, after, fieldOffset, editionOf, itemCount, fieldNumber, InSheet, Before, offsetOf, tagOf, lengthOf, contentOf, levelsOf, itemLevelOf, NotWhole, RunsPastOrAbsent, WrongTagOrTrailing, WrongLengthOrName, WrongItemLength, WrongEditionOrCount, WrongRuleKeepSpreadOrCount, ParentNotBelow, LevelAbove, CauseAt, cause1, cause2, cause3, cause4, cause5, cause6, cause7, Sound, Faultless, FirstFault}
-use Rattle.sheet.proofs.Scan.{ItemRead, Extended, scan-extended, scan-length, scan-prefix, HeadRead, head-read, Faulted, scan-faulted, offsetFrom}
+use Rattle.sheet.proofs.Scan.{Extended, scan-extended, scan-length, scan-prefix, head-read, Faulted, scan-faulted, offsetFrom}
 use Rattle.sheet.proofs.Exactly.{levels, level-after, levels-snoc, scan-none}
-use Rattle.sheet.proofs.Tests.{Tells, holds, fails, tells-if, tells-and, tells-or, tells-not, tells-eq, tells-lt, Refutes, refutes-tells, refutes-edition, tells-length, tells-wrong-figure, tells-parents}
+use Rattle.sheet.proofs.Tests.{Tells, holds, fails, tells-if, tells-or, tells-not, tells-eq, tells-lt, refutes-tells, refutes-edition, tells-length, tells-wrong-figure, tells-parents}
 
 -- The lowest cause from a number on.
 

@@ -1,27 +1,25 @@
 -- A sheet opens exactly if it is the written form of a layout within the limits, and there is only one such layout. Assumes nothing.
 use mathlib.Core.Path.{_≡_, refl, sym, ap, ap₂, _∙_}
-use mathlib.Core.Bool.{Bool, true, false, cond, not, _&&_, _||_}
+use mathlib.Core.Bool.{Bool, true, false, not, _&&_}
 use mathlib.Core.List.{List, [], _∷_, _++_, map, append-assoc, append-nil}
 use mathlib.Core.Logic.{_↔_}
-use Prim.Native.Nat.{ℕ, zero, suc, _+_, _*_, _/_, _%_, _≤_, _<_}
+use Prim.Native.Nat.{ℕ, zero, suc, _+_, _<_}
 use native.Mathlib.Omega.{arith}
 use native.Mathlib.Decide.{decLt}
-use native.Mathlib.Nat.{zero-add, suc-add, add-zero, add-suc}
+use native.Mathlib.Nat.{zero-add, add-zero}
 use lib.Dec.{eqb, leb, ltb}
-use lib.ListN.{length, getD, take, drop, length-append, length-take, length-drop, length-map, take-append-drop, List·getD-map, List·getD-eq-default}
-use lib.Seq.{take-at, drop-at, drop-drop, drop-append-add, take-append-seam, take-length, drop-length, take-nil, getD-take, getD-drop}
-use borrow.Author.Tests.{eqb-true, leb-true, ltb-true, ltb-false, lt-ltb, le-ltb, le-leb, not-true, not-false, eq-eqb}
-use Rattle.field.specs.Field.{cutAt, le16, le16At, Bytes, fieldBytes}
-use Rattle.field.specs.declared.Cut.{Cut}
-use Rattle.field.specs.declared.Cut.the-variants.{Field, Short, Absent}
-use Rattle.field.proofs.Cutting.{FieldAt, field-iff, cut-fieldBytes, cut-back-bytes, content-length, le16-of, le16-low, le16-high}
-use Rattle.circuit.specs.Calls.{Test, test, firstCause}
-use Rattle.sheet.specs.Layout.{LayoutItem, entryField, figureField, Layout, headTag, entryTag, figureTag, lastTag, editionKnown, countAllowed, levelLimit, keepAllowed, spreadAllowed, ruleAllowed, nameAllowed, all, highest}
-use Rattle.sheet.specs.Read.{contentAt, editionIn, countIn, ruleIn, keepIn, spreadIn, parentCountIn, parentsIn, nameIn, itemIn, Placed, placed, levelOf, itemLevel, lengthOrName, ruleWrong, parentWrong, levelWrong, itemTests, judge, Scan, going, stopped, placeItem, headNext, scan, headContent, SheetRead, opens, refused, readSheet, layoutOf}
+use lib.ListN.{length, getD, take, drop, length-append, length-take, length-map, List·getD-map, List·getD-eq-default}
+use lib.Seq.{take-at, drop-append-add, take-append-seam, take-length, getD-take, getD-drop}
+use borrow.Author.Tests.{eqb-true, leb-true, ltb-false, le-ltb, le-leb, not-false}
+use Rattle.field.specs.Field.{cutAt, Bytes, fieldBytes}
+use Rattle.field.specs.declared.Cut.the-variants.{Field}
+use Rattle.field.proofs.Cutting.{FieldAt, field-iff, cut-fieldBytes, cut-back-bytes, content-length, le16-of}
+use Rattle.sheet.specs.Layout.{LayoutItem, entryField, figureField, Layout, headTag, figureTag, lastTag, editionKnown, countAllowed, levelLimit, keepAllowed, spreadAllowed, ruleAllowed, nameAllowed, all}
+use Rattle.sheet.specs.Read.{contentAt, editionIn, countIn, ruleIn, keepIn, spreadIn, parentCountIn, parentsIn, nameIn, itemIn, Placed, placed, levelOf, itemLevel, lengthOrName, ruleWrong, parentWrong, levelWrong, going, placeItem, headNext, scan, headContent, opens, readSheet, layoutOf}
 use Rattle.sheet.specs.Write.{bytes16, concat, itemBytes, writeSheet, levelAfter, itemWithin, itemsWithin, within}
 use Rattle.sheet.specs.Places.{placesFrom, places, offsetWritten}
-use Rattle.sheet.proofs.Scan.{placedAt, Passes, passes, passes-back, ItemRead, Extended, scan-extended, scan-length, scan-within, Opened, HeadRead, opened, opens-back, and-left, and-right, and-both, map-append}
-use Rattle.sheet.proofs.Items.{tagOf, contentOf, itemBytes-field, item-back, item-forth, concat-append, concat-one, figure-parts, FigureParts, name-back, pair-forth}
+use Rattle.sheet.proofs.Scan.{placedAt, Passes, passes, passes-back, ItemRead, scan-extended, scan-length, opened, opens-back, and-left, and-right, and-both, map-append}
+use Rattle.sheet.proofs.Items.{tagOf, contentOf, itemBytes-field, item-back, item-forth, concat-append, concat-one, figure-parts, name-back, pair-forth}
 
 -- Levels by the items read and by the list of levels are the same.
 

@@ -2,17 +2,16 @@
 -- Assumes nothing.
 use mathlib.Core.Path.{_≡_, refl}
 use mathlib.Core.Bool.{true, false}
-use mathlib.Core.List.{List, [], _∷_, _++_, map}
+use mathlib.Core.List.{List, [], _∷_, _++_}
 use Prim.Native.Nat.{ℕ, zero, suc}
-use lib.ListN.{length}
-use Rattle.field.specs.Field.{cutAt, fieldBytes}
+use Rattle.field.specs.Field.{cutAt}
 use Rattle.circuit.specs.Calls.{firstCause}
 use Rattle.circuit.specs.Rules.{sum, operationOf, coded, oneOrMore, maxParents}
 use Rattle.circuit.specs.Rules.{countAllowed as parentsAllowed}
 use Rattle.circuit.specs.Sheet.{figure, defer, renew, forget}
 use Rattle.circuit.proofs.Examples.{daySheet}
 use Rattle.sheet.specs.Layout.{LayoutItem, entryField, figureField, Layout, editionKnown, itemLimit, countAllowed, levelLimit, keepAllowed, spreadAllowed, nameLimit, nameAllowed, all, highest, spreadMeant, machineItem, machineSheet}
-use Rattle.sheet.specs.Read.{parentsIn, itemIn, placed, lengthOrName, headTests, itemTests, lastTests, scan, scanSheet, SheetRead, opens, refused, readSheet, layoutOf}
+use Rattle.sheet.specs.Read.{parentsIn, itemIn, lengthOrName, headTests, itemTests, lastTests, scan, scanSheet, SheetRead, opens, refused, readSheet}
 use Rattle.sheet.specs.Write.{concat, itemBytes, itemsWithin, within, writeSheet}
 use Rattle.sheet.specs.Places.{placesFrom, places}
 use Rattle.sheet.specs.Index.{indexBytes}

@@ -1,23 +1,21 @@
 -- Each test of the reader says what its row of the table says. Assumes nothing.
-use mathlib.Core.Path.{_≡_, refl, sym, ap, ap₂, _∙_, subst}
+use mathlib.Core.Path.{_≡_, refl, subst}
 use mathlib.Core.Bool.{Bool, true, false, cond, not, _&&_, _||_}
-use mathlib.Core.List.{List, [], _∷_, _++_, map}
+use mathlib.Core.List.{List, [], _∷_}
 use mathlib.Core.Logic.{_⊎_, inl, inr, ⊎-elim}
 use mathlib.Core.Option.{Option, none, some}
-use Prim.Native.Nat.{ℕ, zero, suc, _+_, _*_, _-_, _≤_, _<_}
+use Prim.Native.Nat.{ℕ, _+_, _*_, _-_, _≤_, _<_}
 use native.Mathlib.Omega.{arith}
-use native.Mathlib.Decide.{decLe, decLt}
 use lib.Dec.{eqb, leb, ltb}
-use lib.ListN.{length, getD, take, drop, length-drop}
-use borrow.Author.Tests.{eqb-true, eqb-false, leb-true, leb-false, ltb-true, ltb-false, lt-ltb, le-ltb, le-leb, lt-leb, eq-eqb, ne-eqb, not-true, not-false}
+use lib.ListN.{length, length-drop}
+use borrow.Author.Tests.{eqb-true, eqb-false, leb-true, leb-false, ltb-true, ltb-false, eq-eqb, ne-eqb}
 use Rattle.circuit.specs.Circuit.{Listed}
 use Rattle.circuit.specs.Rules.{Operation, sum, difference, smallest, largest, share, choice, count, atLeast, operationOf, allowed, coded, oneOrMore, maxParents}
 use Rattle.circuit.specs.Rules.{countAllowed as parentsAllowed}
-use Rattle.sheet.specs.Layout.{LayoutItem, entryField, figureField, headTag, entryTag, figureTag, lastTag, editionKnown, countAllowed, itemLimit, levelLimit, keepAllowed, spreadAllowed, ruleAllowed, isSome, nameAllowed, nameByte, nameLimit, all}
+use Rattle.sheet.specs.Layout.{LayoutItem, entryField, figureField, figureTag, editionKnown, countAllowed, itemLimit, keepAllowed, spreadAllowed, ruleAllowed, isSome, nameAllowed, nameByte, nameLimit, all}
 use Rattle.sheet.specs.Read.{ruleIn, keepIn, spreadIn, parentCountIn, parentsIn, nameIn, itemIn, lengthOrName, ruleWrong, parentWrong}
 use Rattle.sheet.specs.Causes.{NotAName, BadByte, WrongItemLength, entryName, figureUnder, figureRest, figureName, RuleTakes, sumTakes, differenceTakes, smallestTakes, largestTakes, shareTakes, choiceTakes, countTakes, atLeastTakes, WrongFigure}
-use Rattle.sheet.proofs.Scan.{and-left, and-right, and-both, all-listed}
-use Rattle.sheet.proofs.Items.{parents-count, or-left, or-right}
+use Rattle.sheet.proofs.Items.{parents-count}
 
 -- `Tells P b`: the test's value b says whether P holds
 pub data Tells (P : Type 0) : Bool → Type 0 where

@@ -1,12 +1,12 @@
 -- What the writer writes of a layout within the limits is bytes. Assumes nothing.
-use mathlib.Core.Path.{_≡_, refl, sym, ap, _∙_}
+use mathlib.Core.Path.{_≡_, refl}
 use mathlib.Core.Bool.{Bool, true, false, _&&_}
 use mathlib.Core.List.{List, [], _∷_, _++_, map}
-use mathlib.Core.Logic.{_⊎_, inl, inr}
-use Prim.Native.Nat.{ℕ, zero, suc, _+_, _*_, _/_, _%_, _≤_, _<_}
+use mathlib.Core.Logic.{inl, inr}
+use Prim.Native.Nat.{ℕ, zero, suc, _+_, _/_, _%_, _≤_, _<_}
 use native.Mathlib.Omega.{arith}
-use lib.Dec.{leb, ltb, eqb}
-use lib.ListN.{length, getD, length-append}
+use lib.Dec.{leb, ltb}
+use lib.ListN.{length, length-append}
 use borrow.Author.Tests.{leb-true, ltb-true, eqb-true}
 use Rattle.field.specs.Field.{Bytes, fieldBytes}
 use Rattle.field.proofs.Cutting.{Bytes-fieldBytes}
