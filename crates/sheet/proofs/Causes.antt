@@ -100,7 +100,8 @@ not-whole s at h (inr (inl l)) = omega arith
 not-whole s at h (inr (inr l)) = omega arith
 
 -- a place where a field is expected: cause 1, else the tests of a whole field
-field-verdict : (s : List ℕ) (p : Place) (at : ℕ) (tests : ℕ → List ℕ → List Test) → (NotWhole s at → RunsPastOrAbsent s p) → (RunsPastOrAbsent s p → NotWhole s at)
+field-verdict : (s : List ℕ) (p : Place) (at : ℕ) (tests : ℕ → List ℕ → List Test)
+    → (NotWhole s at → RunsPastOrAbsent s p) → (RunsPastOrAbsent s p → NotWhole s at)
     → (at + 3 + lenAt s at ≤ length s → Lowest s p 2 (firstCause (tests (getD s at 0) (contentAt s (at + 3) (lenAt s at)))))
     → Lowest s p 1 (judge tests s (cutAt s at))
 field-verdict s p at tests f g t = go (cutAt s at) (cutting s at)
@@ -147,12 +148,13 @@ edition-same s = ap₂ le16 (head-same s 0 (omega arith)) (head-same s 1 (omega 
 pub count-same : (s : List ℕ) → countIn (headContent s) ≡ itemCount s
 count-same s = ap₂ le16 (head-same s 2 (omega arith)) (head-same s 3 (omega arith))
 
-head-counted : (s : List ℕ) → ¬ (¬ (lenAt s 0 ≡ 4))
-    → Tells (WrongEditionOrCount s first) (not (editionKnown (editionIn (contentAt s 3 (lenAt s 0))) && countAllowed (editionIn (contentAt s 3 (lenAt s 0))) (countIn (contentAt s 3 (lenAt s 0)))))
+abbrev headCounted : List ℕ → Bool
+headCounted content = editionKnown (editionIn content) && countAllowed (editionIn content) (countIn content)
+
+head-counted : (s : List ℕ) → ¬ (¬ (lenAt s 0 ≡ 4)) → Tells (WrongEditionOrCount s first) (not (headCounted (contentAt s 3 (lenAt s 0))))
 head-counted s n = go (ℕ-discrete (lenAt s 0) 4)
   where
-    go : Dec (lenAt s 0 ≡ 4)
-        → Tells (WrongEditionOrCount s first) (not (editionKnown (editionIn (contentAt s 3 (lenAt s 0))) && countAllowed (editionIn (contentAt s 3 (lenAt s 0))) (countIn (contentAt s 3 (lenAt s 0)))))
+    go : Dec (lenAt s 0 ≡ 4) → Tells (WrongEditionOrCount s first) (not (headCounted (contentAt s 3 (lenAt s 0))))
     go (yes e) = rw (ap (contentAt s 3) e, edition-same s, count-same s) (tells-not (refutes-edition (editionOf s) (itemCount s)))
     go (no e) = absurd (n e)
 
@@ -197,7 +199,8 @@ item-verdict : (s : List ℕ) (edition i : ℕ) (ps : List Placed) → length ps
 unfolding itemTests firstCause levelLimit
 item-verdict s edition i ps n l = field-verdict s (item i) (offsetOf s (item i)) (itemTests edition ps) (λ x. x) (λ x. x) tests
   where
-    tests : offsetOf s (item i) + 3 + lenAt s (offsetOf s (item i)) ≤ length s → Lowest s (item i) 2 (firstCause (itemTests edition ps (tagOf s (item i)) (contentOf s (item i))))
+    tests : offsetOf s (item i) + 3 + lenAt s (offsetOf s (item i)) ≤ length s
+        → Lowest s (item i) 2 (firstCause (itemTests edition ps (tagOf s (item i)) (contentOf s (item i))))
     tests h =
         let p : Place = item i in
         let tag : ℕ = tagOf s p in
@@ -314,7 +317,8 @@ module _ (s : List ℕ) (first-sound : Sound s first) (head : cutAt s 0 ≡ Fiel
         offset-is = stands s ed head i offset (f .read) (f .scanned) .offset-is;
       }
     where
-      earlier : (i : ℕ) → i < itemCount s → (ps : List Placed) → scan s ed i ≡ going offset ps → (p : Place) → InSheet s p → Before s p (item i) → Sound s p
+      earlier : (i : ℕ) → i < itemCount s → (ps : List Placed) → scan s ed i ≡ going offset ps
+          → (p : Place) → InSheet s p → Before s p (item i) → Sound s p
       earlier i h ps e first m b = first-sound
       earlier i h ps e (item j) m b = passed-sound s ed head i offset ps e j (omega arith)
       earlier i h ps e last m b = absurd (omega arith)
@@ -391,7 +395,8 @@ pub finding : (s : List ℕ) → Finding s (readSheet s)
 unfolding readSheet scanSheet
 finding s = go (judge headTests s (cutAt s 0)) refl
   where
-    at-last : Sound s first → cutAt s 0 ≡ Field headTag 3 4 headNext → (at : ℕ) (ps : List Placed) → scan s (editionIn (headContent s)) (countIn (headContent s)) ≡ going at ps
+    at-last : Sound s first → cutAt s 0 ≡ Field headTag 3 4 headNext → (at : ℕ) (ps : List Placed)
+        → scan s (editionIn (headContent s)) (countIn (headContent s)) ≡ going at ps
         → (v : ℕ) → judge lastTests s (cutAt s at) ≡ v
         → Finding s (conclude (editionIn (headContent s)) (goOn v at (scanEnd s (afterLast s (cutAt s at)) ps)))
     at-last f h at ps e zero q = end-finding s f h at ps e q
@@ -442,15 +447,15 @@ same-place s after after a b e = refl
 
 pub first-fault-unique : (s : List ℕ) (k k′ o o′ : ℕ) → FirstFault s k o → FirstFault s k′ o′ → (k ≡ k′) × (o ≡ o′)
 first-fault-unique s k k′ o o′ f g =
-    places (decLt (fieldNumber (itemCount s) (f .place)) (fieldNumber (itemCount s) (g .place))) (decLt (fieldNumber (itemCount s) (g .place)) (fieldNumber (itemCount s) (f .place)))
+    places (decLt (fieldNumber (itemCount s) (f .place)) (fieldNumber (itemCount s) (g .place)))
+    (decLt (fieldNumber (itemCount s) (g .place)) (fieldNumber (itemCount s) (f .place)))
   where
     numbers : f .place ≡ g .place → Dec (k < k′) → Dec (k′ < k) → k ≡ k′
     numbers e (yes h) d = absurd (g .lowest k h (subst (λ p. CauseAt s p k) e (f .cause)))
     numbers e (no h) (yes l) = absurd (f .lowest k′ l (subst (λ p. CauseAt s p k′) (sym e) (g .cause)))
     numbers e (no h) (no l) = omega arith
 
-    places : Dec (fieldNumber (itemCount s) (f .place) < fieldNumber (itemCount s) (g .place)) → Dec (fieldNumber (itemCount s) (g .place) < fieldNumber (itemCount s) (f .place))
-        → (k ≡ k′) × (o ≡ o′)
+    places : Dec (Before s (f .place) (g .place)) → Dec (Before s (g .place) (f .place)) → (k ≡ k′) × (o ≡ o′)
     places (yes h) d = absurd (g .first-at-fault (f .place) (f .in-sheet) h k (f .cause))
     places (no h) (yes l) = absurd (f .first-at-fault (g .place) (g .in-sheet) l k′ (g .cause))
     places (no h) (no l) =

@@ -285,7 +285,9 @@ items-snoc at ps it = map-append (λ p. p .item) ps (placed at it (itemLevel ps 
 
 bytes-snoc : (its : List LayoutItem) (it : LayoutItem) → concat (map itemBytes (its ++ (it ∷ []))) ≡ concat (map itemBytes its) ++ itemBytes it
 bytes-snoc its it =
-    ap concat (map-append itemBytes its (it ∷ [])) ∙ concat-append (map itemBytes its) (itemBytes it ∷ []) ∙ ap (λ r. concat (map itemBytes its) ++ r) (concat-one (itemBytes it))
+    ap concat (map-append itemBytes its (it ∷ []))
+    ∙ concat-append (map itemBytes its) (itemBytes it ∷ [])
+    ∙ ap (λ r. concat (map itemBytes its) ++ r) (concat-one (itemBytes it))
 
 -- what was read of a field is written as that field
 read-written : (s : List ℕ) (edition at next : ℕ) (ps : List Placed) (it : LayoutItem) → Bytes s → (r : ItemRead s edition ps at it next)

@@ -10,6 +10,7 @@ use lib.Dec.{eqb, leb}
 use lib.ListN.{length, getD}
 use lib.Seq.{getD-append-add}
 use borrow.Author.Tests.{eqb-true, leb-true, not-false}
+use Rattle.field.specs.Field.{Bytes}
 use Rattle.field.proofs.Cutting.{field-iff, content-length}
 use Rattle.circuit.specs.Rules.{Operation, sum, difference, smallest, largest, share, choice, count, atLeast, operationOf, allowed, coded, oneOrMore, maxParents}
 use Rattle.circuit.specs.Rules.{countAllowed as parentsAllowed}
@@ -29,6 +30,15 @@ index-length (p ∷ ps) = omega (arith, index-length ps)
 pub index-width : (ps : List Placed) → length (indexBytes ps) ≡ indexWidth * length ps
 unfolding indexWidth
 index-width ps = index-length ps
+
+pub index-bytes : (ps : List Placed) → Bytes (indexBytes ps)
+unfolding indexBytes concat
+index-bytes [] i = omega arith
+index-bytes (p ∷ ps) zero = omega arith
+index-bytes (p ∷ ps) (suc zero) = omega arith
+index-bytes (p ∷ ps) (suc (suc zero)) = omega arith
+index-bytes (p ∷ ps) (suc (suc (suc zero))) = omega arith
+index-bytes (p ∷ ps) (suc (suc (suc (suc i)))) = index-bytes ps i
 
 -- the number that was written in four bytes
 digits : (n a b c r₀ r₁ r₂ : ℕ) → r₀ + 256 * a ≡ n → r₁ + 256 * b ≡ a → r₂ + 256 * c ≡ b → r₀ + 256 * r₁ + 65_536 * r₂ + 16_777_216 * c ≡ n

@@ -177,6 +177,14 @@ module _ (s : List ℕ) (edition : ℕ) where
       let i : placedAt ps j .item ≡ x .it = ap (λ p. p .item) o in
       record { read = rw (← l, ← b, i) (x .read); level-is = rw (o, ← l) }
 
+-- offsets rise by a field's three bytes at least
+pub scan-rises : (s : List ℕ) (edition k at : ℕ) (ps : List Placed) → scan s edition k ≡ going at ps → (j : ℕ) → j < k
+    → offsetFrom at ps j + 3 ≤ offsetFrom at ps (suc j)
+scan-rises s edition k at ps e j h =
+    let r = scan-item s edition k at ps e j h .read in
+    let f = field-iff s (offsetFrom at ps j) (r .tag) (r .start) (r .len) (offsetFrom at ps (suc j)) .0 (r .whole) in
+    omega arith
+
 -- Where a scan stopped: at an item whose field was judged at fault, after items that were read.
 pub record Faulted (s : List ℕ) (edition n number offset : ℕ) : Type 0 where
   pub at-item : ℕ
@@ -478,10 +486,12 @@ module _ (s : List ℕ) (edition : ℕ) (ps : List Placed) (e : readSheet s ≡ 
   -- a figure's operation is that of its rule and parent count
   pub opened-operation : (j : ℕ) → j < length ps → (rule keep spread : ℕ) (parents name : List ℕ)
       → placedAt ps j .item ≡ figureField rule keep spread parents name
-      → (op : Operation) × (operationOf rule (length parents) ≡ some op) × (itemAt (machineSheet (layoutOf edition ps)) j ≡ figure op (eqb keep 1) (spreadMeant spread) parents)
+      → (op : Operation) × (operationOf rule (length parents) ≡ some op)
+      × (itemAt (machineSheet (layoutOf edition ps)) j ≡ figure op (eqb keep 1) (spreadMeant spread) parents)
   opened-operation j h rule keep spread parents name q =
       let f : ruleWrong edition (figureField rule keep spread parents name) ≡ false = rw q at (opened-fits j h .rule-fits) in
-      let r = and-left (ruleAllowed rule (length parents)) (keepAllowed keep) (and-left (ruleAllowed rule (length parents) && keepAllowed keep) (spreadAllowed edition spread) (not-false _ f)) in
+      let two = and-left (ruleAllowed rule (length parents) && keepAllowed keep) (spreadAllowed edition spread) (not-false _ f) in
+      let r = and-left (ruleAllowed rule (length parents)) (keepAllowed keep) two in
       let a = allowed-operation rule (length parents) r in
       let m = machine-figure rule keep spread parents name (a .0) (a .1) in
       (a .0, a .1, machine-item edition ps j ∙ ap machineItem q ∙ m)
