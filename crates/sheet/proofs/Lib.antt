@@ -13,3 +13,10 @@ pub mod Whole
 pub mod Here
 pub mod Located
 pub mod Indexes
+pub mod IndexLaws
+pub mod Tests
+pub mod Causes
+pub mod Examples
+pub mod Boundaries
+pub mod Highest
+pub mod WrittenBytes

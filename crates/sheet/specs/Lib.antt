@@ -6,3 +6,4 @@ pub mod Check
 pub mod Parts
 pub mod Offsets
 pub mod Places
+pub mod Causes
