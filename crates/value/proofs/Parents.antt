@@ -1,22 +1,22 @@
 -- The parents' values in their two arrays. Assumes nothing.
 use Prim.Native.Nat.{ℕ, zero, suc, _+_, _≤_, _<_}
-use mathlib.Core.Path.{_≡_, refl, sym, subst, _∙_}
-use mathlib.Core.Bool.{Bool, true, false, cond, _&&_}
+use mathlib.Core.Bool.{true, _&&_}
 use mathlib.Core.List.{List, [], _∷_, _++_}
-use native.Mathlib.Omega.{arith}
+use mathlib.Core.Path.{_≡_, refl, sym, subst, _∙_}
 use native.Mathlib.Decide.{decLe}
 use native.Mathlib.Numerals.{add-one}
+use native.Mathlib.Omega.{arith}
 use borrow.Author.Tests.{ne-eqb}
 use lib.IntN.{ℤ, pos}
 use lib.ListN.{length, getD, set, length-append}
 use lib.Seq.{getD-set-same, getD-set-other}
 use mir.Syntax.{w64}
 use mir.Val.{SFits, toZ, ofZ}
+use Rattle.circuit.proofs.RuleLaws.{allWellFormed-snoc, and-left, and-right}
 use Rattle.circuit.specs.Value.{Value, null, out, num, wellFormed, kindOf, numberOf}
 use Rattle.circuit.specs.WellFormed.{allWellFormed}
-use Rattle.circuit.proofs.RuleLaws.{allWellFormed-snoc, and-left, and-right}
 use Rattle.value.specs.Meaning.{ofParts, valueAt, firstValues}
-use Rattle.value.proofs.Signed.{back}
+use Rattle.value.proofs.Signed.{back, read}
 
 -- a value is what its own kind and number stand for
 pub of-own-parts : (v : Value) → ofParts (kindOf v) (numberOf v) ≡ v
@@ -87,5 +87,5 @@ null-at ks zs k e = rw e
 pub out-at : (ks : List ℕ) (zs : List ℤ) (k : ℕ) → getD ks k 0 ≡ 2 → out ≡ valueAt ks zs k
 out-at ks zs k e = rw e
 
-pub number-at : (ks : List ℕ) (zs : List ℤ) (k : ℕ) → (getD ks k 0 ≡ 1 → ⊥) → (getD ks k 0 ≡ 2 → ⊥) → SFits w64 (getD zs k (pos 0)) → (r : Value) → r ≡ num (toZ w64 (ofZ w64 (getD zs k (pos 0)))) → r ≡ valueAt ks zs k
+pub number-at : (ks : List ℕ) (zs : List ℤ) (k : ℕ) → (getD ks k 0 ≡ 1 → ⊥) → (getD ks k 0 ≡ 2 → ⊥) → SFits w64 (getD zs k (pos 0)) → (r : Value) → r ≡ num (read (getD zs k (pos 0))) → r ≡ valueAt ks zs k
 number-at ks zs k a b f r e = e ∙ rw (back (getD zs k (pos 0)) f, ne-eqb (getD ks k 0) 1 a, ne-eqb (getD ks k 0) 2 b)
