@@ -2,20 +2,20 @@
 -- one is OUT, and a well-formed value where all are well formed; a quotient is rounded down; a sum of numbers within the
 -- range is at most that many times the limit. Assumes nothing.
 use Prim.Native.Nat.{ℕ, zero, suc, _+_, _-_, _*_, _/_, _≤_, _<_}
-use mathlib.Core.Path.{_≡_, refl, ap}
 use mathlib.Core.Bool.{Bool, true, false, cond, _&&_, _||_}
 use mathlib.Core.List.{List, [], _∷_, _++_, map}
+use mathlib.Core.Path.{_≡_, refl, ap}
+use native.Mathlib.Nat.{zero-mul, suc-mul, mul-comm, div-mul-le-self, lt-mul-div-succ}
+use native.Mathlib.Numerals.{add-one}
+use native.Mathlib.Omega.{arith}
 use borrow.Author.Tests.{eqb-true, eq-eqb, ltb-true, leb-true, le-leb, lt-ltb}
 use lib.Dec.{ltb}
 use lib.IntN.{ℤ, pos, negsuc, natAbs, negℤ, sucℤ, subℕ, _+ℤ_, _-ℤ_, _*ℤ_}
 use lib.ListN.{length}
 use lib.Signed.{leZ, ltZ}
-use native.Mathlib.Nat.{zero-mul, suc-mul, mul-comm, div-mul-le-self, lt-mul-div-succ}
-use native.Mathlib.Numerals.{add-one}
-use native.Mathlib.Omega.{arith}
-use Rattle.circuit.specs.Value.{Value, null, out, num, limit, inRange, isNull, wellFormed, ranged, same, sameNumber}
-use Rattle.circuit.specs.WellFormed.{allWellFormed}
 use Rattle.circuit.specs.Rules.{Operation, sum, difference, smallest, largest, share, choice, count, atLeast, apply, anyOut, numbers, nth, ofNumbers, total, least, greatest, howMany, orZero, floorDiv, whole}
+use Rattle.circuit.specs.Value.{Value, null, out, num, limit, inRange, isNull, isOut, wellFormed, ranged, same, sameNumber}
+use Rattle.circuit.specs.WellFormed.{allWellFormed}
 
 -- ---- equal values
 
@@ -105,6 +105,19 @@ any-out share vs e = rw e
 any-out choice vs e = rw e
 any-out count vs e = rw e
 any-out atLeast vs e = rw e
+
+anyOut-member : (vs ws : List Value) → anyOut (vs ++ (out ∷ ws)) ≡ true
+unfolding anyOut
+anyOut-member [] ws = refl
+anyOut-member (v ∷ vs) ws = go (isOut v) (anyOut-member vs ws)
+  where
+    go : (b : Bool) → anyOut (vs ++ (out ∷ ws)) ≡ true → (b || anyOut (vs ++ (out ∷ ws))) ≡ true
+    go true e = refl
+    go false e = e
+
+-- wherever it stands in the list
+pub out-gives-out : (op : Operation) (vs ws : List Value) → apply op (vs ++ (out ∷ ws)) ≡ out
+out-gives-out op vs ws = any-out op (vs ++ (out ∷ ws)) (anyOut-member vs ws)
 
 -- ---- well-formed values
 

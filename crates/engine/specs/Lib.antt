@@ -1,3 +1,4 @@
 pub mod Office
 pub mod Demands
 pub mod Memo
+pub mod Pass

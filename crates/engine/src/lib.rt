@@ -1,2 +1,3 @@
 // The engine: looking up and working out, telling, stepping, catching up, and the calls on lent bytes.
+pub mod look;
 pub mod memo;

@@ -6,7 +6,6 @@ ghost use lib.ListN.{length, set};
 ghost use Rattle.circuit.specs.Value.{numberOf};
 ghost use Rattle.value.specs.Meaning.{meaning};
 ghost use Rattle.engine.specs.Memo.{seenMeaning, recallMeaning, remembered, tagOf};
-
 use value::Value;
 
 // What looking up an item gives: its value, and whether it is flagged.

@@ -6,8 +6,8 @@ use Prim.Native.Nat.{ℕ, suc, _+_, _≤_, _<_}
 use native.Mathlib.Omega.{arith}
 use native.Mathlib.Numerals.{add-one}
 use lib.Dec.{eqb}
-use lib.ListN.{length, getD, drop}
-use lib.Seq.{drop-cons, drop-all}
+use lib.ListN.{length, getD, drop, drop-of-length-le}
+use lib.Seq.{drop-cons}
 use borrow.Author.Tests.{eq-eqb, ne-eqb}
 use Rattle.circuit.specs.Sheet.{member}
 
@@ -29,4 +29,4 @@ module _ (i : ℕ) (ps : List ℕ) (k p : ℕ) (below : k < length ps) (is : p �
 
 pub search-done : (i : ℕ) (ps : List ℕ) (k : ℕ) → length ps ≤ k → member i ps ≡ member i (drop k ps) → false ≡ member i ps
 unfolding member
-search-done i ps k h inv = sym (inv ∙ ap (member i) (drop-all k ps h))
+search-done i ps k h inv = sym (inv ∙ ap (member i) (drop-of-length-le ps h))

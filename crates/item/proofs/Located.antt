@@ -125,9 +125,10 @@ module _ (s offsets : List ℕ) (located : Located s offsets) (i : ℕ) (h : i <
       let r = scan-item s (o .edition) (countIn (headContent s)) (x .at) (o .items) (x .scanned) i (omega (arith, opened-length s (o .edition) (o .items) (o .read))) .read in
       let w = offset-placed (x .at) (o .items) i n in
       let f = read-field s (o .edition) (take i (o .items)) _ _ _ r in
-      let m = read-item s (o .edition) (take i (o .items)) _ _ _ r in
-      (rw w at f,
-      ap (fieldItem s) (sym w) ∙ m ∙ sym (machine-item (o .edition) (o .items) i) ∙ ap (λ S. itemAt S i) (sym (o .sheet-is)))
+      let m = read-item s (o .edition) (take i (o .items)) _ _ _ r in (
+        rw w at f,
+        ap (fieldItem s) (sym w) ∙ m ∙ sym (machine-item (o .edition) (o .items) i) ∙ ap (λ S. itemAt S i) (sym (o .sheet-is)),
+      )
 
   offset-located : (o : OpensAs s) → getD offsets i 0 ≡ placedAt (o .items) i .offset
   unfolding Located

@@ -7,10 +7,9 @@ use mathlib.Core.Logic.{_↔_}
 use Prim.Native.Nat.{ℕ, zero, suc, _+_, _*_, _/_, _%_, _-_, _≤_, _<_}
 use native.Mathlib.Omega.{arith}
 use native.Mathlib.Numerals.{add-one}
-use native.Mathlib.Decide.{decEq}
 use lib.Dec.{eqb}
-use lib.ListN.{length, getD, take, drop, set, length-set, length-take}
-use lib.Seq.{take-suc, take-suc-set, take-all, drop-all, drop-cons, getD-take, length-take-le}
+use lib.ListN.{length, getD, take, drop, set, length-set, length-take, drop-of-length-le}
+use lib.Seq.{take-suc, take-suc-set, take-all, drop-cons, getD-take, length-take-le}
 use borrow.Author.Tests.{eqb-true, eqb-false, eq-eqb, ne-eqb}
 use Rattle.field.specs.Field.{le16At}
 use Rattle.sheet.specs.Read.{Placed}
@@ -145,9 +144,26 @@ pub compared-done : (index offsets : List ℕ) (n k : ℕ) → k ≡ n → n ≤
 unfolding offsetBytes sameBytes
 compared-done index offsets n k e fits size inv =
     let m : length (take n offsets) ≡ n = length-take-le n offsets fits in
-    sym (inv ∙ ap₂ (λ x y. sameBytes x (offsetBytes y)) (drop-all (4 * k) index (omega arith)) (drop-all k (take n offsets) (omega arith)))
+    sym (inv ∙ ap₂ (λ x y. sameBytes x (offsetBytes y)) (drop-of-length-le index {i = 4 * k} (omega arith)) (drop-of-length-le (take n offsets) {i = k} (omega arith)))
 
 -- Four bytes compared as one number.
+split : (n : ℕ) → n % 256 + 256 * (n / 256) ≡ n
+split n = omega arith
+
+join : (o m q₁ q₂ q₃ q₄ r₀ r₁ r₂ r₃ : ℕ) → r₀ + 256 * q₁ ≡ o → r₁ + 256 * q₂ ≡ q₁ → r₂ + 256 * q₃ ≡ q₂ → r₃ + 256 * q₄ ≡ q₃
+    → m + 4294967296 * q₄ ≡ o → m ≡ r₀ + 256 * r₁ + 65536 * (r₂ + 256 * r₃)
+join o m q₁ q₂ q₃ q₄ r₀ r₁ r₂ r₃ e₀ e₁ e₂ e₃ e = omega arith
+
+parts : (o : ℕ) → o % 4294967296 ≡ o % 256 + 256 * (o / 256 % 256) + 65536 * (o / 65_536 % 256 + 256 * (o / 16_777_216 % 256))
+parts o =
+    let two : o / 256 / 256 ≡ o / 65_536 = omega arith in
+    let three : o / 65_536 / 256 ≡ o / 16_777_216 = omega arith in
+    let four : o / 16_777_216 / 256 ≡ o / 4294967296 = omega arith in
+    let e₁ : o / 256 % 256 + 256 * (o / 65_536) ≡ o / 256 = omega (arith, split (o / 256)) in
+    let e₂ : o / 65_536 % 256 + 256 * (o / 16_777_216) ≡ o / 65_536 = omega (arith, split (o / 65_536)) in
+    let e₃ : o / 16_777_216 % 256 + 256 * (o / 4294967296) ≡ o / 16_777_216 = omega (arith, split (o / 16_777_216)) in
+    join o (o % 4294967296) (o / 256) (o / 65_536) (o / 16_777_216) (o / 4294967296) (o % 256) (o / 256 % 256) (o / 65_536 % 256) (o / 16_777_216 % 256) (split o) e₁ e₂ e₃ (omega arith)
+
 module _ (a b c d o : ℕ) (ha : a < 256) (hb : b < 256) (hc : c < 256) (hd : d < 256) where
   abbrev number : ℕ
   number = a + 256 * b + 65536 * (c + 256 * d)
@@ -157,14 +173,11 @@ module _ (a b c d o : ℕ) (ha : a < 256) (hb : b < 256) (hc : c < 256) (hd : d 
       → (a ≡ x) × (b ≡ y) × (c ≡ z) × (d ≡ w)
   digits x y z w hx hy hz hw e = (omega arith, omega arith, omega arith, omega arith)
 
-  parts : o % 4294967296 ≡ o % 256 + 256 * (o / 256 % 256) + 65536 * (o / 65_536 % 256 + 256 * (o / 16_777_216 % 256))
-  parts = omega arith
-
   number-same : number ≡ o % 4294967296 → true ≡ sameBytes (a ∷ b ∷ c ∷ d ∷ []) (bytes32 o)
   unfolding sameBytes
   number-same e =
-      let q = digits (o % 256) (o / 256 % 256) (o / 65_536 % 256) (o / 16_777_216 % 256) (omega arith) (omega arith) (omega arith) (omega arith) (e ∙ parts) in
-      rw (eq-eqb _ _ (q .0), eq-eqb _ _ (q .1 .0), eq-eqb _ _ (q .1 .1 .0), eq-eqb _ _ (q .1 .1 .1))
+      let q = digits (o % 256) (o / 256 % 256) (o / 65_536 % 256) (o / 16_777_216 % 256) (omega arith) (omega arith) (omega arith) (omega arith) (e ∙ parts o) in
+      rw (eq-eqb _ _ (q .0), eq-eqb _ _ (q .1), eq-eqb _ _ (q .2), eq-eqb _ _ (q .3))
 
   number-back : sameBytes (a ∷ b ∷ c ∷ d ∷ []) (bytes32 o) ≡ true → number ≡ o % 4294967296
   number-back e =
@@ -173,7 +186,7 @@ module _ (a b c d o : ℕ) (ha : a < 256) (hb : b < 256) (hc : c < 256) (hd : d 
       let qb : b ≡ o / 256 % 256 = cc in
       let qc : c ≡ o / 65_536 % 256 = cc in
       let qd : d ≡ o / 16_777_216 % 256 = cc in
-      omega (arith, parts)
+      omega (arith, parts o)
 
   pub number-compared : eqb number (o % 4294967296) ≡ sameBytes (a ∷ b ∷ c ∷ d ∷ []) (bytes32 o)
   number-compared = go (eqb number (o % 4294967296)) refl (sameBytes (a ∷ b ∷ c ∷ d ∷ []) (bytes32 o)) refl

@@ -71,11 +71,7 @@ pub fn parent_count(s: &[u8], at: usize) -> usize
     requires { ⌜ ItemField (now s) at ⌝ }
     ensures { λ r. ⌜ CountRead (fieldItem (now (s .entry)) at) r ⌝ }
 {
-    if s[at] == FIGURE {
-        wide(s[at + 6])
-    } else {
-        0
-    }
+    if s[at] == FIGURE { wide(s[at + 6]) } else { 0 }
 }
 
 pub fn parent(s: &[u8], at: usize, k: usize) -> usize

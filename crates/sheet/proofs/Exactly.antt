@@ -1,27 +1,25 @@
 -- A sheet opens exactly if it is the written form of a layout within the limits, and there is only one such layout. Assumes nothing.
 use mathlib.Core.Path.{_≡_, refl, sym, ap, ap₂, _∙_}
-use mathlib.Core.Bool.{Bool, true, false, cond, not, _&&_, _||_}
+use mathlib.Core.Bool.{Bool, true, false, not, _&&_}
 use mathlib.Core.List.{List, [], _∷_, _++_, map, append-assoc, append-nil}
 use mathlib.Core.Logic.{_↔_}
-use Prim.Native.Nat.{ℕ, zero, suc, _+_, _*_, _/_, _%_, _≤_, _<_}
+use Prim.Native.Nat.{ℕ, zero, suc, _+_, _<_}
 use native.Mathlib.Omega.{arith}
 use native.Mathlib.Decide.{decLt}
-use native.Mathlib.Nat.{zero-add, suc-add, add-zero, add-suc}
+use native.Mathlib.Nat.{zero-add, add-zero}
 use lib.Dec.{eqb, leb, ltb}
-use lib.ListN.{length, getD, take, drop, length-append, length-take, length-drop, length-map, take-append-drop, List·getD-map, List·getD-eq-default}
-use lib.Seq.{take-at, drop-at, drop-drop, drop-append-add, take-append-seam, take-length, drop-length, take-nil, getD-take, getD-drop}
-use borrow.Author.Tests.{eqb-true, leb-true, ltb-true, ltb-false, lt-ltb, le-ltb, le-leb, not-true, not-false, eq-eqb}
-use Rattle.field.specs.Field.{cutAt, le16, le16At, Bytes, fieldBytes}
-use Rattle.field.specs.declared.Cut.{Cut}
-use Rattle.field.specs.declared.Cut.the-variants.{Field, Short, Absent}
-use Rattle.field.proofs.Cutting.{FieldAt, field-iff, cut-fieldBytes, cut-back-bytes, content-length, le16-of, le16-low, le16-high}
-use Rattle.circuit.specs.Calls.{Test, test, firstCause}
-use Rattle.sheet.specs.Layout.{LayoutItem, entryField, figureField, Layout, headTag, entryTag, figureTag, lastTag, editionKnown, countAllowed, levelLimit, keepAllowed, spreadAllowed, ruleAllowed, nameAllowed, all, highest}
-use Rattle.sheet.specs.Read.{contentAt, editionIn, countIn, ruleIn, keepIn, spreadIn, parentCountIn, parentsIn, nameIn, itemIn, Placed, placed, levelOf, itemLevel, lengthOrName, ruleWrong, parentWrong, levelWrong, itemTests, judge, Scan, going, stopped, placeItem, headNext, scan, headContent, SheetRead, opens, refused, readSheet, layoutOf}
+use lib.ListN.{length, getD, take, drop, length-append, length-take, length-map, List·getD-map, List·getD-eq-default}
+use lib.Seq.{take-at, drop-append-add, take-append-seam, take-length, getD-take, getD-drop}
+use borrow.Author.Tests.{eqb-true, leb-true, ltb-false, le-ltb, le-leb, not-false}
+use Rattle.field.specs.Field.{cutAt, Bytes, fieldBytes}
+use Rattle.field.specs.declared.Cut.the-variants.{Field}
+use Rattle.field.proofs.Cutting.{FieldAt, field-iff, cut-fieldBytes, cut-back-bytes, content-length, le16-of}
+use Rattle.sheet.specs.Layout.{LayoutItem, entryField, figureField, Layout, headTag, figureTag, lastTag, editionKnown, countAllowed, levelLimit, keepAllowed, spreadAllowed, ruleAllowed, nameAllowed, all}
+use Rattle.sheet.specs.Read.{contentAt, editionIn, countIn, ruleIn, keepIn, spreadIn, parentCountIn, parentsIn, nameIn, itemIn, Placed, placed, levelOf, itemLevel, lengthOrName, ruleWrong, parentWrong, levelWrong, going, placeItem, headNext, scan, headContent, opens, readSheet, layoutOf}
 use Rattle.sheet.specs.Write.{bytes16, concat, itemBytes, writeSheet, levelAfter, itemWithin, itemsWithin, within}
 use Rattle.sheet.specs.Places.{placesFrom, places, offsetWritten}
-use Rattle.sheet.proofs.Scan.{placedAt, Passes, passes, passes-back, ItemRead, Extended, scan-extended, scan-length, scan-within, Opened, HeadRead, opened, opens-back, and-left, and-right, and-both, map-append}
-use Rattle.sheet.proofs.Items.{tagOf, contentOf, itemBytes-field, item-back, item-forth, concat-append, concat-one, figure-parts, FigureParts, name-back, pair-forth}
+use Rattle.sheet.proofs.Scan.{placedAt, Passes, passes, passes-back, ItemRead, scan-extended, scan-length, opened, opens-back, and-left, and-right, and-both, map-append}
+use Rattle.sheet.proofs.Items.{tagOf, contentOf, itemBytes-field, item-back, item-forth, concat-append, concat-one, figure-parts, name-back, pair-forth}
 
 -- Levels by the items read and by the list of levels are the same.
 
@@ -32,13 +30,13 @@ level-same : (ps : List Placed) (p : ℕ) → getD (levels ps) p 0 ≡ levelOf p
 unfolding levels
 level-same ps p = List·getD-map (λ q. q .level) ps p (placed 0 (entryField []) 0)
 
-level-after : (ps : List Placed) (it : LayoutItem) → levelAfter (levels ps) it ≡ itemLevel ps it
+pub level-after : (ps : List Placed) (it : LayoutItem) → levelAfter (levels ps) it ≡ itemLevel ps it
 level-after ps (entryField name) = refl
 level-after ps (figureField rule keep spread parents name) = simp level-same
 
 -- An item within the limits passes the tests of its field, and the other way round.
 
-and-four : (a b c d : Bool) → (a && b && c && d) ≡ true → (a ≡ true) × (b ≡ true) × (c ≡ true) × (d ≡ true)
+pub and-four : (a b c d : Bool) → (a && b && c && d) ≡ true → (a ≡ true) × (b ≡ true) × (c ≡ true) × (d ≡ true)
 and-four true true true true e = (refl, refl, refl, refl)
 and-four true true true false e = let z : _≡_ {A = ℕ} 0 1 = cc in absurd (omega arith)
 and-four true true false d e = let z : _≡_ {A = ℕ} 0 1 = cc in absurd (omega arith)
@@ -132,7 +130,7 @@ scan-one s pre post edition k ps it es e w =
     let m : length pre + 3 + length content ≡ length pre + length (itemBytes it) = omega arith in
     rw (e, c, d, f, item-back it, m)
 
-levels-snoc : (at : ℕ) (ps : List Placed) (it : LayoutItem) → levels (placeItem at ps it) ≡ levels ps ++ (levelAfter (levels ps) it ∷ [])
+pub levels-snoc : (at : ℕ) (ps : List Placed) (it : LayoutItem) → levels (placeItem at ps it) ≡ levels ps ++ (levelAfter (levels ps) it ∷ [])
 unfolding levels
 levels-snoc at ps it =
     map-append (λ p. p .level) ps (placed at it (itemLevel ps it) ∷ []) ∙ ap (λ v. levels ps ++ (v ∷ [])) (sym (level-after ps it))
@@ -162,12 +160,12 @@ scan-more s pre post edition k ps (it ∷ its) es e w =
     append-assoc ps (placed (length pre) it (itemLevel ps it) ∷ []) more ∙ ap (λ v. ps ++ (placed (length pre) it v ∷ more)) level in
     rw (k′, l, ← joined, ← ls, ← n) ih
 
-scan-none : (s : List ℕ) (edition : ℕ) → scan s edition 0 ≡ going headNext []
+pub scan-none : (s : List ℕ) (edition : ℕ) → scan s edition 0 ≡ going headNext []
 unfolding scan
 scan-none s edition = refl
 
 -- The parts of what is within the limits.
-within-parts : (l : Layout) → within l ≡ true
+pub within-parts : (l : Layout) → within l ≡ true
     → (editionKnown (l .edition) ≡ true) × (countAllowed (l .edition) (length (l .items)) ≡ true) × (itemsWithin (l .edition) [] (l .items) ≡ true)
 unfolding within
 within-parts l w =
@@ -287,7 +285,9 @@ items-snoc at ps it = map-append (λ p. p .item) ps (placed at it (itemLevel ps 
 
 bytes-snoc : (its : List LayoutItem) (it : LayoutItem) → concat (map itemBytes (its ++ (it ∷ []))) ≡ concat (map itemBytes its) ++ itemBytes it
 bytes-snoc its it =
-    ap concat (map-append itemBytes its (it ∷ [])) ∙ concat-append (map itemBytes its) (itemBytes it ∷ []) ∙ ap (λ r. concat (map itemBytes its) ++ r) (concat-one (itemBytes it))
+    ap concat (map-append itemBytes its (it ∷ []))
+    ∙ concat-append (map itemBytes its) (itemBytes it ∷ [])
+    ∙ ap (λ r. concat (map itemBytes its) ++ r) (concat-one (itemBytes it))
 
 -- what was read of a field is written as that field
 read-written : (s : List ℕ) (edition at next : ℕ) (ps : List Placed) (it : LayoutItem) → Bytes s → (r : ItemRead s edition ps at it next)

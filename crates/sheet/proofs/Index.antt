@@ -1,26 +1,25 @@
 -- The index of a sheet that opens: its length, the offset that is read back from each entry, and that the offsets fit: such a
 -- sheet has at most 7 + 1,024 × 55 + 3 bytes. Assumes nothing.
-use mathlib.Core.Path.{_≡_, refl, sym, ap, ap₂, _∙_}
-use mathlib.Core.Bool.{Bool, true, false, cond, not, _&&_, _||_}
-use mathlib.Core.List.{List, [], _∷_, _++_, map, append-assoc, append-nil}
+use mathlib.Core.Path.{_≡_, refl, ap, _∙_}
+use mathlib.Core.Bool.{Bool, true, false, cond, _&&_}
+use mathlib.Core.List.{List, [], _∷_, _++_}
 use mathlib.Core.Option.{Option, none, some}
 use Prim.Native.Nat.{ℕ, zero, suc, _+_, _*_, _/_, _%_, _≤_, _<_}
 use native.Mathlib.Omega.{arith}
-use lib.Dec.{eqb, leb, ltb}
-use lib.ListN.{length, getD, take, drop, length-append, length-map}
+use lib.Dec.{eqb, leb}
+use lib.ListN.{length, getD}
 use lib.Seq.{getD-append-add}
 use borrow.Author.Tests.{eqb-true, leb-true, not-false}
-use Rattle.field.specs.Field.{cutAt}
-use Rattle.field.proofs.Cutting.{FieldAt, field-iff, field-onward, content-length}
+use Rattle.field.specs.Field.{Bytes}
+use Rattle.field.proofs.Cutting.{field-iff, content-length}
 use Rattle.circuit.specs.Rules.{Operation, sum, difference, smallest, largest, share, choice, count, atLeast, operationOf, allowed, coded, oneOrMore, maxParents}
 use Rattle.circuit.specs.Rules.{countAllowed as parentsAllowed}
-use Rattle.circuit.specs.Calls.{firstCause}
-use Rattle.sheet.specs.Layout.{LayoutItem, entryField, figureField, headTag, entryTag, figureTag, lastTag, keepAllowed, spreadAllowed, ruleAllowed, isSome, nameAllowed, nameLimit}
-use Rattle.sheet.specs.Read.{contentAt, countIn, ruleIn, keepIn, spreadIn, parentCountIn, parentsIn, nameIn, itemIn, lengthOrName, ruleWrong, Placed, placed, going, headNext, scan, headContent, opens, readSheet}
+use Rattle.sheet.specs.Layout.{figureField, figureTag, lastTag, keepAllowed, spreadAllowed, ruleAllowed, isSome, nameLimit}
+use Rattle.sheet.specs.Read.{contentAt, countIn, ruleIn, keepIn, spreadIn, parentCountIn, parentsIn, nameIn, itemIn, lengthOrName, ruleWrong, Placed, going, headNext, scan, headContent, opens, readSheet}
 use Rattle.sheet.specs.Write.{concat}
 use Rattle.sheet.specs.Index.{indexWidth, bytes32, indexBytes, le32At}
-use Rattle.sheet.proofs.Scan.{placedAt, offsetFrom, offset-placed, Passes, passes, ItemRead, Extended, scan-extended, scan-length, scan-prefix, scan-item, scan-within, Opened, opened, opened-length, opened-count, and-left, and-right, allowed-operation}
-use Rattle.sheet.proofs.Items.{figure-parts, FigureParts, name-length, parents-count}
+use Rattle.sheet.proofs.Scan.{placedAt, offsetFrom, offset-placed, Passes, passes, scan-extended, scan-item, opened, opened-length, opened-count, and-left, and-right}
+use Rattle.sheet.proofs.Items.{figure-parts, name-length, parents-count}
 
 -- Four bytes an item.
 pub index-length : (ps : List Placed) → length (indexBytes ps) ≡ 4 * length ps
@@ -31,6 +30,15 @@ index-length (p ∷ ps) = omega (arith, index-length ps)
 pub index-width : (ps : List Placed) → length (indexBytes ps) ≡ indexWidth * length ps
 unfolding indexWidth
 index-width ps = index-length ps
+
+pub index-bytes : (ps : List Placed) → Bytes (indexBytes ps)
+unfolding indexBytes concat
+index-bytes [] i = omega arith
+index-bytes (p ∷ ps) zero = omega arith
+index-bytes (p ∷ ps) (suc zero) = omega arith
+index-bytes (p ∷ ps) (suc (suc zero)) = omega arith
+index-bytes (p ∷ ps) (suc (suc (suc zero))) = omega arith
+index-bytes (p ∷ ps) (suc (suc (suc (suc i)))) = index-bytes ps i
 
 -- the number that was written in four bytes
 digits : (n a b c r₀ r₁ r₂ : ℕ) → r₀ + 256 * a ≡ n → r₁ + 256 * b ≡ a → r₂ + 256 * c ≡ b → r₀ + 256 * r₁ + 65_536 * r₂ + 16_777_216 * c ≡ n

@@ -1,18 +1,17 @@
 -- An item and the field that it is written as: the item is read back from the field that was written, and what is read from a
 -- field is written as that field. Assumes nothing.
 use mathlib.Core.Path.{_≡_, refl, sym, ap, ap₂, _∙_}
-use mathlib.Core.Bool.{Bool, true, false, cond, not, _&&_, _||_}
+use mathlib.Core.Bool.{Bool, true, false, _&&_, _||_}
 use mathlib.Core.List.{List, [], _∷_, _++_, map, append-assoc}
 use Prim.Native.Nat.{ℕ, zero, suc, _+_, _*_, _/_, _%_, _≤_, _<_}
 use native.Mathlib.Omega.{arith}
-use native.Mathlib.Numerals.{add-one}
 use lib.Dec.{eqb, leb, ltb}
-use lib.ListN.{length, getD, take, drop, length-append, length-take, length-drop, length-map, take-append-drop}
-use lib.Seq.{take-suc, drop-cons, drop-drop, drop-at, take-all, take-nil, getD-append-add, getD-drop, drop-append-add}
-use borrow.Author.Tests.{eqb-true, eqb-false, leb-true, ltb-true, ltb-false, lt-ltb, le-ltb, not-true, not-false, eq-eqb, ne-eqb}
-use Rattle.field.specs.Field.{le16, le16At, Bytes, fieldBytes}
+use lib.ListN.{length, getD, take, drop, length-append, length-drop, take-append-drop}
+use lib.Seq.{take-suc, drop-cons, drop-drop, drop-at, take-all, getD-append-add, getD-drop, drop-append-add}
+use borrow.Author.Tests.{eqb-true, leb-true, ltb-false, not-false}
+use Rattle.field.specs.Field.{le16, Bytes, fieldBytes}
 use Rattle.field.proofs.Cutting.{le16-of, le16-low, le16-high}
-use Rattle.sheet.specs.Layout.{LayoutItem, entryField, figureField, headTag, entryTag, figureTag, lastTag, nameAllowed, nameLimit, all}
+use Rattle.sheet.specs.Layout.{LayoutItem, entryField, figureField, entryTag, figureTag, nameAllowed, nameLimit, all}
 use Rattle.sheet.specs.Read.{ruleIn, keepIn, spreadIn, parentCountIn, parentIn, parentsIn, nameIn, itemIn, lengthOrName}
 use Rattle.sheet.specs.Write.{bytes16, concat, itemBytes}
 use Rattle.sheet.proofs.Scan.{map-append, and-left, and-right}

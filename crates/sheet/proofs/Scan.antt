@@ -1,28 +1,28 @@
 -- What a scan of the items says when it goes on: of each item the field that was cut, its item, its level and that each of its
 -- tests fails; and that a shorter scan is a prefix. What a sheet that opens says of the machine's sheet. Assumes nothing.
 use mathlib.Core.Path.{_≡_, refl, sym, ap, ap₂, _∙_}
-use mathlib.Core.Bool.{Bool, true, false, cond, not, _&&_, _||_}
+use mathlib.Core.Bool.{Bool, true, false, cond, _&&_, _||_}
 use mathlib.Core.List.{List, [], _∷_, _++_, map}
-use mathlib.Core.Logic.{_⊎_, inl, inr, ⊎-elim, _↔_}
+use mathlib.Core.Logic.{inl, inr}
 use mathlib.Core.Option.{Option, none, some}
 use Prim.Native.Nat.{ℕ, zero, suc, _+_, _≤_, _<_}
 use native.Mathlib.Omega.{arith}
 use native.Mathlib.Decide.{decLe, decLt}
 use native.Mathlib.Nat.{zero-add, suc-add}
 use lib.Dec.{eqb, leb, ltb}
-use lib.ListN.{length, getD, take, drop, length-append, length-map, List·getD-map, List·getD-append, List·getD-eq-default}
-use lib.Seq.{length-take-le, take-append-le, take-append-seam, take-length, take-all, getD-append-seam, getD-at, getD-take}
-use borrow.Author.Tests.{eqb-true, eqb-false, leb-true, ltb-true, ltb-false, not-true, not-false, eq-eqb, le-ltb}
-use Rattle.field.specs.Field.{cutAt, le16At, Bytes}
+use lib.ListN.{length, getD, take, length-append, length-map, List·getD-map, List·getD-eq-default}
+use lib.Seq.{length-take-le, take-append-le, take-all, getD-at, getD-take}
+use borrow.Author.Tests.{eqb-true, leb-true, ltb-true, ltb-false, not-false, eq-eqb, le-ltb}
+use Rattle.field.specs.Field.{cutAt}
 use Rattle.field.specs.declared.Cut.{Cut}
 use Rattle.field.specs.declared.Cut.the-variants.{Field, Short, Absent}
-use Rattle.field.proofs.Cutting.{FieldAt, field-iff, field-onward, content-length}
+use Rattle.field.proofs.Cutting.{field-iff, content-length}
 use Rattle.circuit.specs.Calls.{Test, test, firstCause}
 use Rattle.circuit.specs.Circuit.{Listed}
 use Rattle.circuit.specs.Rules.{Operation, operationOf}
-use Rattle.circuit.specs.Sheet.{Item, entry, figure, itemAt, parentsOf, Ordered}
-use Rattle.sheet.specs.Layout.{LayoutItem, entryField, figureField, Layout, headTag, entryTag, figureTag, lastTag, editionKnown, countAllowed, levelLimit, keepAllowed, spreadAllowed, ruleAllowed, nameAllowed, all, highest, itemLimit, machineItem, machineSheet, operationOr, spreadMeant, isSome}
-use Rattle.sheet.specs.Read.{contentAt, editionIn, countIn, itemIn, Placed, placed, levelOf, itemLevel, lengthOrName, ruleWrong, parentWrong, levelWrong, headTests, itemTests, lastTests, judge, Scan, going, stopped, placeItem, placeField, goOn, scanItem, headNext, scan, afterLast, scanEnd, scanLast, headContent, scanSheet, SheetRead, opens, refused, conclude, readSheet, layoutOf}
+use Rattle.circuit.specs.Sheet.{figure, itemAt, parentsOf, Ordered}
+use Rattle.sheet.specs.Layout.{LayoutItem, entryField, figureField, headTag, entryTag, figureTag, lastTag, editionKnown, countAllowed, levelLimit, keepAllowed, spreadAllowed, ruleAllowed, all, itemLimit, machineItem, machineSheet, spreadMeant, isSome}
+use Rattle.sheet.specs.Read.{contentAt, editionIn, countIn, itemIn, Placed, placed, itemLevel, lengthOrName, ruleWrong, parentWrong, levelWrong, headTests, itemTests, lastTests, judge, Scan, going, stopped, placeItem, placeField, goOn, scanItem, headNext, scan, afterLast, scanEnd, scanLast, headContent, scanSheet, opens, conclude, readSheet, layoutOf}
 
 -- Lists of tests.
 
@@ -176,6 +176,14 @@ module _ (s : List ℕ) (edition : ℕ) where
       let o : placedAt ps j ≡ one = sym g ∙ ap (λ r. placedAt r j) (x .placed-is) ∙ f in
       let i : placedAt ps j .item ≡ x .it = ap (λ p. p .item) o in
       record { read = rw (← l, ← b, i) (x .read); level-is = rw (o, ← l) }
+
+-- offsets rise by a field's three bytes at least
+pub scan-rises : (s : List ℕ) (edition k at : ℕ) (ps : List Placed) → scan s edition k ≡ going at ps → (j : ℕ) → j < k
+    → offsetFrom at ps j + 3 ≤ offsetFrom at ps (suc j)
+scan-rises s edition k at ps e j h =
+    let r = scan-item s edition k at ps e j h .read in
+    let f = field-iff s (offsetFrom at ps j) (r .tag) (r .start) (r .len) (offsetFrom at ps (suc j)) .0 (r .whole) in
+    omega arith
 
 -- Where a scan stopped: at an item whose field was judged at fault, after items that were read.
 pub record Faulted (s : List ℕ) (edition n number offset : ℕ) : Type 0 where
@@ -478,10 +486,12 @@ module _ (s : List ℕ) (edition : ℕ) (ps : List Placed) (e : readSheet s ≡ 
   -- a figure's operation is that of its rule and parent count
   pub opened-operation : (j : ℕ) → j < length ps → (rule keep spread : ℕ) (parents name : List ℕ)
       → placedAt ps j .item ≡ figureField rule keep spread parents name
-      → (op : Operation) × (operationOf rule (length parents) ≡ some op) × (itemAt (machineSheet (layoutOf edition ps)) j ≡ figure op (eqb keep 1) (spreadMeant spread) parents)
+      → (op : Operation) × (operationOf rule (length parents) ≡ some op)
+      × (itemAt (machineSheet (layoutOf edition ps)) j ≡ figure op (eqb keep 1) (spreadMeant spread) parents)
   opened-operation j h rule keep spread parents name q =
       let f : ruleWrong edition (figureField rule keep spread parents name) ≡ false = rw q at (opened-fits j h .rule-fits) in
-      let r = and-left (ruleAllowed rule (length parents)) (keepAllowed keep) (and-left (ruleAllowed rule (length parents) && keepAllowed keep) (spreadAllowed edition spread) (not-false _ f)) in
+      let two = and-left (ruleAllowed rule (length parents) && keepAllowed keep) (spreadAllowed edition spread) (not-false _ f) in
+      let r = and-left (ruleAllowed rule (length parents)) (keepAllowed keep) two in
       let a = allowed-operation rule (length parents) r in
       let m = machine-figure rule keep spread parents name (a .0) (a .1) in
       (a .0, a .1, machine-item edition ps j ∙ ap machineItem q ∙ m)

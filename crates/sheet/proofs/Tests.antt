@@ -1,23 +1,22 @@
 -- Each test of the reader says what its row of the table says. Assumes nothing.
-use mathlib.Core.Path.{_≡_, refl, sym, ap, ap₂, _∙_, subst}
+use mathlib.Core.Path.{_≡_, refl, ap, subst}
 use mathlib.Core.Bool.{Bool, true, false, cond, not, _&&_, _||_}
-use mathlib.Core.List.{List, [], _∷_, _++_, map}
+use mathlib.Core.List.{List, [], _∷_, _++_}
 use mathlib.Core.Logic.{_⊎_, inl, inr, ⊎-elim}
 use mathlib.Core.Option.{Option, none, some}
 use Prim.Native.Nat.{ℕ, zero, suc, _+_, _*_, _-_, _≤_, _<_}
 use native.Mathlib.Omega.{arith}
-use native.Mathlib.Decide.{decLe, decLt}
+use native.Mathlib.Decide.{ℕ-discrete}
 use lib.Dec.{eqb, leb, ltb}
-use lib.ListN.{length, getD, take, drop, length-drop}
-use borrow.Author.Tests.{eqb-true, eqb-false, leb-true, leb-false, ltb-true, ltb-false, lt-ltb, le-ltb, le-leb, lt-leb, eq-eqb, ne-eqb, not-true, not-false}
+use lib.ListN.{length, length-drop}
+use borrow.Author.Tests.{eqb-true, eqb-false, leb-true, leb-false, ltb-true, ltb-false, eq-eqb, ne-eqb}
 use Rattle.circuit.specs.Circuit.{Listed}
 use Rattle.circuit.specs.Rules.{Operation, sum, difference, smallest, largest, share, choice, count, atLeast, operationOf, allowed, coded, oneOrMore, maxParents}
 use Rattle.circuit.specs.Rules.{countAllowed as parentsAllowed}
-use Rattle.sheet.specs.Layout.{LayoutItem, entryField, figureField, headTag, entryTag, figureTag, lastTag, editionKnown, countAllowed, itemLimit, levelLimit, keepAllowed, spreadAllowed, ruleAllowed, isSome, nameAllowed, nameByte, nameLimit, all}
-use Rattle.sheet.specs.Read.{ruleIn, keepIn, spreadIn, parentCountIn, parentsIn, nameIn, itemIn, lengthOrName, ruleWrong, parentWrong}
-use Rattle.sheet.specs.Causes.{NotAName, BadByte, WrongItemLength, entryName, figureUnder, figureRest, figureName, RuleTakes, sumTakes, differenceTakes, smallestTakes, largestTakes, shareTakes, choiceTakes, countTakes, atLeastTakes, WrongFigure}
-use Rattle.sheet.proofs.Scan.{and-left, and-right, and-both, all-listed}
-use Rattle.sheet.proofs.Items.{parents-count, or-left, or-right}
+use Rattle.sheet.specs.Layout.{LayoutItem, entryField, figureField, figureTag, editionKnown, countAllowed, itemLimit, keepAllowed, spreadAllowed, ruleAllowed, isSome, nameAllowed, nameByte, nameLimit, all}
+use Rattle.sheet.specs.Read.{ruleIn, keepIn, spreadIn, parentCountIn, parentIn, parentsIn, nameIn, itemIn, lengthOrName, ruleWrong, parentWrong}
+use Rattle.sheet.specs.Causes.{NotAName, BadByte, WrongItemLength, entryName, figureUnder, figureRest, figureName, RuleTakes, sumTakes, differenceTakes, smallestTakes, largestTakes, shareTakes, choiceTakes, countTakes, atLeastTakes, WrongFigure, HighParent}
+use Rattle.sheet.proofs.Items.{parents-count}
 
 -- `Tells P b`: the test's value b says whether P holds
 pub data Tells (P : Type 0) : Bool → Type 0 where
@@ -218,7 +217,8 @@ module _ (code p : ℕ) where
       go true (holds e) = tells-allowed op (f e)
       go false (fails n) = g n
 
-  takes-none : ¬ (code ≡ 1) → ¬ (code ≡ 2) → ¬ (code ≡ 3) → ¬ (code ≡ 4) → ¬ (code ≡ 5) → ¬ (code ≡ 6) → ¬ (code ≡ 7) → ¬ (code ≡ 8) → ¬ RuleTakes code p
+  takes-none : ¬ (code ≡ 1) → ¬ (code ≡ 2) → ¬ (code ≡ 3) → ¬ (code ≡ 4) → ¬ (code ≡ 5) → ¬ (code ≡ 6) → ¬ (code ≡ 7) → ¬ (code ≡ 8)
+      → ¬ RuleTakes code p
   takes-none n1 n2 n3 n4 n5 n6 n7 n8 (sumTakes e l h) = n1 e
   takes-none n1 n2 n3 n4 n5 n6 n7 n8 (differenceTakes e h) = n2 e
   takes-none n1 n2 n3 n4 n5 n6 n7 n8 (smallestTakes e l h) = n3 e
@@ -262,7 +262,8 @@ tells-wrong-figure edition tag content =
     let fig : LayoutItem = figureField (ruleIn content) (keepIn content) (spreadIn content) parents (nameIn content) in
     let c = cond-entry (ruleWrong edition) (eqb tag figureTag) fig content refl in
     let n = parents-count content (parentCountIn content) in
-    let three = refutes-and (refutes-and (refutes-tells (tells-rule (ruleIn content) (parentCountIn content))) (refutes-le (keepIn content) 1)) (refutes-le (spreadIn content) 2) in
+    let rule = refutes-tells (tells-rule (ruleIn content) (parentCountIn content)) in
+    let three = refutes-and (refutes-and rule (refutes-le (keepIn content) 1)) (refutes-le (spreadIn content) 2) in
     let one : Tells (WrongFigure content) (ruleWrong edition fig) = rw n (tells-not (refutes-if forth back three)) in
     rw c (tells-of-figure tag (WrongFigure content) (ruleWrong edition fig) one)
   where
@@ -277,13 +278,55 @@ tells-wrong-figure edition tag content =
     back (inr (inr h)) = inr h
 
 -- 6: parent not below the item
-pub tells-parents : (i tag : ℕ) (content : List ℕ)
-    → Tells ((tag ≡ 3) × ((p : ℕ) × Listed p (parentsIn content (parentCountIn content)) × (i ≤ p))) (parentWrong i (itemIn tag content))
+
+listed-left : (x : ℕ) (xs ys : List ℕ) → Listed x xs → Listed x (xs ++ ys)
+listed-left x [] ys l = absurd l
+listed-left x (y ∷ xs) ys (inl e) = inl e
+listed-left x (y ∷ xs) ys (inr l) = inr (listed-left x xs ys l)
+
+listed-right : (x : ℕ) (xs ys : List ℕ) → Listed x ys → Listed x (xs ++ ys)
+listed-right x [] ys l = l
+listed-right x (y ∷ xs) ys l = inr (listed-right x xs ys l)
+
+listed-append : (x : ℕ) (xs ys : List ℕ) → Listed x (xs ++ ys) → Listed x xs ⊎ Listed x ys
+listed-append x [] ys l = inr l
+listed-append x (y ∷ xs) ys (inl e) = inl (inl e)
+listed-append x (y ∷ xs) ys (inr l) = ⊎-elim (λ a. inl (inr a)) (λ b. inr b) (listed-append x xs ys l)
+
+-- what is listed among the parents is the k-th for some k
+listed-parent : (content : List ℕ) (n p : ℕ) → Listed p (parentsIn content n) → (k : ℕ) × (k < n) × (p ≡ parentIn content k)
+unfolding parentsIn
+listed-parent content zero p l = absurd l
+listed-parent content (suc n) p l = go (listed-parent content n p) (listed-append p (parentsIn content n) (parentIn content n ∷ []) l)
+  where
+    go : (Listed p (parentsIn content n) → (k : ℕ) × (k < n) × (p ≡ parentIn content k))
+        → Listed p (parentsIn content n) ⊎ ((p ≡ parentIn content n) ⊎ ⊥) → (k : ℕ) × (k < suc n) × (p ≡ parentIn content k)
+    go ih (inl a) = let w = ih a in (w .0, omega arith, w .2)
+    go ih (inr (inl e)) = (n, omega arith, e)
+    go ih (inr (inr b)) = absurd b
+
+parent-listed : (content : List ℕ) (n k : ℕ) → k < n → Listed (parentIn content k) (parentsIn content n)
+unfolding parentsIn
+parent-listed content zero k h = absurd (omega arith)
+parent-listed content (suc n) k h = go (ℕ-discrete k n) (parent-listed content n k)
+  where
+    go : Dec (k ≡ n) → (k < n → Listed (parentIn content k) (parentsIn content n))
+        → Listed (parentIn content k) (parentsIn content n ++ (parentIn content n ∷ []))
+    go (yes e) ih = listed-right (parentIn content k) (parentsIn content n) (parentIn content n ∷ []) (inl (ap (parentIn content) e))
+    go (no e) ih = listed-left (parentIn content k) (parentsIn content n) (parentIn content n ∷ []) (ih (omega arith))
+
+pub tells-parents : (i tag : ℕ) (content : List ℕ) → Tells ((tag ≡ 3) × HighParent i content) (parentWrong i (itemIn tag content))
 unfolding itemIn
 tells-parents i tag content =
     let parents : List ℕ = parentsIn content (parentCountIn content) in
     let fig : LayoutItem = figureField (ruleIn content) (keepIn content) (spreadIn content) parents (nameIn content) in
     let c = cond-entry (parentWrong i) (eqb tag figureTag) fig content refl in
     rw c
-    (tells-of-figure tag ((p : ℕ) × Listed p parents × (i ≤ p)) (parentWrong i fig)
-    (tells-not (refutes-all (λ p. ltb p i) (λ p. i ≤ p) (λ p. refutes-lt p i) parents)))
+    (tells-of-figure tag (HighParent i content) (parentWrong i fig)
+    (tells-not (refutes-if forth back (refutes-all (λ p. ltb p i) (λ p. i ≤ p) (λ p. refutes-lt p i) parents))))
+  where
+    forth : ((p : ℕ) × Listed p (parentsIn content (parentCountIn content)) × (i ≤ p)) → HighParent i content
+    forth w = let l = listed-parent content (parentCountIn content) (w .0) (w .1) in (l .0, l .1, rw (l .2) at (w .2))
+
+    back : HighParent i content → (p : ℕ) × Listed p (parentsIn content (parentCountIn content)) × (i ≤ p)
+    back w = (parentIn content (w .0), parent-listed content (parentCountIn content) (w .0) (w .1), w .2)

@@ -1,5 +1,5 @@
 -- The causes 1 to 7 for which a sheet is turned back, row by row, as statements about the field at a place of the sheet. They
--- speak of bytes and offsets and use no reader. Assumes nothing.
+-- speak of bytes and offsets; nothing here scans the sheet or tests it. Assumes nothing.
 use Prim.Native.Nat.{ℕ, zero, suc, _+_, _*_, _≤_, _<_}
 use mathlib.Core.Path.{_≡_}
 use mathlib.Core.List.{List, [], _∷_, _++_}
@@ -7,7 +7,7 @@ use mathlib.Core.Logic.{_⊎_}
 use lib.ListN.{length, getD, take, drop}
 use Rattle.field.specs.Field.{le16At, lenAt}
 use Rattle.circuit.specs.Circuit.{Listed}
-use Rattle.sheet.specs.Read.{ruleIn, keepIn, spreadIn, parentCountIn, parentsIn, nameIn, itemIn}
+use Rattle.sheet.specs.Read.{ruleIn, keepIn, spreadIn, parentCountIn, parentIn, nameIn, itemIn}
 use Rattle.sheet.specs.Write.{levelAfter}
 
 -- A place: the first field, the field of item i, the last field, and what stands after it.
@@ -58,7 +58,7 @@ lengthOf s p = lenAt s (offsetOf s p)
 abbrev pub contentOf : List ℕ → Place → List ℕ
 contentOf s p = take (lengthOf s p) (drop (offsetOf s p + 3) s)
 
--- An entry has level 0, a figure one more than its highest parent: the levels of the first k items, in order.
+-- The levels of the first k items, in order: 0 for an entry, for a figure one more than the highest of its parents.
 unfoldable pub levelsOf : List ℕ → ℕ → List ℕ
 levelsOf s zero = []
 levelsOf s (suc k) =
@@ -84,18 +84,19 @@ WrongTagOrTrailing s (item i) = (¬ (tagOf s (item i) ≡ 2)) × (¬ (tagOf s (i
 WrongTagOrTrailing s last = ¬ (tagOf s last ≡ 4)
 WrongTagOrTrailing s after = offsetOf s after < length s
 
--- 3: length or name wrong. A name is 1 to 16 bytes, each 33 to 126.
+-- 3: length or name wrong. A name has 1 to 16 bytes, and each is 33 to 126.
 abbrev pub BadByte : List ℕ → Type 0
 BadByte name = (b : ℕ) × Listed b name × ((b < 33) ⊎ (126 < b))
 
 abbrev pub NotAName : List ℕ → Type 0
 NotAName name = (length name < 1) ⊎ (16 < length name) ⊎ BadByte name
 
--- (a figure under 4, or length - 4 - 2p not 1 to 16)
+-- an entry is its name; a figure has four bytes, p parents in two bytes each, and its name
 pub data WrongItemLength (tag len : ℕ) (content : List ℕ) : Type 0 where
   entryName : tag ≡ 2 → NotAName content → WrongItemLength tag len content
   figureUnder : tag ≡ 3 → len < 4 → WrongItemLength tag len content
-  figureRest : tag ≡ 3 → (len < 4 + 2 * parentCountIn content + 1) ⊎ (4 + 2 * parentCountIn content + 16 < len) → WrongItemLength tag len content
+  figureRest : tag ≡ 3 → (len < 4 + 2 * parentCountIn content + 1) ⊎ (4 + 2 * parentCountIn content + 16 < len)
+      → WrongItemLength tag len content
   figureName : tag ≡ 3 → BadByte (nameIn content) → WrongItemLength tag len content
 
 abbrev pub WrongLengthOrName : List ℕ → Place → Type 0
@@ -132,11 +133,14 @@ WrongRuleKeepSpreadOrCount s (item i) = (tagOf s (item i) ≡ 3) × WrongFigure 
 WrongRuleKeepSpreadOrCount s last = ⊥
 WrongRuleKeepSpreadOrCount s after = ⊥
 
--- 6: parent not below the item
+-- 6: parent not below the item: the k-th parent of a figure is item i itself or a higher one
+abbrev pub HighParent : ℕ → List ℕ → Type 0
+HighParent i content = (k : ℕ) × (k < parentCountIn content) × (i ≤ parentIn content k)
+
 abbrev pub ParentNotBelow : List ℕ → Place → Type 0
 ParentNotBelow s first = ⊥
 ParentNotBelow s (item i) =
-    (tagOf s (item i) ≡ 3) × ((p : ℕ) × Listed p (parentsIn (contentOf s (item i)) (parentCountIn (contentOf s (item i)))) × (i ≤ p))
+    (tagOf s (item i) ≡ 3) × HighParent i (contentOf s (item i))
 ParentNotBelow s last = ⊥
 ParentNotBelow s after = ⊥
 
@@ -165,8 +169,8 @@ Sound s p = (k : ℕ) → ¬ CauseAt s p k
 abbrev pub Faultless : List ℕ → Type 0
 Faultless s = (p : Place) → InSheet s p → Sound s p
 
--- The first field at fault counts, and in it the lowest number: k is given with the offset of that field. Trailing bytes
--- have the offset where they begin.
+-- The first place with a cause, the lowest number of its causes, and the place's offset. For bytes after the last field that
+-- is where they begin.
 pub record FirstFault (s : List ℕ) (k offset : ℕ) : Type 0 where
   pub place : Place
   pub in-sheet : InSheet s place

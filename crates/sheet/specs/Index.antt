@@ -1,6 +1,6 @@
 -- The index: for each item the offset of its field, in 4 bytes. Assumes nothing.
 use Prim.Native.Nat.{ℕ, _+_, _*_, _/_, _%_}
-use mathlib.Core.List.{List, [], _∷_, _++_, map}
+use mathlib.Core.List.{List, [], _∷_, map}
 use lib.ListN.{getD}
 use Rattle.sheet.specs.Read.{Placed}
 use Rattle.sheet.specs.Write.{concat}

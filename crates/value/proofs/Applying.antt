@@ -1,21 +1,21 @@
 -- An operation applied to the parents' values. Assumes nothing.
 use Prim.Native.Nat.{ℕ, _≤_, _<_}
-use mathlib.Core.Path.{_≡_, refl, sym, ap, subst, _∙_}
 use mathlib.Core.Bool.{Bool, true, false}
 use mathlib.Core.List.{List, [], _∷_}
-use mathlib.Core.Option.{Option, none, some}
+use mathlib.Core.Option.{some}
+use mathlib.Core.Path.{_≡_, subst, _∙_}
 use native.Mathlib.Omega.{arith}
 use borrow.Author.Tests.{eqb-true, leb-true}
-use lib.Dec.{lit<, leb, eqb}
+use lib.Dec.{leb, eqb}
 use lib.IntN.{ℤ}
-use Rattle.circuit.specs.Value as circuit
-use Rattle.circuit.specs.Rules as rules
-use Rattle.circuit.specs.WellFormed.{allWellFormed}
 use Rattle.circuit.proofs.RuleLaws.{apply-wellFormed, and-right}
-use Rattle.value.specs.declared.Value.{Value}
+use Rattle.circuit.specs.Rules as rules
+use Rattle.circuit.specs.Value as circuit
+use Rattle.circuit.specs.WellFormed.{allWellFormed}
+use Rattle.value.specs.Meaning.{meaning, operationMeaning, valueAt, firstValues, allows, Applied}
 use Rattle.value.specs.declared.Operation.{Operation}
 use Rattle.value.specs.declared.Operation.the-variants.{Refused}
-use Rattle.value.specs.Meaning.{meaning, operationMeaning, valueAt, firstValues, allows, Applied}
+use Rattle.value.specs.declared.Value.{Value}
 use Rattle.value.proofs.Parents.{valueAt-wellFormed}
 
 pub up-to-sixteen : (n : ℕ) → rules.oneOrMore n ≡ true → n ≤ 16
@@ -45,7 +45,7 @@ module _ (op : Operation) (o : rules.Operation) (is : operationMeaning op ≡ so
   applied-all r e =
       record {
         result = rw (is, e);
-        formed = rw e (apply-wellFormed o (firstValues ks zs n) formed)
+        formed = rw e (apply-wellFormed o (firstValues ks zs n) formed);
       }
 
   -- the values that two arrays hold, read one by one

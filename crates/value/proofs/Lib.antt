@@ -5,3 +5,4 @@ pub mod Cases
 pub mod Shares
 pub mod Operations
 pub mod Applying
+pub mod PartsLaws

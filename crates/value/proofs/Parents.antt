@@ -1,22 +1,22 @@
 -- The parents' values in their two arrays. Assumes nothing.
 use Prim.Native.Nat.{ℕ, zero, suc, _+_, _≤_, _<_}
-use mathlib.Core.Path.{_≡_, refl, sym, subst, _∙_}
-use mathlib.Core.Bool.{Bool, true, false, cond, _&&_}
+use mathlib.Core.Bool.{true, _&&_}
 use mathlib.Core.List.{List, [], _∷_, _++_}
-use native.Mathlib.Omega.{arith}
+use mathlib.Core.Path.{_≡_, refl, sym, subst, _∙_}
 use native.Mathlib.Decide.{decLe}
 use native.Mathlib.Numerals.{add-one}
+use native.Mathlib.Omega.{arith}
 use borrow.Author.Tests.{ne-eqb}
 use lib.IntN.{ℤ, pos}
 use lib.ListN.{length, getD, set, length-append}
 use lib.Seq.{getD-set-same, getD-set-other}
 use mir.Syntax.{w64}
 use mir.Val.{SFits, toZ, ofZ}
+use Rattle.circuit.proofs.RuleLaws.{allWellFormed-snoc, and-left, and-right}
 use Rattle.circuit.specs.Value.{Value, null, out, num, wellFormed, kindOf, numberOf}
 use Rattle.circuit.specs.WellFormed.{allWellFormed}
-use Rattle.circuit.proofs.RuleLaws.{allWellFormed-snoc, and-left, and-right}
 use Rattle.value.specs.Meaning.{ofParts, valueAt, firstValues}
-use Rattle.value.proofs.Signed.{back}
+use Rattle.value.proofs.Signed.{back, read}
 
 -- a value is what its own kind and number stand for
 pub of-own-parts : (v : Value) → ofParts (kindOf v) (numberOf v) ≡ v
@@ -41,6 +41,7 @@ firstValues-wellFormed ks zs (suc n) i h e = go (decLe i n) (firstValues-wellFor
   where
     all : (allWellFormed (firstValues ks zs n) && wellFormed (valueAt ks zs n)) ≡ true
     all = sym (allWellFormed-snoc (firstValues ks zs n) (valueAt ks zs n)) ∙ e
+
     go : Dec (i ≤ n) → (i ≤ n → allWellFormed (firstValues ks zs n) ≡ true → allWellFormed (firstValues ks zs i) ≡ true) → allWellFormed (firstValues ks zs i) ≡ true
     go (yes l) ih = ih l (and-left (allWellFormed (firstValues ks zs n)) (wellFormed (valueAt ks zs n)) all)
     go (no l) ih = subst (λ (k : ℕ). allWellFormed (firstValues ks zs k) ≡ true) (sym (last i n h l)) e
@@ -60,21 +61,23 @@ pub firstValues-past : (ks : List ℕ) (zs : List ℤ) (n i k : ℕ) (z : ℤ) �
 unfolding firstValues
 firstValues-past ks zs zero i k z h = refl
 firstValues-past ks zs (suc n) i k z h =
-    simp
-    (firstValues-past ks zs n i k z (omega arith),
-    getD-set-other ks i n k 0 (λ e. omega arith),
-    getD-set-other zs i n z (pos 0) (λ e. omega arith))
+    simp (
+      firstValues-past ks zs n i k z (omega arith),
+      getD-set-other ks i n k 0 (λ e. omega arith),
+      getD-set-other zs i n z (pos 0) (λ e. omega arith),
+    )
 
 -- a value stored at n, as its kind and its number, is the last of the first n + 1
 pub firstValues-store : (ks : List ℕ) (zs : List ℤ) (n : ℕ) (v : Value) → n < length ks → n < length zs → firstValues (set ks n (kindOf v)) (set zs n (numberOf v)) (n + 1) ≡ firstValues ks zs n ++ (v ∷ [])
 unfolding firstValues
 firstValues-store ks zs n v h l =
-    rw
-    (add-one,
-    firstValues-past ks zs n n (kindOf v) (numberOf v) (omega arith),
-    getD-set-same ks n (kindOf v) 0 h,
-    getD-set-same zs n (numberOf v) (pos 0) l,
-    of-own-parts v)
+    rw (
+      add-one,
+      firstValues-past ks zs n n (kindOf v) (numberOf v) (omega arith),
+      getD-set-same ks n (kindOf v) 0 h,
+      getD-set-same zs n (numberOf v) (pos 0) l,
+      of-own-parts v,
+    )
 
 -- ---- reading one of them
 
@@ -84,5 +87,5 @@ null-at ks zs k e = rw e
 pub out-at : (ks : List ℕ) (zs : List ℤ) (k : ℕ) → getD ks k 0 ≡ 2 → out ≡ valueAt ks zs k
 out-at ks zs k e = rw e
 
-pub number-at : (ks : List ℕ) (zs : List ℤ) (k : ℕ) → (getD ks k 0 ≡ 1 → ⊥) → (getD ks k 0 ≡ 2 → ⊥) → SFits w64 (getD zs k (pos 0)) → (r : Value) → r ≡ num (toZ w64 (ofZ w64 (getD zs k (pos 0)))) → r ≡ valueAt ks zs k
+pub number-at : (ks : List ℕ) (zs : List ℤ) (k : ℕ) → (getD ks k 0 ≡ 1 → ⊥) → (getD ks k 0 ≡ 2 → ⊥) → SFits w64 (getD zs k (pos 0)) → (r : Value) → r ≡ num (read (getD zs k (pos 0))) → r ≡ valueAt ks zs k
 number-at ks zs k a b f r e = e ∙ rw (back (getD zs k (pos 0)) f, ne-eqb (getD ks k 0) 1 a, ne-eqb (getD ks k 0) 2 b)

@@ -1,10 +1,10 @@
 -- A share: the quotient by the whole in two parts, neither of which grows beyond the number that is shared, and rounding
 -- down on both sides of 0. Assumes nothing.
-use Prim.Native.Nat.{ℕ, zero, suc, _+_, _-_, _*_, _/_, _%_, _^_, _≤_, _<_}
-use mathlib.Core.Path.{_≡_, refl, sym, ap, subst, _∙_}
+use Prim.Native.Nat.{ℕ, zero, suc, _+_, _*_, _/_, _%_, _^_, _≤_, _<_}
 use mathlib.Core.Bool.{Bool, true, false, cond, _&&_}
+use mathlib.Core.Path.{_≡_, refl, sym, ap, _∙_}
+use native.Mathlib.Nat.{mul-comm, mul-assoc, add-mul, mul-le-mul-left, mul-le-mul, le-of-lt, le-trans, div-add-mod', div-mul-le-self, mod-lt, mul-add-div-right, div-lt-iff-lt-mul, suc-mul}
 use native.Mathlib.Omega.{arith}
-use native.Mathlib.Nat.{zero-add, mul-comm, mul-assoc, add-mul, add-assoc, mul-le-mul-left, mul-le-mul, le-of-lt, le-trans, div-add-mod', div-mul-le-self, mod-lt, mul-add-div-right, div-lt-iff-lt-mul, suc-mul, lt-of-lt-of-le}
 use borrow.Author.Tests.{leb-true, ltb-true, ltb-false, le-leb, lt-leb}
 use lib.Dec.{T, lit<, leb·zero}
 use lib.IntN.{ℤ, pos, negsuc, natAbs, negℤ, _-ℤ_, _*ℤ_, +ℤ-idl}
@@ -12,10 +12,10 @@ use lib.Signed.{leZ, ltZ, nonNeg}
 use mir.Syntax.{w64}
 use mir.Val.{Fits, SFits, toZ, ofZ}
 use mir.ValLaws.{toZ-pos}
-use Rattle.circuit.specs.Value as circuit
-use Rattle.circuit.specs.Rules.{floorDiv, whole, shareOf}
 use Rattle.circuit.proofs.RuleLaws.{inRange-size, neg-size}
-use Rattle.value.proofs.Signed.{sixteen-fit, fits, back}
+use Rattle.circuit.specs.Rules.{floorDiv, whole, shareOf}
+use Rattle.circuit.specs.Value as circuit
+use Rattle.value.proofs.Signed.{sixteen-fit, fits, back, read}
 
 whole-pos : 0 < whole
 unfolding whole
@@ -79,11 +79,11 @@ negative-share m k = go (suc m * k)
 -- ---- numbers that are read as unsigned
 
 -- a number that is not below 0 is its size
-pub not-below : (z : ℤ) → SFits w64 z → leZ (pos 0) z ≡ true → toZ w64 (ofZ w64 z) ≡ pos (natAbs z)
+pub not-below : (z : ℤ) → SFits w64 z → leZ (pos 0) z ≡ true → read z ≡ pos (natAbs z)
 not-below (pos n) f e = back (pos n) f
 not-below (negsuc n) f e = cc
 
-pub not-less : (z : ℤ) → SFits w64 z → ltZ (toZ w64 (ofZ w64 z)) (pos 0) ≡ false → leZ (pos 0) z ≡ true
+pub not-less : (z : ℤ) → SFits w64 z → ltZ (read z) (pos 0) ≡ false → leZ (pos 0) z ≡ true
 not-less z f e = go z (rw (back z f) at e)
   where
     go : (z : ℤ) → ltZ z (pos 0) ≡ false → leZ (pos 0) z ≡ true
@@ -91,7 +91,7 @@ not-less z f e = go z (rw (back z f) at e)
     go (negsuc n) e = cc
 
 -- 0 less a number below 0 is its size
-pub negated : (z : ℤ) → SFits w64 z → ltZ (toZ w64 (ofZ w64 z)) (pos 0) ≡ true → (pos 0 -ℤ toZ w64 (ofZ w64 z)) ≡ pos (natAbs z)
+pub negated : (z : ℤ) → SFits w64 z → ltZ (read z) (pos 0) ≡ true → (pos 0 -ℤ read z) ≡ pos (natAbs z)
 negated z f e = rw (back z f) (go z (rw (back z f) at e))
   where
     go : (z : ℤ) → ltZ z (pos 0) ≡ true → (pos 0 -ℤ z) ≡ pos (natAbs z)
@@ -126,17 +126,17 @@ parts-fit p e h = omega (arith, parts-size p e h)
 pub negative-size-fits : (x : ℤ) → circuit.inRange x ≡ true → {d : ℤ} → d ≡ pos (natAbs x) → SFits w64 d
 negative-size-fits x e q = rw q (pos-fits (natAbs x) (inRange-size x e))
 
-pub back-size : (x : ℤ) → circuit.inRange x ≡ true → {d : ℤ} → d ≡ pos (natAbs x) → toZ w64 (ofZ w64 d) ≡ pos (natAbs x)
+pub back-size : (x : ℤ) → circuit.inRange x ≡ true → {d : ℤ} → d ≡ pos (natAbs x) → read d ≡ pos (natAbs x)
 back-size x e {d} q = back d (negative-size-fits x e q) ∙ q
 
 -- ---- the share itself, r being what the unsigned quotient gave
 
 module _ (x p : ℤ) (e : circuit.inRange x ≡ true) (fx : SFits w64 x) (fp : SFits w64 p) (low : leZ (pos 0) p ≡ true) (high : leZ p (pos whole) ≡ true) where
   -- the sizes that the quotient is asked of
-  pub sizes : (z : ℤ) → z ≡ pos (natAbs x) → (natAbs z ≤ circuit.limit) × (natAbs (toZ w64 (ofZ w64 p)) ≤ whole)
+  pub sizes : (z : ℤ) → z ≡ pos (natAbs x) → (natAbs z ≤ circuit.limit) × (natAbs (read p) ≤ whole)
   sizes z q = rw (q, not-below p fp low) (inRange-size x e, parts-size p low high)
 
-  module _ (z : ℤ) (is : z ≡ pos (natAbs x)) (r c : ℕ) (l : c < whole) (q : r ≡ (natAbs z * natAbs (toZ w64 (ofZ w64 p)) + c) / whole) where
+  module _ (z : ℤ) (is : z ≡ pos (natAbs x)) (r c : ℕ) (l : c < whole) (q : r ≡ (natAbs z * natAbs (read p) + c) / whole) where
     plain : r ≡ (natAbs x * natAbs p + c) / whole
     plain = q ∙ rw (is, not-below p fp low)
 
@@ -152,7 +152,7 @@ module _ (x p : ℤ) (e : circuit.inRange x ≡ true) (fx : SFits w64 x) (fp : S
     pub negative-fits : SFits w64 (pos 0 -ℤ toZ w64 r)
     negative-fits = rw (read-back, +ℤ-idl (negℤ (pos r))) (fits (negℤ (pos r)) (omega (arith, neg-size (pos r), small)))
 
-    pub below-zero : c ≡ 9999 → ltZ (toZ w64 (ofZ w64 x)) (pos 0) ≡ true → toZ w64 (ofZ w64 (pos 0 -ℤ toZ w64 r)) ≡ floorDiv (x *ℤ p) whole
+    pub below-zero : c ≡ 9999 → ltZ (read x) (pos 0) ≡ true → read (pos 0 -ℤ toZ w64 r) ≡ floorDiv (x *ℤ p) whole
     below-zero ec n = back (pos 0 -ℤ toZ w64 r) negative-fits ∙ rw (read-back, +ℤ-idl (negℤ (pos r)), plain, ec) (go x p (rw (back x fx) at n) low)
       where
         go : (x p : ℤ) → ltZ x (pos 0) ≡ true → leZ (pos 0) p ≡ true → negℤ (pos ((natAbs x * natAbs p + 9999) / whole)) ≡ floorDiv (x *ℤ p) whole
@@ -161,7 +161,7 @@ module _ (x p : ℤ) (e : circuit.inRange x ≡ true) (fx : SFits w64 x) (fp : S
         go (pos m) (pos k) a b = absurd (omega (arith, ltb-true m 0 a))
         go (pos m) (negsuc k) a b = cc
 
-    pub from-zero : c ≡ 0 → ltZ (toZ w64 (ofZ w64 x)) (pos 0) ≡ false → toZ w64 r ≡ floorDiv (x *ℤ p) whole
+    pub from-zero : c ≡ 0 → ltZ (read x) (pos 0) ≡ false → toZ w64 r ≡ floorDiv (x *ℤ p) whole
     from-zero ec n = read-back ∙ rw (plain, ec) (go x p (not-less x fx n) low)
       where
         go : (x p : ℤ) → leZ (pos 0) x ≡ true → leZ (pos 0) p ≡ true → pos ((natAbs x * natAbs p + 0) / whole) ≡ floorDiv (x *ℤ p) whole
@@ -194,27 +194,27 @@ not-above k (pos n) e = le-leb n k (ltb-false k n e)
 not-above k (negsuc n) e = refl
 
 module _ (x p : ℤ) (f : SFits w64 p) where
-  pub parts-below : ltZ (toZ w64 (ofZ w64 p)) (pos 0) ≡ true → circuit.out ≡ shareOf x p
+  pub parts-below : ltZ (read p) (pos 0) ≡ true → circuit.out ≡ shareOf x p
   parts-below e =
       let k : leZ (pos 0) p ≡ false = less-not p (rw (back p f) at e) in
       rw k
 
-  pub parts-above : ltZ (pos whole) (toZ w64 (ofZ w64 p)) ≡ true → circuit.out ≡ shareOf x p
+  pub parts-above : ltZ (pos whole) (read p) ≡ true → circuit.out ≡ shareOf x p
   parts-above e =
       let k = above-not whole p (rw (back p f) at e) in
       share-by x p true false (k .1) (k .0)
 
-  module _ (e : circuit.inRange x ≡ true) (g : SFits w64 x) (low : ltZ (toZ w64 (ofZ w64 p)) (pos 0) ≡ false) (high : ltZ (pos whole) (toZ w64 (ofZ w64 p)) ≡ false) where
+  module _ (e : circuit.inRange x ≡ true) (g : SFits w64 x) (low : ltZ (read p) (pos 0) ≡ false) (high : ltZ (pos whole) (read p) ≡ false) where
     from-zero-parts : leZ (pos 0) p ≡ true
     from-zero-parts = not-less p f low
 
     up-to-whole : leZ p (pos whole) ≡ true
     up-to-whole = not-above whole p (rw (back p f) at high)
 
-    pub part-asks : (circuit.inRange (toZ w64 (ofZ w64 x)) ≡ true) × ((leZ (pos 0) (toZ w64 (ofZ w64 p)) ≡ true) × (leZ (toZ w64 (ofZ w64 p)) (pos whole) ≡ true))
+    pub part-asks : (circuit.inRange (read x) ≡ true) × ((leZ (pos 0) (read p) ≡ true) × (leZ (read p) (pos whole) ≡ true))
     part-asks = rw (back x g, back p f) (e, (from-zero-parts, up-to-whole))
 
-    pub part-gives : (d : ℤ) (r : circuit.Value) → SFits w64 d → d ≡ floorDiv (toZ w64 (ofZ w64 x) *ℤ toZ w64 (ofZ w64 p)) whole → r ≡ circuit.ranged (toZ w64 (ofZ w64 d)) → r ≡ shareOf x p
+    pub part-gives : (d : ℤ) (r : circuit.Value) → SFits w64 d → d ≡ floorDiv (read x *ℤ read p) whole → r ≡ circuit.ranged (read d) → r ≡ shareOf x p
     part-gives d r h ed er =
-        let k : toZ w64 (ofZ w64 d) ≡ floorDiv (x *ℤ p) whole = rw (back d h, ed, back x g, back p f) in
+        let k : read d ≡ floorDiv (x *ℤ p) whole = rw (back d h, ed, back x g, back p f) in
         er ∙ ap circuit.ranged k ∙ share-by x p true true from-zero-parts up-to-whole

@@ -1,18 +1,18 @@
 -- Signed numbers of 64 bits and the range: what fits, what is read back from the bits, and the test of the range.
 -- Assumes nothing.
-use Prim.Native.Nat.{ℕ, zero, suc, _+_, _-_, _*_, _^_, _≤_, _<_}
-use mathlib.Core.Path.{_≡_, refl, sym, ap, _∙_}
+use Prim.Native.Nat.{ℕ, zero, suc, _-_, _*_, _^_, _≤_, _<_}
 use mathlib.Core.Bool.{Bool, true, false}
+use mathlib.Core.Path.{_≡_, refl, sym, ap, _∙_}
 use native.Mathlib.Omega.{arith}
-use borrow.Author.Tests.{le-leb, lt-leb, leb-true, leb-false, eq-eqb, ne-eqb, eqb-true, eqb-false}
+use borrow.Author.Tests.{eq-eqb, ne-eqb, eqb-true, eqb-false}
 use lib.Dec.{lit<, leb, eqb, leb·zero, leb·suc-suc, leb·suc-zero}
 use lib.IntN.{ℤ, pos, negsuc, natAbs, negℤ, _+ℤ_, _-ℤ_}
-use lib.Signed.{leZ, ltZ}
+use lib.Signed.{leZ}
 use mir.Syntax.{w64}
 use mir.Val.{SFits, toZ, ofZ}
 use mir.ValLaws.{toZ-ofZ}
-use Rattle.circuit.specs.Value.{limit, inRange, sameNumber}
 use Rattle.circuit.proofs.RuleLaws.{add-size, neg-size, inRange-size}
+use Rattle.circuit.specs.Value.{limit, inRange, sameNumber}
 
 -- sixteen numbers of the range add up to a number of 64 bits
 pub sixteen-fit : 16 * limit < 2 ^ 63
@@ -26,8 +26,12 @@ fits (negsuc n) h = record { sfits = omega (arith, sixteen-fit) }
 pub inRange-fits : (z : ℤ) → inRange z ≡ true → SFits w64 z
 inRange-fits z e = fits z (omega (arith, inRange-size z e))
 
--- a number that fits is what is read back from its bits
-pub back : (z : ℤ) → SFits w64 z → toZ w64 (ofZ w64 z) ≡ z
+-- what is read back from the bits of z
+abbrev pub read : ℤ → ℤ
+read z = toZ w64 (ofZ w64 z)
+
+-- a number that fits is read back
+pub back : (z : ℤ) → SFits w64 z → read z ≡ z
 back z f = toZ-ofZ w64 z f
 
 -- ---- sums and differences

@@ -1,26 +1,26 @@
 -- The tally of a list of values: how it grows by one value, that there is room for the next, and what it says of the
 -- list's numbers. Assumes nothing.
-use Prim.Native.Nat.{ℕ, zero, suc, _+_, _*_, _≤_, _<_}
-use mathlib.Core.Path.{_≡_, refl, sym, ap, _∙_}
-use mathlib.Core.Bool.{Bool, true, false, cond, _&&_, _||_}
+use Prim.Native.Nat.{ℕ, _+_, _*_, _≤_, _<_}
+use mathlib.Core.Bool.{Bool, true, false, cond, _||_}
 use mathlib.Core.List.{List, [], _∷_, _++_}
-use native.Mathlib.Omega.{arith}
+use mathlib.Core.Path.{_≡_, refl, sym, ap, _∙_}
 use native.Mathlib.Nat.{zero-mul, suc-mul, mul-le-mul-right}
+use native.Mathlib.Omega.{arith}
 use borrow.Author.Tests.{eqb-true, ne-eqb}
 use lib.Dec.{eqb}
-use lib.IntN.{ℤ, pos, negsuc, natAbs, _+ℤ_}
+use lib.IntN.{ℤ, pos, natAbs, _+ℤ_}
 use lib.ListN.{length}
 use mir.Syntax.{w64}
 use mir.Val.{SFits, toZ}
 use mir.ValLaws.{toZ-pos}
-use Rattle.circuit.specs.Value.{Value, null, out, num, limit, inRange, wellFormed, ranged}
-use Rattle.circuit.specs.WellFormed.{allWellFormed}
-use Rattle.circuit.specs.Rules.{anyOut, numbers, ofNumbers, strict, total, least, greatest, lesser, greater, howMany}
 use Rattle.circuit.proofs.RuleLaws.{add-size, inRange-size, and-left, and-right}
-use Rattle.value.specs.declared.Tally.{Tally}
+use Rattle.circuit.specs.Rules.{anyOut, numbers, ofNumbers, strict, total, least, greatest, lesser, greater, howMany}
+use Rattle.circuit.specs.Value.{Value, null, out, num, limit, wellFormed, ranged}
+use Rattle.circuit.specs.WellFormed.{allWellFormed}
 use Rattle.value.specs.Meaning.{firstValues}
-use Rattle.value.proofs.Parents.{firstValues-length}
 use Rattle.value.specs.Tally.{Room, empty, counted, taken, takenAll}
+use Rattle.value.specs.declared.Tally.{Tally}
+use Rattle.value.proofs.Parents.{firstValues-length}
 
 -- one more value at the end
 pub takenAll-snoc : (vs : List Value) (t : Tally) (v : Value) → takenAll t (vs ++ (v ∷ [])) ≡ taken (takenAll t vs) v

@@ -1,21 +1,21 @@
 -- What the code's values, operations and answers are in the terms of the definitions. Assumes nothing.
 use Prim.Native.Nat.{ℕ, zero, suc}
-use mathlib.Core.Path.{_≡_}
 use mathlib.Core.Bool.{Bool, true, false, cond}
 use mathlib.Core.List.{List, [], _∷_, _++_}
 use mathlib.Core.Option.{Option, none, some}
+use mathlib.Core.Path.{_≡_}
 use lib.Dec.{eqb}
 use lib.IntN.{ℤ, pos}
 use lib.ListN.{getD}
-use Rattle.circuit.specs.Value as circuit
 use Rattle.circuit.specs.Rules as rules
+use Rattle.circuit.specs.Value as circuit
 use Rattle.value.specs.declared.Amount.{Amount}
 use Rattle.value.specs.declared.Amount.the-variants.{Null, Out, Number}
-use Rattle.value.specs.declared.Value.{Value}
-use Rattle.value.specs.declared.Parts.{Parts}
-use Rattle.value.specs.declared.Parts.the-variants.{Formed, Unformed}
 use Rattle.value.specs.declared.Operation.{Operation}
 use Rattle.value.specs.declared.Operation.the-variants.{Sum, Difference, Smallest, Largest, Share, Choice, Count, AtLeast, Refused}
+use Rattle.value.specs.declared.Parts.{Parts}
+use Rattle.value.specs.declared.Parts.the-variants.{Formed, Unformed}
+use Rattle.value.specs.declared.Value.{Value}
 
 abbrev pub amountMeaning : Amount → circuit.Value
 amountMeaning Null = circuit.null
@@ -49,7 +49,11 @@ operationMeaning Count = some rules.count
 operationMeaning AtLeast = some rules.atLeast
 operationMeaning Refused = none
 
--- the number under which the answer is given: 0, or refusal 5
+abbrev pub refuses : Option rules.Operation → Bool
+refuses none = true
+refuses (some op) = false
+
+-- the number of the answer: 0, or refusal 5
 abbrev pub operationNumber : Operation → ℕ
 operationNumber Sum = 0
 operationNumber Difference = 0

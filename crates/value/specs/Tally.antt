@@ -1,11 +1,11 @@
 -- What the rules for any number of parents take from their values, one value at a time. Assumes nothing.
-use Prim.Native.Nat.{ℕ, _+_, _*_, _<_, _≤_}
-use mathlib.Core.Bool.{Bool, true, false, cond}
+use Prim.Native.Nat.{_+_, _*_, _<_, _≤_}
+use mathlib.Core.Bool.{true, false, cond}
 use mathlib.Core.List.{List, [], _∷_}
 use lib.Dec.{eqb}
 use lib.IntN.{ℤ, pos, _+ℤ_, natAbs}
-use Rattle.circuit.specs.Value.{Value, null, out, num, limit}
 use Rattle.circuit.specs.Rules.{lesser, greater}
+use Rattle.circuit.specs.Value.{Value, null, out, num, limit}
 use Rattle.value.specs.declared.Tally.{Tally}
 
 -- nothing taken yet

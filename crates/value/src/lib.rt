@@ -3,12 +3,14 @@ ghost use mathlib.Core.Path.{_≡_};
 ghost use mathlib.Core.Bool.{true, _&&_, _||_};
 ghost use mathlib.Core.List.{[], _∷_};
 ghost use Prim.Native.Nat.{_≤_, _<_, _+_, _*_, _/_};
-ghost use lib.IntN.{pos, _-ℤ_, _*ℤ_};
+ghost use lib.IntN.{pos, _+ℤ_, _-ℤ_, _*ℤ_};
 ghost use lib.Signed.{leZ};
+ghost use mir.Syntax.{w64};
+ghost use mir.Val.{SFits};
 ghost use Rattle.circuit.specs.Value as circuit;
 ghost use Rattle.circuit.specs.Rules as rules;
 ghost use Rattle.circuit.specs.WellFormed.{allWellFormed};
-ghost use Rattle.value.specs.Meaning.{meaning, partsOf, partsMeaning, operationMeaning, valueAt, firstValues, allows, Applied};
+ghost use Rattle.value.specs.Meaning.{meaning, partsOf, partsMeaning, operationMeaning, refuses, valueAt, firstValues, allows, Applied};
 ghost use Rattle.value.specs.Tally.{Room, empty, counted, taken, takenAll};
 
 pub enum Amount {
@@ -228,6 +230,23 @@ pub fn operation_of(code: u8, count: usize) -> Operation
     }
 }
 
+// Whether the rule or its count of parents was refused.
+pub fn is_refused(op: Operation) -> bool
+    ensures { λ r. ⌜ r ≡ refuses (operationMeaning op) ⌝ }
+{
+    match op {
+        Operation::Sum => false,
+        Operation::Difference => false,
+        Operation::Smallest => false,
+        Operation::Largest => false,
+        Operation::Share => false,
+        Operation::Choice => false,
+        Operation::Count => false,
+        Operation::AtLeast => false,
+        Operation::Refused => true,
+    }
+}
+
 // The k-th of the parents' values, of which two arrays have the kinds and the numbers.
 pub fn value_at(kinds: &[u8; 16], numbers: &[i64; 16], k: usize) -> Value
     requires { ⌜ k < 16 ⌝ }
@@ -243,14 +262,14 @@ pub fn value_at(kinds: &[u8; 16], numbers: &[i64; 16], k: usize) -> Value
 }
 
 // What the rules for any number of parents take from their values.
-pub struct Tally {
+struct Tally {
     // whether any is OUT
-    pub out: bool,
+    out: bool,
     // how many are numbers, and of these the sum, the smallest and the largest
-    pub count: u64,
-    pub total: i64,
-    pub least: i64,
-    pub greatest: i64,
+    count: u64,
+    total: i64,
+    least: i64,
+    greatest: i64,
 }
 
 fn lesser(a: i64, b: i64) -> i64
@@ -263,6 +282,13 @@ fn greater(a: i64, b: i64) -> i64
     ensures { λ r. ⌜ r ≡ rules.greater a b ⌝ }
 {
     if a <= b { b } else { a }
+}
+
+fn plus(x: i64, y: i64) -> i64
+    requires { ⌜ SFits w64 (x +ℤ y) ⌝ }
+    ensures { λ r. ⌜ r ≡ x +ℤ y ⌝ }
+{
+    x + y
 }
 
 // One more number.
@@ -284,7 +310,7 @@ fn count_in(t: Tally, n: i64) -> Tally
             greatest: n,
         };
     }
-    let sum = total + n;
+    let sum = plus(total, n);
     let low = lesser(least, n);
     let high = greater(greatest, n);
     Tally {

@@ -1,51 +1,57 @@
+-- `value::choice` meets its contract. Assumes nothing.
 use mathlib.Core.Path.{refl}
-use Rattle.value.proofs.Cases.{first-out, later-out, choice-null, choice-is}
-use Rattle.value.specs.Meaning.{meaning}
 use borrow.Author.Needs.{needs}
+use Rattle.value.specs.Meaning.{meaning}
+use Rattle.value.proofs.Cases.{first-out, later-out, choice-null, choice-is}
 use Rattle.value.proofs.choice.Statement.{statement}
 use Rattle.value.proofs.choice.Tie as tie
-use Rattle.value.proofs.choice.Reads as reads
-use Rattle.value.proofs.choice.Lts as lts
-use Rattle.value.proofs.Value.is_null.Reads as is-null-reads
-use Rattle.value.proofs.Value.is_out.Reads as is-out-reads
-use Rattle.value.proofs.Value.number_or_zero.Reads as number-or-zero-reads
-use Rattle.value.proofs.either_out.Reads as either-out-reads
 
--- src/lib.rt:481:8
 is-out-requires : tie.Need-is-out-requires
 is-out-requires c κs = search needs
 
--- src/lib.rt:482:9
 returns : tie.Need-returns
-returns c = first-out (meaning (c .before .before .args .a)) (meaning (c .before .before .args .b)) (meaning (c .before .before .args .c)) _ _ (c .before .is-out .ensures) refl (c .if1 .taken)
+returns c =
+    let s = c .before .before in
+    first-out (meaning (s .args .a)) (meaning (s .args .b)) (meaning (s .args .c)) _ _ (c .before .is-out .ensures) refl
+    (c .if1 .taken)
 
--- src/lib.rt:484:8
 either-out-requires : tie.Need-either-out-requires
 either-out-requires c κs = search needs
 
--- src/lib.rt:485:9
 returns-2 : tie.Need-returns-2
-returns-2 c = later-out (meaning (c .before .before .before .before .args .a)) (meaning (c .before .before .before .before .args .b)) (meaning (c .before .before .before .before .args .c)) _ _ (c .before .before .before .is-out .ensures) (c .before .either-out .ensures) (c .before .before .if1 .left) (c .if2 .taken)
+returns-2 c =
+    let s = c .before .before .before .before in
+    later-out (meaning (s .args .a)) (meaning (s .args .b)) (meaning (s .args .c)) _ _ (c .before .before .before .is-out .ensures)
+    (c .before .either-out .ensures) (c .before .before .if1 .left) (c .if2 .taken)
 
--- src/lib.rt:487:8
 is-null-requires : tie.Need-is-null-requires
 is-null-requires c κs = search needs
 
--- src/lib.rt:488:9
 returns-3 : tie.Need-returns-3
-returns-3 c = choice-null (meaning (c .before .before .before .before .before .before .args .a)) (meaning (c .before .before .before .before .before .before .args .b)) (meaning (c .before .before .before .before .before .before .args .c)) _ _ (c .before .before .before .before .before .is-out .ensures) (c .before .before .before .either-out .ensures) (c .before .before .before .before .if1 .left) (c .before .before .if2 .left) _ (c .before .is-null .ensures) (c .if3 .taken)
+returns-3 c =
+    let s = c .before .before .before .before .before .before in
+    choice-null (meaning (s .args .a)) (meaning (s .args .b)) (meaning (s .args .c)) _ _ (c .before .before .before .before .before .is-out .ensures)
+    (c .before .before .before .either-out .ensures) (c .before .before .before .before .if1 .left) (c .before .before .if2 .left)
+    _ (c .before .is-null .ensures) (c .if3 .taken)
 
--- src/lib.rt:490:12
 number-or-zero-requires : tie.Need-number-or-zero-requires
 number-or-zero-requires c κs = search needs
 
--- src/lib.rt:478:1
 returns-4 : tie.Need-returns-4
-returns-4 c = choice-is (meaning (c .before .before .before .before .before .before .before .before .args .a)) (meaning (c .before .before .before .before .before .before .before .before .args .b)) (meaning (c .before .before .before .before .before .before .before .before .args .c)) _ _ (c .before .before .before .before .before .before .before .is-out .ensures) (c .before .before .before .before .before .either-out .ensures) (c .before .before .before .before .before .before .if1 .left) (c .before .before .before .before .if2 .left) _ (c .before .before .before .is-null .ensures) (c .before .before .if3 .left) _ (c .before .number-or-zero .ensures) (search needs) _ (c .if4 .taken)
+returns-4 c =
+    let s = c .before .before .before .before .before .before .before .before in
+    choice-is (meaning (s .args .a)) (meaning (s .args .b)) (meaning (s .args .c)) _ _ (c .before .before .before .before .before .before .before .is-out .ensures)
+    (c .before .before .before .before .before .either-out .ensures) (c .before .before .before .before .before .before .if1 .left)
+    (c .before .before .before .before .if2 .left) _ (c .before .before .before .is-null .ensures) (c .before .before .if3 .left)
+    _ (c .before .number-or-zero .ensures) (search needs) _ (c .if4 .taken)
 
--- src/lib.rt:478:1
 returns-5 : tie.Need-returns-5
-returns-5 c = choice-is (meaning (c .before .before .before .before .before .before .before .before .args .a)) (meaning (c .before .before .before .before .before .before .before .before .args .b)) (meaning (c .before .before .before .before .before .before .before .before .args .c)) _ _ (c .before .before .before .before .before .before .before .is-out .ensures) (c .before .before .before .before .before .either-out .ensures) (c .before .before .before .before .before .before .if1 .left) (c .before .before .before .before .if2 .left) _ (c .before .before .before .is-null .ensures) (c .before .before .if3 .left) _ (c .before .number-or-zero .ensures) (search needs) _ (c .if4 .left)
+returns-5 c =
+    let s = c .before .before .before .before .before .before .before .before in
+    choice-is (meaning (s .args .a)) (meaning (s .args .b)) (meaning (s .args .c)) _ _ (c .before .before .before .before .before .before .before .is-out .ensures)
+    (c .before .before .before .before .before .either-out .ensures) (c .before .before .before .before .before .before .if1 .left)
+    (c .before .before .before .before .if2 .left) _ (c .before .before .before .is-null .ensures) (c .before .before .if3 .left)
+    _ (c .before .number-or-zero .ensures) (search needs) _ (c .if4 .left)
 
 pub choice-spec : {M : Type 1} → statement M
 choice-spec =

@@ -1,44 +1,47 @@
-use Rattle.value.proofs.Tallies.{count-fits, count-back}
-use Rattle.value.proofs.Signed.{back}
-use Rattle.circuit.specs.Value.{ranged}
+-- `value::count` meets its contract. Assumes nothing.
 use mathlib.Core.Path.{ap, _∙_}
-use Rattle.circuit.specs.Rules.{apply, howMany}
-use Rattle.value.proofs.Tallies.{rule-out, rule-null, rule-count}
-use Rattle.value.specs.Meaning.{firstValues}
 use borrow.Author.Needs.{needs}
+use Rattle.circuit.specs.Rules.{apply, howMany}
+use Rattle.circuit.specs.Value.{ranged}
+use Rattle.value.specs.Meaning.{firstValues}
+use Rattle.value.proofs.Tallies.{count-fits, count-back, rule-out, rule-null, rule-count}
 use Rattle.value.proofs.count.Statement.{statement}
 use Rattle.value.proofs.count.Tie as tie
-use Rattle.value.proofs.count.Reads as reads
-use Rattle.value.proofs.count.Lts as lts
-use Rattle.value.proofs.Value.exact.Reads as exact-reads
-use Rattle.value.proofs.tally_of.Reads as tally-of-reads
 
--- src/lib.rt:384:9
 tally-of-requires : tie.Need-tally-of-requires
 tally-of-requires c κs = search needs
 
--- src/lib.rt:386:9
 returns : tie.Need-returns
 unfolding apply
-returns c = rule-out (firstValues (c .before .before .args .kinds .now) (c .before .before .args .numbers .now) (c .before .before .args .n)) (c .before .tally-of .result) (c .before .tally-of .ensures) howMany (c .if1 .taken)
+returns c =
+    let s = c .before .before in
+    rule-out (firstValues (s .args .kinds .now) (s .args .numbers .now) (s .args .n)) (c .before .tally-of .result) (c .before .tally-of .ensures)
+    howMany (c .if1 .taken)
 
--- src/lib.rt:389:9
 returns-2 : tie.Need-returns-2
 unfolding apply
-returns-2 c = rule-null (firstValues (c .before .before .before .before .args .kinds .now) (c .before .before .before .before .args .numbers .now) (c .before .before .before .before .args .n)) (c .before .before .before .tally-of .result) (c .before .before .before .tally-of .ensures) howMany (c .before .before .if1 .left) (c .if2 .taken)
+returns-2 c =
+    let s = c .before .before .before .before in
+    rule-null (firstValues (s .args .kinds .now) (s .args .numbers .now) (s .args .n)) (c .before .before .before .tally-of .result)
+    (c .before .before .before .tally-of .ensures) howMany (c .before .before .if1 .left) (c .if2 .taken)
 
--- src/lib.rt:391:18
 cast-exact : tie.Need-cast-exact
-cast-exact c = count-fits (c .before .before .before .before .before .args .kinds .now) (c .before .before .before .before .before .args .numbers .now) (c .before .before .before .before .before .args .n) (c .before .before .before .before .tally-of .result) (c .before .before .before .before .tally-of .ensures) (c .before .before .before .before .before .pre .0)
+cast-exact c =
+    let s = c .before .before .before .before .before in
+    count-fits (s .args .kinds .now) (s .args .numbers .now) (s .args .n) (c .before .before .before .before .tally-of .result)
+    (c .before .before .before .before .tally-of .ensures) (s .pre .0)
 
--- src/lib.rt:391:5
 exact-requires : tie.Need-exact-requires
 exact-requires c κs = search needs
 
--- src/lib.rt:380:1
 returns-3 : tie.Need-returns-3
 unfolding apply
-returns-3 c = c .exact .ensures ∙ ap ranged (count-back (c .before .before .before .before .before .before .args .kinds .now) (c .before .before .before .before .before .before .args .numbers .now) (c .before .before .before .before .before .before .args .n) (c .before .before .before .before .before .tally-of .result) (c .before .before .before .before .before .tally-of .ensures) (c .before .before .before .before .before .before .pre .0)) ∙ rule-count (firstValues (c .before .before .before .before .before .before .args .kinds .now) (c .before .before .before .before .before .before .args .numbers .now) (c .before .before .before .before .before .before .args .n)) (c .before .before .before .before .before .tally-of .result) (c .before .before .before .before .before .tally-of .ensures) (c .before .before .before .before .if1 .left) (c .before .before .if2 .left)
+returns-3 c =
+    let s = c .before .before .before .before .before .before in
+    c .exact .ensures ∙ ap ranged (count-back (s .args .kinds .now) (s .args .numbers .now) (s .args .n) (c .before .before .before .before .before .tally-of .result)
+    (c .before .before .before .before .before .tally-of .ensures) (s .pre .0)) ∙ rule-count (firstValues (s .args .kinds .now)
+    (s .args .numbers .now) (s .args .n)) (c .before .before .before .before .before .tally-of .result) (c .before .before .before .before .before .tally-of .ensures)
+    (c .before .before .before .before .if1 .left) (c .before .before .if2 .left)
 
 pub count-spec : {M : Type 1} → statement M
 count-spec =

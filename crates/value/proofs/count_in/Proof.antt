@@ -1,6 +1,4 @@
-use Rattle.value.proofs.Cases.{next-fits}
-use borrow.Author.Needs.{needs}
-use Rattle.value.proofs.Cases.{count-first, count-next}
+use Rattle.value.proofs.Cases.{next-fits, count-first, count-next}
 use borrow.Author.Needs.{needs}
 use Rattle.value.proofs.count_in.Statement.{statement}
 use Rattle.value.proofs.count_in.Tie as tie
@@ -8,31 +6,40 @@ use Rattle.value.proofs.count_in.Reads as reads
 use Rattle.value.proofs.count_in.Lts as lts
 use Rattle.value.proofs.greater.Reads as greater-reads
 use Rattle.value.proofs.lesser.Reads as lesser-reads
+use Rattle.value.proofs.plus.Reads as plus-reads
 
--- src/lib.rt:278:9
+-- src/lib.rt:305:9
 returns : tie.Need-returns
-returns c = count-first (c .before .before .before .before .args .t) (c .before .before .before .before .args .n) (c .before .before .before .before .fits .n) (c .if1 .taken)
+returns c =
+    let s = c .before .before .before .before in
+    count-first (s .args .t) (s .args .n) (s .fits .n) (c .if1 .taken)
 
--- src/lib.rt:286:15
-add-sum : tie.Need-add-sum
-add-sum c = next-fits (c .before .before .before .before .args .t) (c .before .before .before .before .args .n) (c .before .before .before .before .pre .0) (c .before .before .before .before .pre .1) (search needs) (c .before .before .before .before .fits .n)
+-- src/lib.rt:313:9
+plus-requires : tie.Need-plus-requires
+plus-requires c κs =
+    let s = c .before .before .before .before in
+    next-fits (s .args .t) (s .args .n) (s .pre .0) (s .pre .1) (search needs) (s .fits .n)
 
--- src/lib.rt:287:9
+-- src/lib.rt:314:9
 lesser-requires : tie.Need-lesser-requires
 lesser-requires c κs = search needs
 
--- src/lib.rt:288:9
+-- src/lib.rt:315:9
 greater-requires : tie.Need-greater-requires
 greater-requires c κs = search needs
 
--- src/lib.rt:291:16
+-- src/lib.rt:318:16
 add-t12 : tie.Need-add-t12
 add-t12 c = search needs
 
--- src/lib.rt:268:1
+-- src/lib.rt:295:1
 returns-2 : tie.Need-returns-2
-returns-2 c = count-next (c .before .before .before .before .before .before .args .t) (c .before .before .before .before .before .before .args .n) (c .before .lesser .result) (c .greater .result) (c .before .before .before .before .before .before .pre .0) (c .before .before .before .before .before .before .pre .1) (search needs) (c .before .before .before .before .before .before .fits .n) (search needs) (search needs) (search needs) (search needs) (c .before .before .if1 .left) (c .before .lesser .ensures) (c .greater .ensures)
+returns-2 c =
+    let s = c .before .before .before .before .before .before .before in
+    count-next (s .args .t) (s .args .n) (s .pre .0) (s .pre .1) (search needs) (s .fits .n) (c .before .before .plus .result)
+    (c .before .lesser .result) (c .greater .result) (search needs) (search needs) (search needs) (c .before .before .before .if1 .left)
+    (search needs) (search needs) (c .before .before .plus .ensures) (c .before .lesser .ensures) (c .greater .ensures)
 
 pub count-in-spec : {M : Type 1} → statement M
 count-in-spec =
-    tie.close (tie.spec returns add-sum lesser-requires greater-requires add-t12 returns-2)
+    tie.close (tie.spec returns plus-requires lesser-requires greater-requires add-t12 returns-2)

@@ -1,52 +1,52 @@
-use Rattle.value.proofs.Cases.{two-out, difference-null, difference-is, number-fits}
+-- `value::difference` meets its contract. Assumes nothing.
+use borrow.Author.Needs.{needs}
 use Rattle.circuit.specs.Rules as rules
 use Rattle.value.specs.Meaning.{meaning}
-use borrow.Author.Needs.{needs}
+use Rattle.value.proofs.Cases.{two-out, difference-null, difference-is, number-fits}
 use Rattle.value.proofs.difference.Statement.{statement}
 use Rattle.value.proofs.difference.Tie as tie
-use Rattle.value.proofs.difference.Reads as reads
-use Rattle.value.proofs.difference.Lts as lts
-use Rattle.value.proofs.Value.exact.Reads as exact-reads
-use Rattle.value.proofs.Value.number_or_zero.Reads as number-or-zero-reads
-use Rattle.value.proofs.both_null.Reads as both-null-reads
-use Rattle.value.proofs.either_out.Reads as either-out-reads
-use Rattle.value.proofs.minus.Reads as minus-reads
 
--- src/lib.rt:423:8
 either-out-requires : tie.Need-either-out-requires
 either-out-requires c κs = search needs
 
--- src/lib.rt:424:9
 returns : tie.Need-returns
-returns c = two-out (meaning (c .before .before .args .a)) (meaning (c .before .before .args .b)) _ (c .before .either-out .ensures) rules.difference (c .if1 .taken)
+returns c =
+    let s = c .before .before in
+    two-out (meaning (s .args .a)) (meaning (s .args .b)) _ (c .before .either-out .ensures) rules.difference (c .if1 .taken)
 
--- src/lib.rt:426:8
 both-null-requires : tie.Need-both-null-requires
 both-null-requires c κs = search needs
 
--- src/lib.rt:427:9
 returns-2 : tie.Need-returns-2
-returns-2 c = difference-null (meaning (c .before .before .before .before .args .a)) (meaning (c .before .before .before .before .args .b)) _ (c .before .before .before .either-out .ensures) (c .before .before .if1 .left) _ (c .before .both-null .ensures) (c .if2 .taken)
+returns-2 c =
+    let s = c .before .before .before .before in
+    difference-null (meaning (s .args .a)) (meaning (s .args .b)) _ (c .before .before .before .either-out .ensures) (c .before .before .if1 .left)
+    _ (c .before .both-null .ensures) (c .if2 .taken)
 
--- src/lib.rt:429:24
 number-or-zero-requires : tie.Need-number-or-zero-requires
 number-or-zero-requires c κs = search needs
 
--- src/lib.rt:429:44
 number-or-zero-requires-2 : tie.Need-number-or-zero-requires-2
 number-or-zero-requires-2 c κs = search needs
 
--- src/lib.rt:429:18
 minus-requires : tie.Need-minus-requires
-minus-requires c κs = (number-fits (meaning (c .before .before .before .before .before .before .args .a)) _ (search needs) (c .before .number-or-zero .ensures) (c .before .before .before .before .before .before .pre .0), number-fits (meaning (c .before .before .before .before .before .before .args .b)) _ (search needs) (c .number-or-zero2 .ensures) (c .before .before .before .before .before .before .pre .1))
+minus-requires c κs =
+    let s = c .before .before .before .before .before .before in (
+      number-fits (meaning (s .args .a)) _ (search needs) (c .before .number-or-zero .ensures) (s .pre .0),
+      number-fits
+          (meaning (s .args .b)) _ (search needs) (c .number-or-zero2 .ensures) (s .pre .1),
+    )
 
--- src/lib.rt:429:5
 exact-requires : tie.Need-exact-requires
 exact-requires c κs = search needs
 
--- src/lib.rt:419:1
 returns-3 : tie.Need-returns-3
-returns-3 c = difference-is (meaning (c .before .before .before .before .before .before .before .before .args .a)) (meaning (c .before .before .before .before .before .before .before .before .args .b)) _ (c .before .before .before .before .before .before .before .either-out .ensures) (c .before .before .before .before .before .before .if1 .left) _ _ (c .before .before .before .number-or-zero .ensures) (c .before .before .number-or-zero2 .ensures) (search needs) (search needs) _ (c .before .before .before .before .before .both-null .ensures) (c .before .before .before .before .if2 .left) _ _ (search needs) (c .before .minus .ensures) (c .exact .ensures)
+returns-3 c =
+    let s = c .before .before .before .before .before .before .before .before in
+    difference-is (meaning (s .args .a)) (meaning (s .args .b)) _ (c .before .before .before .before .before .before .before .either-out .ensures)
+    (c .before .before .before .before .before .before .if1 .left) _ _ (c .before .before .before .number-or-zero .ensures)
+    (c .before .before .number-or-zero2 .ensures) (search needs) (search needs) _ (c .before .before .before .before .before .both-null .ensures)
+    (c .before .before .before .before .if2 .left) _ _ (search needs) (c .before .minus .ensures) (c .exact .ensures)
 
 pub difference-spec : {M : Type 1} → statement M
 difference-spec =

@@ -1,14 +1,11 @@
+-- `value::greater` meets its contract. Assumes nothing.
 use Rattle.value.proofs.Cases.{greater-yes, greater-no}
 use Rattle.value.proofs.greater.Statement.{statement}
 use Rattle.value.proofs.greater.Tie as tie
-use Rattle.value.proofs.greater.Reads as reads
-use Rattle.value.proofs.greater.Lts as lts
 
--- src/lib.rt:243:1
 returns : tie.Need-returns
 returns c = greater-yes (c .before .args .a) (c .before .args .b) (c .before .fits .a) (c .before .fits .b) (c .if1 .taken)
 
--- src/lib.rt:243:1
 returns-2 : tie.Need-returns-2
 returns-2 c = greater-no (c .before .args .a) (c .before .args .b) (c .before .fits .a) (c .before .fits .b) (c .if1 .left)
 

@@ -1,14 +1,11 @@
+-- `value::lesser` meets its contract. Assumes nothing.
 use Rattle.value.proofs.Cases.{lesser-yes, lesser-no}
 use Rattle.value.proofs.lesser.Statement.{statement}
 use Rattle.value.proofs.lesser.Tie as tie
-use Rattle.value.proofs.lesser.Reads as reads
-use Rattle.value.proofs.lesser.Lts as lts
 
--- src/lib.rt:237:1
 returns : tie.Need-returns
 returns c = lesser-yes (c .before .args .a) (c .before .args .b) (c .before .fits .a) (c .before .fits .b) (c .if1 .taken)
 
--- src/lib.rt:237:1
 returns-2 : tie.Need-returns-2
 returns-2 c = lesser-no (c .before .args .a) (c .before .args .b) (c .before .fits .a) (c .before .fits .b) (c .if1 .left)
 

@@ -1,11 +1,9 @@
+-- `value::limit` meets its contract. Assumes nothing.
 use mathlib.Core.Path.{refl}
 use Rattle.circuit.specs.Value.{limit}
 use Rattle.value.proofs.limit.Statement.{statement}
 use Rattle.value.proofs.limit.Tie as tie
-use Rattle.value.proofs.limit.Reads as reads
-use Rattle.value.proofs.limit.Lts as lts
 
--- src/lib.rt:32:1
 returns : tie.Need-returns
 unfolding limit
 returns c = refl

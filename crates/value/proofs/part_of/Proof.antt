@@ -1,72 +1,97 @@
-use Rattle.value.proofs.Shares.{negated, not-below, not-less, back-size, negative-size-fits, cast-size, size-fits, parts-fit, sizes, result-fits, negative-fits, below-zero, from-zero}
-use Rattle.circuit.specs.Rules.{whole}
-use lib.Dec.{lit<}
+-- `value::part_of` meets its contract. Assumes nothing.
 use mathlib.Core.Path.{refl}
 use borrow.Author.Needs.{needs}
+use lib.Dec.{lit<}
+use Rattle.circuit.specs.Rules.{whole}
+use Rattle.value.proofs.Shares.{negated, not-below, not-less, back-size, negative-size-fits, cast-size, size-fits, parts-fit, sizes, result-fits, negative-fits, below-zero, from-zero}
 use Rattle.value.proofs.part_of.Statement.{statement}
 use Rattle.value.proofs.part_of.Tie as tie
-use Rattle.value.proofs.part_of.Reads as reads
-use Rattle.value.proofs.part_of.Lts as lts
-use Rattle.value.proofs.scaled.Reads as scaled-reads
 
--- src/lib.rt:446:26
 sub-scaled : tie.Need-sub-scaled
-sub-scaled c = negative-size-fits (c .before .args .x) (c .before .pre .0) (negated (c .before .args .x) (c .before .fits .x) (c .if1 .taken))
+sub-scaled c =
+    let s = c .before in
+    negative-size-fits (s .args .x) (s .pre .0) (negated (s .args .x) (s .fits .x) (c .if1 .taken))
 
--- src/lib.rt:446:25
 cast-scaled : tie.Need-cast-scaled
-cast-scaled c = cast-size _ _ (back-size (c .before .args .x) (c .before .pre .0) (negated (c .before .args .x) (c .before .fits .x) (c .if1 .taken))) (size-fits (c .before .args .x) (c .before .pre .0))
+cast-scaled c =
+    let s = c .before in
+    cast-size _ _ (back-size (s .args .x) (s .pre .0) (negated (s .args .x) (s .fits .x) (c .if1 .taken))) (size-fits (s .args .x)
+    (s .pre .0))
 
--- src/lib.rt:446:41
 cast-scaled-2 : tie.Need-cast-scaled-2
-cast-scaled-2 c = cast-size _ _ (not-below (c .before .args .parts) (c .before .fits .parts) (c .before .pre .1 .0)) (parts-fit (c .before .args .parts) (c .before .pre .1 .0) (c .before .pre .1 .1))
+cast-scaled-2 c =
+    let s = c .before in
+    cast-size _ _ (not-below (s .args .parts) (s .fits .parts) (s .pre .1 .0)) (parts-fit (s .args .parts) (s .pre .1 .0)
+    (s .pre .1 .1))
 
--- src/lib.rt:446:55
 sub-scaled-2 : tie.Need-sub-scaled-2
 sub-scaled-2 c = search needs
 
--- src/lib.rt:446:13
 scaled-requires : tie.Need-scaled-requires
 unfolding whole
-scaled-requires c κs = let s = sizes (c .before .args .x) (c .before .args .parts) (c .before .pre .0) (c .before .fits .x) (c .before .fits .parts) (c .before .pre .1 .0) (c .before .pre .1 .1) _ (back-size (c .before .args .x) (c .before .pre .0) (negated (c .before .args .x) (c .before .fits .x) (c .if1 .taken))) in (s .0, (s .1, lit< tt))
+scaled-requires c κs =
+    let s = c .before in
+    let s = sizes (s .args .x) (s .args .parts) (s .pre .0) (s .fits .x) (s .fits .parts) (s .pre .1 .0) (s .pre .1 .1) _
+    (back-size (s .args .x) (s .pre .0) (negated (s .args .x) (s .fits .x) (c .if1 .taken))) in (s .0, (s .1, lit< tt))
 
--- src/lib.rt:447:21
 cast-result : tie.Need-cast-result
 unfolding whole
-cast-result c = result-fits (c .before .before .args .x) (c .before .before .args .parts) (c .before .before .pre .0) (c .before .before .fits .x) (c .before .before .fits .parts) (c .before .before .pre .1 .0) (c .before .before .pre .1 .1) _ (back-size (c .before .before .args .x) (c .before .before .pre .0) (negated (c .before .before .args .x) (c .before .before .fits .x) (c .before .if1 .taken))) (c .scaled .result) 9999 (lit< tt) (c .scaled .ensures)
+cast-result c =
+    let s = c .before .before in
+    result-fits (s .args .x) (s .args .parts) (s .pre .0) (s .fits .x) (s .fits .parts) (s .pre .1 .0) (s .pre .1 .1) _
+    (back-size (s .args .x) (s .pre .0) (negated (s .args .x) (s .fits .x) (c .before .if1 .taken))) (c .scaled .result)
+    9999 (lit< tt) (c .scaled .ensures)
 
--- src/lib.rt:447:16
 sub-result : tie.Need-sub-result
 unfolding whole
-sub-result c = negative-fits (c .before .before .args .x) (c .before .before .args .parts) (c .before .before .pre .0) (c .before .before .fits .x) (c .before .before .fits .parts) (c .before .before .pre .1 .0) (c .before .before .pre .1 .1) _ (back-size (c .before .before .args .x) (c .before .before .pre .0) (negated (c .before .before .args .x) (c .before .before .fits .x) (c .before .if1 .taken))) (c .scaled .result) 9999 (lit< tt) (c .scaled .ensures)
+sub-result c =
+    let s = c .before .before in
+    negative-fits (s .args .x) (s .args .parts) (s .pre .0) (s .fits .x) (s .fits .parts) (s .pre .1 .0) (s .pre .1 .1) _
+    (back-size (s .args .x) (s .pre .0) (negated (s .args .x) (s .fits .x) (c .before .if1 .taken))) (c .scaled .result)
+    9999 (lit< tt) (c .scaled .ensures)
 
--- src/lib.rt:447:9
 returns : tie.Need-returns
 unfolding whole
-returns c = below-zero (c .before .before .args .x) (c .before .before .args .parts) (c .before .before .pre .0) (c .before .before .fits .x) (c .before .before .fits .parts) (c .before .before .pre .1 .0) (c .before .before .pre .1 .1) _ (back-size (c .before .before .args .x) (c .before .before .pre .0) (negated (c .before .before .args .x) (c .before .before .fits .x) (c .before .if1 .taken))) (c .scaled .result) 9999 (lit< tt) (c .scaled .ensures) refl (c .before .if1 .taken)
+returns c =
+    let s = c .before .before in
+    below-zero (s .args .x) (s .args .parts) (s .pre .0) (s .fits .x) (s .fits .parts) (s .pre .1 .0) (s .pre .1 .1) _
+    (back-size (s .args .x) (s .pre .0) (negated (s .args .x) (s .fits .x) (c .before .if1 .taken))) (c .scaled .result)
+    9999 (lit< tt) (c .scaled .ensures) refl (c .before .if1 .taken)
 
--- src/lib.rt:449:12
 cast-scaled-3 : tie.Need-cast-scaled-3
-cast-scaled-3 c = cast-size _ _ (not-below (c .before .args .x) (c .before .fits .x) (not-less (c .before .args .x) (c .before .fits .x) (c .if1 .left))) (size-fits (c .before .args .x) (c .before .pre .0))
+cast-scaled-3 c =
+    let s = c .before in
+    cast-size _ _ (not-below (s .args .x) (s .fits .x) (not-less (s .args .x) (s .fits .x) (c .if1 .left))) (size-fits (s .args .x)
+    (s .pre .0))
 
--- src/lib.rt:449:22
 cast-scaled-4 : tie.Need-cast-scaled-4
-cast-scaled-4 c = cast-size _ _ (not-below (c .before .args .parts) (c .before .fits .parts) (c .before .pre .1 .0)) (parts-fit (c .before .args .parts) (c .before .pre .1 .0) (c .before .pre .1 .1))
+cast-scaled-4 c =
+    let s = c .before in
+    cast-size _ _ (not-below (s .args .parts) (s .fits .parts) (s .pre .1 .0)) (parts-fit (s .args .parts) (s .pre .1 .0)
+    (s .pre .1 .1))
 
--- src/lib.rt:449:5
 scaled-requires-2 : tie.Need-scaled-requires-2
 unfolding whole
-scaled-requires-2 c κs = let s = sizes (c .before .args .x) (c .before .args .parts) (c .before .pre .0) (c .before .fits .x) (c .before .fits .parts) (c .before .pre .1 .0) (c .before .pre .1 .1) _ (not-below (c .before .args .x) (c .before .fits .x) (not-less (c .before .args .x) (c .before .fits .x) (c .if1 .left))) in (s .0, (s .1, lit< tt))
+scaled-requires-2 c κs =
+    let s = c .before in
+    let s = sizes (s .args .x) (s .args .parts) (s .pre .0) (s .fits .x) (s .fits .parts) (s .pre .1 .0) (s .pre .1 .1) _
+    (not-below (s .args .x) (s .fits .x) (not-less (s .args .x) (s .fits .x) (c .if1 .left))) in (s .0, (s .1, lit< tt))
 
--- src/lib.rt:449:5
 cast-result-2 : tie.Need-cast-result-2
 unfolding whole
-cast-result-2 c = result-fits (c .before .before .args .x) (c .before .before .args .parts) (c .before .before .pre .0) (c .before .before .fits .x) (c .before .before .fits .parts) (c .before .before .pre .1 .0) (c .before .before .pre .1 .1) _ (not-below (c .before .before .args .x) (c .before .before .fits .x) (not-less (c .before .before .args .x) (c .before .before .fits .x) (c .before .if1 .left))) (c .scaled2 .result) 0 (lit< tt) (c .scaled2 .ensures)
+cast-result-2 c =
+    let s = c .before .before in
+    result-fits (s .args .x) (s .args .parts) (s .pre .0) (s .fits .x) (s .fits .parts) (s .pre .1 .0) (s .pre .1 .1) _
+    (not-below (s .args .x) (s .fits .x) (not-less (s .args .x) (s .fits .x) (c .before .if1 .left))) (c .scaled2 .result)
+    0 (lit< tt) (c .scaled2 .ensures)
 
--- src/lib.rt:441:1
 returns-2 : tie.Need-returns-2
 unfolding whole
-returns-2 c = from-zero (c .before .before .args .x) (c .before .before .args .parts) (c .before .before .pre .0) (c .before .before .fits .x) (c .before .before .fits .parts) (c .before .before .pre .1 .0) (c .before .before .pre .1 .1) _ (not-below (c .before .before .args .x) (c .before .before .fits .x) (not-less (c .before .before .args .x) (c .before .before .fits .x) (c .before .if1 .left))) (c .scaled2 .result) 0 (lit< tt) (c .scaled2 .ensures) refl (c .before .if1 .left)
+returns-2 c =
+    let s = c .before .before in
+    from-zero (s .args .x) (s .args .parts) (s .pre .0) (s .fits .x) (s .fits .parts) (s .pre .1 .0) (s .pre .1 .1) _
+    (not-below (s .args .x) (s .fits .x) (not-less (s .args .x) (s .fits .x) (c .before .if1 .left))) (c .scaled2 .result)
+    0 (lit< tt) (c .scaled2 .ensures) refl (c .before .if1 .left)
 
 pub part-of-spec : {M : Type 1} → statement M
 part-of-spec =

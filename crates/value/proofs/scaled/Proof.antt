@@ -1,33 +1,34 @@
+-- `value::scaled` meets its contract. Assumes nothing.
+use native.Mathlib.Omega.{arith}
+use Rattle.circuit.specs.Rules.{whole}
 use Rattle.value.proofs.Shares.{high-size, low-size, low-fits, quotient-size, two-parts}
 use Rattle.value.proofs.Signed.{sixteen-fit}
-use Rattle.circuit.specs.Rules.{whole}
-use native.Mathlib.Omega.{arith}
 use Rattle.value.proofs.scaled.Statement.{statement}
 use Rattle.value.proofs.scaled.Tie as tie
-use Rattle.value.proofs.scaled.Reads as reads
-use Rattle.value.proofs.scaled.Lts as lts
 
--- src/lib.rt:437:5
 mul-result : tie.Need-mul-result
 unfolding whole
 mul-result c = omega (arith, high-size (c .args .m) (c .args .parts) (c .pre .1 .0), sixteen-fit)
 
--- src/lib.rt:437:26
 mul-result-2 : tie.Need-mul-result-2
 unfolding whole
 mul-result-2 c = omega (arith, low-size (c .args .m) (c .args .parts) (c .pre .1 .0))
 
--- src/lib.rt:437:26
 add-result : tie.Need-add-result
 unfolding whole
 add-result c = omega (arith, low-fits (c .args .m) (c .args .parts) (c .args .more) (c .pre .1 .0) (c .pre .1 .1))
 
--- src/lib.rt:437:5
 add-result-2 : tie.Need-add-result-2
 unfolding whole
-add-result-2 c = omega (arith, two-parts (c .args .m) (c .args .parts) (c .args .more), quotient-size (c .args .m) (c .args .parts) (c .args .more) (c .pre .1 .0) (c .pre .1 .1), sixteen-fit)
+add-result-2 c =
+    omega (
+      arith,
+      two-parts (c .args .m) (c .args .parts) (c .args .more),
+      quotient-size (c .args .m) (c .args .parts) (c .args .more)
+          (c .pre .1 .0) (c .pre .1 .1),
+      sixteen-fit,
+    )
 
--- src/lib.rt:433:1
 returns : tie.Need-returns
 unfolding whole
 returns c = two-parts (c .args .m) (c .args .parts) (c .args .more)

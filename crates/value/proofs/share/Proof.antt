@@ -1,47 +1,46 @@
-use Rattle.value.proofs.Cases.{two-out, share-null, share-is, number-fits}
+-- `value::share` meets its contract. Assumes nothing.
+use borrow.Author.Needs.{needs}
 use Rattle.circuit.specs.Rules as rules
 use Rattle.value.specs.Meaning.{meaning}
-use borrow.Author.Needs.{needs}
+use Rattle.value.proofs.Cases.{two-out, share-null, share-is, number-fits}
 use Rattle.value.proofs.share.Statement.{statement}
 use Rattle.value.proofs.share.Tie as tie
-use Rattle.value.proofs.share.Reads as reads
-use Rattle.value.proofs.share.Lts as lts
-use Rattle.value.proofs.Value.number_or_zero.Reads as number-or-zero-reads
-use Rattle.value.proofs.either_null.Reads as either-null-reads
-use Rattle.value.proofs.either_out.Reads as either-out-reads
-use Rattle.value.proofs.share_of.Reads as share-of-reads
 
--- src/lib.rt:469:8
 either-out-requires : tie.Need-either-out-requires
 either-out-requires c κs = search needs
 
--- src/lib.rt:470:9
 returns : tie.Need-returns
-returns c = two-out (meaning (c .before .before .args .a)) (meaning (c .before .before .args .b)) _ (c .before .either-out .ensures) rules.share (c .if1 .taken)
+returns c =
+    let s = c .before .before in
+    two-out (meaning (s .args .a)) (meaning (s .args .b)) _ (c .before .either-out .ensures) rules.share (c .if1 .taken)
 
--- src/lib.rt:472:8
 either-null-requires : tie.Need-either-null-requires
 either-null-requires c κs = search needs
 
--- src/lib.rt:473:9
 returns-2 : tie.Need-returns-2
-returns-2 c = share-null (meaning (c .before .before .before .before .args .a)) (meaning (c .before .before .before .before .args .b)) _ (c .before .before .before .either-out .ensures) (c .before .before .if1 .left) _ (c .before .either-null .ensures) (c .if2 .taken)
+returns-2 c =
+    let s = c .before .before .before .before in
+    share-null (meaning (s .args .a)) (meaning (s .args .b)) _ (c .before .before .before .either-out .ensures) (c .before .before .if1 .left)
+    _ (c .before .either-null .ensures) (c .if2 .taken)
 
--- src/lib.rt:475:14
 number-or-zero-requires : tie.Need-number-or-zero-requires
 number-or-zero-requires c κs = search needs
 
--- src/lib.rt:475:34
 number-or-zero-requires-2 : tie.Need-number-or-zero-requires-2
 number-or-zero-requires-2 c κs = search needs
 
--- src/lib.rt:475:5
 share-of-requires : tie.Need-share-of-requires
-share-of-requires c κs = number-fits (meaning (c .before .before .before .before .before .before .args .a)) _ (search needs) (c .before .number-or-zero .ensures) (c .before .before .before .before .before .before .pre)
+share-of-requires c κs =
+    let s = c .before .before .before .before .before .before in
+    number-fits (meaning (s .args .a)) _ (search needs) (c .before .number-or-zero .ensures) (s .pre)
 
--- src/lib.rt:465:1
 returns-3 : tie.Need-returns-3
-returns-3 c = share-is (meaning (c .before .before .before .before .before .before .before .args .a)) (meaning (c .before .before .before .before .before .before .before .args .b)) _ (c .before .before .before .before .before .before .either-out .ensures) (c .before .before .before .before .before .if1 .left) _ _ (c .before .before .number-or-zero .ensures) (c .before .number-or-zero2 .ensures) (search needs) (search needs) _ (c .before .before .before .before .either-null .ensures) (c .before .before .before .if2 .left) _ (c .share-of .ensures)
+returns-3 c =
+    let s = c .before .before .before .before .before .before .before in
+    share-is (meaning (s .args .a)) (meaning (s .args .b)) _ (c .before .before .before .before .before .before .either-out .ensures)
+    (c .before .before .before .before .before .if1 .left) _ _ (c .before .before .number-or-zero .ensures) (c .before .number-or-zero2 .ensures)
+    (search needs) (search needs) _ (c .before .before .before .before .either-null .ensures) (c .before .before .before .if2 .left)
+    _ (c .share-of .ensures)
 
 pub share-spec : {M : Type 1} → statement M
 share-spec =

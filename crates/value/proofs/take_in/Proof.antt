@@ -1,38 +1,36 @@
-use Rattle.value.proofs.Cases.{take-out, take-number, number-in-range}
+-- `value::take_in` meets its contract. Assumes nothing.
 use borrow.Author.Needs.{needs}
+use Rattle.value.proofs.Cases.{take-out, take-number, number-in-range}
 use Rattle.value.proofs.take_in.Statement.{statement}
 use Rattle.value.proofs.take_in.Tie as tie
-use Rattle.value.proofs.take_in.Reads as reads
-use Rattle.value.proofs.take_in.Lts as lts
-use Rattle.value.proofs.count_in.Reads as count-in-reads
 
--- src/lib.rt:305:25
 enum-told : tie.Need-enum-told
 enum-told c = search needs
 
--- src/lib.rt:306:24
 enum-told-2 : tie.Need-enum-told-2
 enum-told-2 c = search needs
 
--- src/lib.rt:313:24
 enum-known-a : tie.Need-enum-known-a
 enum-known-a c = search needs
 
--- src/lib.rt:313:30
 count-in-requires : tie.Need-count-in-requires
-count-in-requires c κs = (c .before .before .before .pre .0, number-in-range (c .before .before .before .args .v) (c .before .a .given .0 .0) (c .before .a .given .1) (search needs) (c .before .before .before .pre .1))
+count-in-requires c κs =
+    let s = c .before .before .before in
+    (s .pre .0, number-in-range (s .args .v) (c .before .a .given .0 .0) (c .before .a .given .1) (search needs) (s .pre .1))
 
--- src/lib.rt:299:1
 returns : tie.Need-returns
 returns c = search needs
 
--- src/lib.rt:299:1
 returns-2 : tie.Need-returns-2
-returns-2 c = take-out (c .before .before .before .args .t) (c .before .before .before .args .v) (c .before .enum-told2 .given .1) (search needs) (search needs) (search needs)
+returns-2 c =
+    let s = c .before .before .before in
+    take-out (s .args .t) (s .args .v) (c .before .enum-told2 .given .1) (search needs) (search needs) (search needs)
 
--- src/lib.rt:299:1
 returns-3 : tie.Need-returns-3
-returns-3 c = take-number (c .before .before .before .before .args .t) (c .before .before .before .before .args .v) (c .before .before .a .given .0 .0) (c .count-in .result) (c .before .before .a .given .1) (search needs) (c .count-in .ensures)
+returns-3 c =
+    let s = c .before .before .before .before in
+    take-number (s .args .t) (s .args .v) (c .before .before .a .given .0 .0) (c .count-in .result) (c .before .before .a .given .1)
+    (search needs) (c .count-in .ensures)
 
 pub take-in-spec : {M : Type 1} → statement M
 take-in-spec =

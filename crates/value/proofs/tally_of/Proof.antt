@@ -1,17 +1,12 @@
-use Prim.Native.Nat.{ℕ}
-use mathlib.Core.Path.{ap, _∙_}
-use Rattle.value.proofs.Cases.{turn-room, turn-formed, turn-next}
-use Rattle.value.specs.Tally.{empty, takenAll}
-use Rattle.value.specs.Meaning.{meaning, firstValues}
+-- `value::tally_of` meets its contract. Assumes nothing.
+use Prim.Native.Nat.{ℕ, _≤_, _-_}
+use mathlib.Core.Path.{ap, _∙_, _≡_, refl}
 use native.Mathlib.Omega.{arith}
-use Prim.Native.Nat.{_≤_, _-_}
-use mathlib.Core.Path.{_≡_, refl}
+use Rattle.value.specs.Meaning.{meaning, firstValues}
+use Rattle.value.specs.Tally.{empty, takenAll}
+use Rattle.value.proofs.Cases.{turn-room, turn-formed, turn-next}
 use Rattle.value.proofs.tally_of.Statement.{statement}
 use Rattle.value.proofs.tally_of.Tie as tie
-use Rattle.value.proofs.tally_of.Reads as reads
-use Rattle.value.proofs.tally_of.Lts as lts
-use Rattle.value.proofs.take_in.Reads as take-in-reads
-use Rattle.value.proofs.value_at.Reads as value-at-reads
 
 abbrev Inv-loop : tie.InvT-loop
 Inv-loop kinds numbers n t₀ i₀ t i = (i ≤ n) × (t ≡ takenAll empty (firstValues kinds numbers i))
@@ -19,34 +14,43 @@ Inv-loop kinds numbers n t₀ i₀ t i = (i ≤ n) × (t ≡ takenAll empty (fir
 abbrev μ-loop : tie.MeasureT-loop
 μ-loop kinds numbers n t₀ i₀ t i = n - i
 
--- src/lib.rt:330:5
 loop-holds : tie.Need-loop-holds Inv-loop μ-loop
 unfolding takenAll firstValues
 loop-holds c = (omega arith, refl)
 
--- src/lib.rt:331:13
 value-at-requires : tie.Need-value-at-requires Inv-loop μ-loop
 value-at-requires c κs = omega arith
 
--- src/lib.rt:332:9
 take-in-requires : tie.Need-take-in-requires Inv-loop μ-loop
-take-in-requires c κs = (turn-room (c .before .before .before .args .kinds .now) (c .before .before .before .args .numbers .now) (c .before .before .before .args .n) (c .before .before .loop .i) (c .before .before .loop .t) (c .before .before .loop .inv .1) (c .before .loop-test .taken) (c .before .before .before .pre .1) (meaning (c .value-at .result)) (c .value-at .ensures) (c .before .before .before .pre .0), turn-formed (c .before .before .before .args .kinds .now) (c .before .before .before .args .numbers .now) (c .before .before .before .args .n) (c .before .before .loop .i) (c .before .before .loop .t) (c .before .before .loop .inv .1) (c .before .loop-test .taken) (c .before .before .before .pre .1) (meaning (c .value-at .result)) (c .value-at .ensures))
+take-in-requires c κs =
+    let s = c .before .before .before in (
+      turn-room (s .args .kinds .now) (s .args .numbers .now) (s .args .n) (c .before .before .loop .i) (c .before .before .loop .t)
+          (c .before .before .loop .inv .1) (c .before .loop-test .taken) (s .pre .1) (meaning (c .value-at .result)) (c .value-at .ensures)
+          (s .pre .0),
+      turn-formed (s .args .kinds .now) (s .args .numbers .now) (s .args .n) (c .before .before .loop .i) (c .before .before .loop .t)
+          (c .before .before .loop .inv .1) (c .before .loop-test .taken) (s .pre .1) (meaning (c .value-at .result)) (c .value-at .ensures),
+    )
 
--- src/lib.rt:333:9
 add-i : tie.Need-add-i Inv-loop μ-loop
 add-i c = omega arith
 
--- src/lib.rt:330:5
 loop-less : tie.Need-loop-less Inv-loop μ-loop
 loop-less c = omega arith
 
--- src/lib.rt:330:5
 loop-again : tie.Need-loop-again Inv-loop μ-loop
-loop-again c = (omega arith, turn-next (c .before .before .before .before .args .kinds .now) (c .before .before .before .before .args .numbers .now) (c .before .before .before .before .args .n) (c .before .before .before .loop .i) (c .before .before .before .loop .t) (c .before .before .before .loop .inv .1) (c .before .before .loop-test .taken) (c .before .before .before .before .pre .1) (meaning (c .before .value-at .result)) (c .before .value-at .ensures) (c .take-in .result) (c .take-in .ensures))
+loop-again c =
+    let s = c .before .before .before .before in (
+      omega arith,
+      turn-next (s .args .kinds .now) (s .args .numbers .now) (s .args .n) (c .before .before .before .loop .i)
+          (c .before .before .before .loop .t) (c .before .before .before .loop .inv .1) (c .before .before .loop-test .taken)
+          (s .pre .1) (meaning (c .before .value-at .result)) (c .before .value-at .ensures) (c .take-in .result) (c .take-in .ensures),
+    )
 
--- src/lib.rt:318:1
 returns : tie.Need-returns Inv-loop μ-loop
-returns c = c .before .loop .inv .1 ∙ ap (λ (k : ℕ). takenAll empty (firstValues (c .before .before .args .kinds .now) (c .before .before .args .numbers .now) k)) (omega arith)
+returns c =
+    let s = c .before .before in
+    c .before .loop .inv .1 ∙ ap (λ (k : ℕ). takenAll empty (firstValues (s .args .kinds .now) (s .args .numbers .now) k))
+    (omega arith)
 
 pub tally-of-spec : {M : Type 1} → statement M
 tally-of-spec =

@@ -1,53 +1,56 @@
-use Rattle.value.proofs.Cases.{zero-yes, zero-no, parts-none, parts-number, parts-beyond}
-use Rattle.value.specs.Meaning.{partsOf}
-use mathlib.Core.Path.{_≡_, sym, _∙_}
+-- `value::Value::from_parts` meets its contract. Assumes nothing.
 use borrow.Author.Needs.{needs}
+use Rattle.value.specs.Meaning.{partsOf}
+use Rattle.value.proofs.Cases.{zero-yes, zero-no, parts-none, parts-number, parts-beyond}
 use Rattle.value.proofs.Value.from_parts.Statement.{statement}
 use Rattle.value.proofs.Value.from_parts.Tie as tie
-use Rattle.value.proofs.Value.from_parts.Reads as reads
-use Rattle.value.proofs.Value.from_parts.Lts as lts
-use Rattle.value.proofs.Value.number.Reads as number-reads
-use Rattle.value.proofs.in_range.Reads as in-range-reads
 
--- src/lib.rt:143:20
 in-range-requires : tie.Need-in-range-requires
 in-range-requires c κs = search needs
 
--- src/lib.rt:144:35
 number-requires : tie.Need-number-requires
 number-requires c κs = search needs
 
--- src/lib.rt:124:5
 returns : tie.Need-returns
 unfolding partsOf
-returns c = rw (c .before .match .keys1, zero-yes (c .before .before .args .number) (c .before .before .fits .number) (c .if1 .taken))
+returns c =
+    let s = c .before .before in
+    rw (c .before .match .keys1, zero-yes (s .args .number) (s .fits .number) (c .if1 .taken))
 
--- src/lib.rt:124:5
 returns-2 : tie.Need-returns-2
 unfolding partsOf
-returns-2 c = rw (c .before .match .keys1, zero-no (c .before .before .args .number) (c .before .before .fits .number) (c .if1 .left))
+returns-2 c =
+    let s = c .before .before in
+    rw (c .before .match .keys1, zero-no (s .args .number) (s .fits .number) (c .if1 .left))
 
--- src/lib.rt:124:5
 returns-3 : tie.Need-returns-3
 unfolding partsOf
-returns-3 c = rw (c .before .match .keys2, zero-yes (c .before .before .args .number) (c .before .before .fits .number) (c .if2 .taken))
+returns-3 c =
+    let s = c .before .before in
+    rw (c .before .match .keys2, zero-yes (s .args .number) (s .fits .number) (c .if2 .taken))
 
--- src/lib.rt:124:5
 returns-4 : tie.Need-returns-4
 unfolding partsOf
-returns-4 c = rw (c .before .match .keys2, zero-no (c .before .before .args .number) (c .before .before .fits .number) (c .if2 .left))
+returns-4 c =
+    let s = c .before .before in
+    rw (c .before .match .keys2, zero-no (s .args .number) (s .fits .number) (c .if2 .left))
 
--- src/lib.rt:124:5
 returns-5 : tie.Need-returns-5
-returns-5 c = parts-number (c .before .before .before .before .args .kind) (c .before .before .before .before .args .number) (c .before .before .before .before .fits .number) _ _ (c .before .before .before .match .keys3) (c .before .before .in-range .ensures) (c .before .if3 .taken) (c .number .ensures)
+returns-5 c =
+    let s = c .before .before .before .before in
+    parts-number (s .args .kind) (s .args .number) (s .fits .number) _ _ (c .before .before .before .match .keys3) (c .before .before .in-range .ensures)
+    (c .before .if3 .taken) (c .number .ensures)
 
--- src/lib.rt:124:5
 returns-6 : tie.Need-returns-6
-returns-6 c = parts-beyond (c .before .before .before .args .kind) (c .before .before .before .args .number) (c .before .before .before .fits .number) _ (c .before .before .match .keys3) (c .before .in-range .ensures) (c .if3 .left)
+returns-6 c =
+    let s = c .before .before .before in
+    parts-beyond (s .args .kind) (s .args .number) (s .fits .number) _ (c .before .before .match .keys3) (c .before .in-range .ensures)
+    (c .if3 .left)
 
--- src/lib.rt:124:5
 returns-7 : tie.Need-returns-7
-returns-7 c = parts-none (c .before .args .kind) (c .before .args .number) (c .match .rest .0 .0 .1) (c .match .rest .0 .1) (c .match .rest .1)
+returns-7 c =
+    let s = c .before in
+    parts-none (s .args .kind) (s .args .number) (c .match .rest .0 .0 .1) (c .match .rest .0 .1) (c .match .rest .1)
 
 pub from-parts-spec : {M : Type 1} → statement M
 from-parts-spec =

@@ -1,38 +1,31 @@
-use Rattle.value.proofs.Signed.{back}
+-- `value::Value::number_or_zero` meets its contract. Assumes nothing.
+use mathlib.Core.Path.{sym, ap, _∙_}
+use borrow.Author.Needs.{needs}
+use Rattle.circuit.specs.Value.{numberOf}
 use Rattle.value.specs.Meaning.{amountMeaning}
 use Rattle.value.specs.declared.Amount.{Amount}
-use Rattle.circuit.specs.Value.{numberOf}
-use mir.Syntax.{w64}
-use mathlib.Core.Path.{_≡_, sym, ap, _∙_}
-use borrow.Author.Needs.{needs}
+use Rattle.value.proofs.Signed.{back}
 use Rattle.value.proofs.Value.number_or_zero.Statement.{statement}
 use Rattle.value.proofs.Value.number_or_zero.Tie as tie
-use Rattle.value.proofs.Value.number_or_zero.Reads as reads
-use Rattle.value.proofs.Value.number_or_zero.Lts as lts
 
--- src/lib.rt:117:29
 enum-told : tie.Need-enum-told
 enum-told c = search needs
 
--- src/lib.rt:118:28
 enum-told-2 : tie.Need-enum-told-2
 enum-told-2 c = search needs
 
--- src/lib.rt:119:28
 enum-known-a : tie.Need-enum-known-a
 enum-known-a c = search needs
 
--- src/lib.rt:112:5
 returns : tie.Need-returns
 returns c = sym (ap (λ (a : Amount). numberOf (amountMeaning a)) (c .enum-told .given .1))
 
--- src/lib.rt:112:5
 returns-2 : tie.Need-returns-2
 returns-2 c = sym (ap (λ (a : Amount). numberOf (amountMeaning a)) (c .enum-told2 .given .1))
 
--- src/lib.rt:112:5
 returns-3 : tie.Need-returns-3
-returns-3 c = back (c .before .a .given .0 .0) (search needs) ∙ sym (ap (λ (a : Amount). numberOf (amountMeaning a)) (c .before .a .given .1))
+returns-3 c =
+    back (c .before .a .given .0 .0) (search needs) ∙ sym (ap (λ (a : Amount). numberOf (amountMeaning a)) (c .before .a .given .1))
 
 pub number-or-zero-spec : {M : Type 1} → statement M
 number-or-zero-spec = tie.close (tie.spec enum-told enum-told-2 enum-known-a returns returns-2 returns-3)

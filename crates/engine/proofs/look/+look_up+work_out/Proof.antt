@@ -1,0 +1,956 @@
+use Rattle.value.proofs.Signed.{back}
+use Prim.Native.Nat.{ℕ, _<_, _+_, _*_, _-_}
+use native.Mathlib.Omega.{arith}
+use mathlib.Core.Path.{_≡_, refl, sym, ap, _∙_}
+use borrow.Author.Needs.{needs}
+use Rattle.item.proofs.Located.{size-most, located-field, located-item}
+use Rattle.engine.specs.Memo.{seenMeaning, found}
+use Rattle.engine.proofs.Looking.{lent-fits, unstored-figure, stored-returns, recalled-returns, worked-figure, worked-returns}
+use Rattle.engine.proofs.Gathering.{Going, gathering-memo, going-start, going-field, going-more, going-below, going-lent, going-figure, going-next, going-takes, going-formed, going-done}
+use borrow.Fn.Kinds.{In}
+use borrow.Fn.PlainCycle.{Measures, is, falls, and}
+use Rattle.engine.proofs.look.look_up.Reads as look-up
+use Rattle.engine.proofs.look.look_up.Kinds as look-up-kinds
+use Rattle.engine.proofs.look.+look_up+work_out.Lts-look_up as look-up-lts
+use Rattle.engine.proofs.look.work_out.Reads as work-out
+use Rattle.engine.proofs.look.work_out.Kinds as work-out-kinds
+use Rattle.engine.proofs.look.+look_up+work_out.Lts-work_out as work-out-lts
+use Rattle.engine.proofs.look.either.Reads as either-reads
+use Rattle.engine.proofs.look.is_notice.Reads as is-notice-reads
+use Rattle.engine.proofs.look.settle.Reads as settle-reads
+use Rattle.engine.proofs.memo.recalled.Reads as recalled-reads
+use Rattle.item.proofs.is_kept.Reads as is-kept-reads
+use Rattle.item.proofs.operation.Reads as operation-reads
+use Rattle.item.proofs.parent.Reads as parent-reads
+use Rattle.item.proofs.parent_count.Reads as parent-count-reads
+use Rattle.table.proofs.read_cell.Reads as read-cell-reads
+use Rattle.value.proofs.Value.kind.Reads as kind-reads
+use Rattle.value.proofs.Value.number_or_zero.Reads as number-or-zero-reads
+use Rattle.value.proofs.apply.Reads as apply-reads
+use Rattle.engine.proofs.look.+look_up+work_out.{statement}
+use Rattle.engine.proofs.look.+look_up+work_out.Tie.{close}
+
+abbrev μ-look-up : Measures 5 look-up-kinds.ps ℕ
+μ-look-up κs a = 2 * (a .1 .1 .1 .1 .1 .1 .0) + 1
+
+abbrev μ-work-out : Measures 5 work-out-kinds.ps ℕ
+μ-work-out κs a = 2 * (a .1 .1 .1 .1 .1 .1 .0)
+
+abbrev look-up-at : ℕ → In 5 look-up-kinds.ps
+look-up-at t = and 5 look-up-kinds.ps (is 5 look-up-kinds.ps μ-look-up t) look-up.Pre
+
+abbrev look-up-below : ℕ → In 5 look-up-kinds.ps
+look-up-below t = and 5 look-up-kinds.ps (falls 5 look-up-kinds.ps _<_ μ-look-up t) look-up.Pre
+
+abbrev work-out-at : ℕ → In 5 work-out-kinds.ps
+work-out-at t = and 5 work-out-kinds.ps (is 5 work-out-kinds.ps μ-work-out t) work-out.Pre
+
+abbrev work-out-below : ℕ → In 5 work-out-kinds.ps
+work-out-below t =
+    and 5 work-out-kinds.ps (falls 5 work-out-kinds.ps _<_ μ-work-out t) work-out.Pre
+
+-- src/look.rt:82:11
+look-up-read-cell-requires : (t : ℕ) → look-up-lts.Need-read-cell-requires (
+  read-cell-reads.Asked,
+  read-cell-reads.Learnt,
+  is-notice-reads.Asked,
+  is-notice-reads.Learnt,
+  recalled-reads.Asked,
+  recalled-reads.Learnt,
+  is-kept-reads.Asked,
+  is-kept-reads.Learnt,
+  work-out-below t,
+  work-out.Post,
+  settle-reads.Asked,
+  settle-reads.Learnt,
+) (look-up-at t) look-up.Post
+look-up-read-cell-requires t c κs = search needs
+
+-- src/look.rt:83:20
+look-up-enum-known-value : (t : ℕ) → look-up-lts.Need-enum-known-value (
+  read-cell-reads.Asked,
+  read-cell-reads.Learnt,
+  is-notice-reads.Asked,
+  is-notice-reads.Learnt,
+  recalled-reads.Asked,
+  recalled-reads.Learnt,
+  is-kept-reads.Asked,
+  is-kept-reads.Learnt,
+  work-out-below t,
+  work-out.Post,
+  settle-reads.Asked,
+  settle-reads.Learnt,
+) (look-up-at t) look-up.Post
+look-up-enum-known-value t c = search needs
+
+-- src/look.rt:85:19
+look-up-is-notice-requires : (t : ℕ) → look-up-lts.Need-is-notice-requires (
+  read-cell-reads.Asked,
+  read-cell-reads.Learnt,
+  is-notice-reads.Asked,
+  is-notice-reads.Learnt,
+  recalled-reads.Asked,
+  recalled-reads.Learnt,
+  is-kept-reads.Asked,
+  is-kept-reads.Learnt,
+  work-out-below t,
+  work-out.Post,
+  settle-reads.Asked,
+  settle-reads.Learnt,
+) (look-up-at t) look-up.Post
+look-up-is-notice-requires t c κs = search needs
+
+-- src/look.rt:87:19
+look-up-enum-known-noticed : (t : ℕ) → look-up-lts.Need-enum-known-noticed (
+  read-cell-reads.Asked,
+  read-cell-reads.Learnt,
+  is-notice-reads.Asked,
+  is-notice-reads.Learnt,
+  recalled-reads.Asked,
+  recalled-reads.Learnt,
+  is-kept-reads.Asked,
+  is-kept-reads.Learnt,
+  work-out-below t,
+  work-out.Post,
+  settle-reads.Asked,
+  settle-reads.Learnt,
+) (look-up-at t) look-up.Post
+look-up-enum-known-noticed t c = search needs
+
+-- src/look.rt:87:37
+look-up-recalled-requires : (t : ℕ) → look-up-lts.Need-recalled-requires (
+  read-cell-reads.Asked,
+  read-cell-reads.Learnt,
+  is-notice-reads.Asked,
+  is-notice-reads.Learnt,
+  recalled-reads.Asked,
+  recalled-reads.Learnt,
+  is-kept-reads.Asked,
+  is-kept-reads.Learnt,
+  work-out-below t,
+  work-out.Post,
+  settle-reads.Asked,
+  settle-reads.Learnt,
+) (look-up-at t) look-up.Post
+look-up-recalled-requires t c κs = search needs
+
+-- src/look.rt:88:27
+look-up-enum-known-seen : (t : ℕ) → look-up-lts.Need-enum-known-seen (
+  read-cell-reads.Asked,
+  read-cell-reads.Learnt,
+  is-notice-reads.Asked,
+  is-notice-reads.Learnt,
+  recalled-reads.Asked,
+  recalled-reads.Learnt,
+  is-kept-reads.Asked,
+  is-kept-reads.Learnt,
+  work-out-below t,
+  work-out.Post,
+  settle-reads.Asked,
+  settle-reads.Learnt,
+) (look-up-at t) look-up.Post
+look-up-enum-known-seen t c = search needs
+
+-- src/look.rt:90:49
+look-up-enum-told : (t : ℕ) → look-up-lts.Need-enum-told (
+  read-cell-reads.Asked,
+  read-cell-reads.Learnt,
+  is-notice-reads.Asked,
+  is-notice-reads.Learnt,
+  recalled-reads.Asked,
+  recalled-reads.Learnt,
+  is-kept-reads.Asked,
+  is-kept-reads.Learnt,
+  work-out-below t,
+  work-out.Post,
+  settle-reads.Asked,
+  settle-reads.Learnt,
+) (look-up-at t) look-up.Post
+look-up-enum-told t c = search needs
+
+-- src/look.rt:90:49
+look-up-mul-is-kept : (t : ℕ) → look-up-lts.Need-mul-is-kept (
+  read-cell-reads.Asked,
+  read-cell-reads.Learnt,
+  is-notice-reads.Asked,
+  is-notice-reads.Learnt,
+  recalled-reads.Asked,
+  recalled-reads.Learnt,
+  is-kept-reads.Asked,
+  is-kept-reads.Learnt,
+  work-out-below t,
+  work-out.Post,
+  settle-reads.Asked,
+  settle-reads.Learnt,
+) (look-up-at t) look-up.Post
+look-up-mul-is-kept t c = let q = c .before .before .before .before .before .before .before .before .before .before .before .before .before .before .pre .1 in let a = c .before .before .before .before .before .before .before .before .before .before .before .before .before .before .args in record { fits = omega (arith, size-most (a .sheet .now), q .1 .1) }
+
+-- src/look.rt:90:49
+look-up-shared-slice-read-is-kept : (t : ℕ) → look-up-lts.Need-shared-slice-read-is-kept (
+  read-cell-reads.Asked,
+  read-cell-reads.Learnt,
+  is-notice-reads.Asked,
+  is-notice-reads.Learnt,
+  recalled-reads.Asked,
+  recalled-reads.Learnt,
+  is-kept-reads.Asked,
+  is-kept-reads.Learnt,
+  work-out-below t,
+  work-out.Post,
+  settle-reads.Asked,
+  settle-reads.Learnt,
+) (look-up-at t) look-up.Post
+look-up-shared-slice-read-is-kept t c = let q = c .before .before .before .before .before .before .before .before .before .before .before .before .before .before .before .pre .1 in let a = c .before .before .before .before .before .before .before .before .before .before .before .before .before .before .before .args in omega (arith, q .0 .room, q .1 .1)
+
+-- src/look.rt:90:21
+look-up-is-kept-requires : (t : ℕ) → look-up-lts.Need-is-kept-requires (
+  read-cell-reads.Asked,
+  read-cell-reads.Learnt,
+  is-notice-reads.Asked,
+  is-notice-reads.Learnt,
+  recalled-reads.Asked,
+  recalled-reads.Learnt,
+  is-kept-reads.Asked,
+  is-kept-reads.Learnt,
+  work-out-below t,
+  work-out.Post,
+  settle-reads.Asked,
+  settle-reads.Learnt,
+) (look-up-at t) look-up.Post
+look-up-is-kept-requires t c κs = let q = c .before .before .before .before .before .before .before .before .before .before .before .before .before .before .before .pre .1 in let a = c .before .before .before .before .before .before .before .before .before .before .before .before .before .before .before .args in located-field (a .sheet .now) (a .offsets .now) (q .0 .located) (a .i) (q .1 .1)
+
+-- src/look.rt:91:21
+look-up-work-out-requires : (t : ℕ) → look-up-lts.Need-work-out-requires (
+  read-cell-reads.Asked,
+  read-cell-reads.Learnt,
+  is-notice-reads.Asked,
+  is-notice-reads.Learnt,
+  recalled-reads.Asked,
+  recalled-reads.Learnt,
+  is-kept-reads.Asked,
+  is-kept-reads.Learnt,
+  work-out-below t,
+  work-out.Post,
+  settle-reads.Asked,
+  settle-reads.Learnt,
+) (look-up-at t) look-up.Post
+look-up-work-out-requires t c κs = let q = c .before .before .before .before .before .before .before .before .before .before .before .before .before .before .before .before .before .before .before .pre .1 in let a = c .before .before .before .before .before .before .before .before .before .before .before .before .before .before .before .before .before .before .before .args in (omega (arith, c .before .before .before .before .before .before .before .before .before .before .before .before .before .before .before .before .before .before .before .pre .0), (q .0, (q .1 .0, (q .1 .1, worked-figure (q .0) (q .1 .1) (q .1 .0) _ (c .before .before .before .before .before .before .before .before .before .before .before .before .before .read-cell .ensures) _ (c .before .before .before .before .before .before .before .before .before .before .before .noticed .given .1)))))
+
+-- src/look.rt:92:17
+look-up-settle-requires : (t : ℕ) → look-up-lts.Need-settle-requires (
+  read-cell-reads.Asked,
+  read-cell-reads.Learnt,
+  is-notice-reads.Asked,
+  is-notice-reads.Learnt,
+  recalled-reads.Asked,
+  recalled-reads.Learnt,
+  is-kept-reads.Asked,
+  is-kept-reads.Learnt,
+  work-out-below t,
+  work-out.Post,
+  settle-reads.Asked,
+  settle-reads.Learnt,
+) (look-up-at t) look-up.Post
+look-up-settle-requires t c κs = let q = c .before .before .before .before .before .before .before .before .before .before .before .before .before .before .before .before .before .before .before .before .before .before .before .before .before .before .before .before .pre .1 in let a = c .before .before .before .before .before .before .before .before .before .before .before .before .before .before .before .before .before .before .before .before .before .before .before .before .before .before .before .before .args in let w = c .before .before .before .before .before .before .before .before .work-out in let m = w .ensures (a .i) (omega arith) .memo in (omega (arith, lent-fits (q .0) (a .i) (q .1 .1), w .kept .1 .1 .0), (omega (arith, m .tag-room, q .1 .1), (omega (arith, m .number-room, q .1 .1), q .1 .0 .generations)))
+
+-- src/look.rt:70:1
+look-up-same-length : (t : ℕ) → look-up-lts.Need-same-length (
+  read-cell-reads.Asked,
+  read-cell-reads.Learnt,
+  is-notice-reads.Asked,
+  is-notice-reads.Learnt,
+  recalled-reads.Asked,
+  recalled-reads.Learnt,
+  is-kept-reads.Asked,
+  is-kept-reads.Learnt,
+  work-out-below t,
+  work-out.Post,
+  settle-reads.Asked,
+  settle-reads.Learnt,
+) (look-up-at t) look-up.Post
+look-up-same-length t c = search needs
+
+-- src/look.rt:70:1
+look-up-returns : (t : ℕ) → look-up-lts.Need-returns (
+  read-cell-reads.Asked,
+  read-cell-reads.Learnt,
+  is-notice-reads.Asked,
+  is-notice-reads.Learnt,
+  recalled-reads.Asked,
+  recalled-reads.Learnt,
+  is-kept-reads.Asked,
+  is-kept-reads.Learnt,
+  work-out-below t,
+  work-out.Post,
+  settle-reads.Asked,
+  settle-reads.Learnt,
+) (look-up-at t) look-up.Post
+look-up-returns t c = let q = c .before .before .before .before .before .before .before .before .before .before .pre .1 in let a = c .before .before .before .before .before .before .before .before .before .before .args in let g = c .before .before .value .given in stored-returns (q .0) (q .1 .1) (q .1 .0) _ (c .before .before .before .before .read-cell .ensures) _ _ (g .1) _ (c .is-notice .ensures)
+
+-- src/look.rt:70:1
+look-up-same-length-2 : (t : ℕ) → look-up-lts.Need-same-length-2 (
+  read-cell-reads.Asked,
+  read-cell-reads.Learnt,
+  is-notice-reads.Asked,
+  is-notice-reads.Learnt,
+  recalled-reads.Asked,
+  recalled-reads.Learnt,
+  is-kept-reads.Asked,
+  is-kept-reads.Learnt,
+  work-out-below t,
+  work-out.Post,
+  settle-reads.Asked,
+  settle-reads.Learnt,
+) (look-up-at t) look-up.Post
+look-up-same-length-2 t c = search needs
+
+-- src/look.rt:70:1
+look-up-same-length-3 : (t : ℕ) → look-up-lts.Need-same-length-3 (
+  read-cell-reads.Asked,
+  read-cell-reads.Learnt,
+  is-notice-reads.Asked,
+  is-notice-reads.Learnt,
+  recalled-reads.Asked,
+  recalled-reads.Learnt,
+  is-kept-reads.Asked,
+  is-kept-reads.Learnt,
+  work-out-below t,
+  work-out.Post,
+  settle-reads.Asked,
+  settle-reads.Learnt,
+) (look-up-at t) look-up.Post
+look-up-same-length-3 t c = search needs
+
+-- src/look.rt:70:1
+look-up-same-length-4 : (t : ℕ) → look-up-lts.Need-same-length-4 (
+  read-cell-reads.Asked,
+  read-cell-reads.Learnt,
+  is-notice-reads.Asked,
+  is-notice-reads.Learnt,
+  recalled-reads.Asked,
+  recalled-reads.Learnt,
+  is-kept-reads.Asked,
+  is-kept-reads.Learnt,
+  work-out-below t,
+  work-out.Post,
+  settle-reads.Asked,
+  settle-reads.Learnt,
+) (look-up-at t) look-up.Post
+look-up-same-length-4 t c = search needs
+
+-- src/look.rt:70:1
+look-up-returns-2 : (t : ℕ) → look-up-lts.Need-returns-2 (
+  read-cell-reads.Asked,
+  read-cell-reads.Learnt,
+  is-notice-reads.Asked,
+  is-notice-reads.Learnt,
+  recalled-reads.Asked,
+  recalled-reads.Learnt,
+  is-kept-reads.Asked,
+  is-kept-reads.Learnt,
+  work-out-below t,
+  work-out.Post,
+  settle-reads.Asked,
+  settle-reads.Learnt,
+) (look-up-at t) look-up.Post
+look-up-returns-2 t c = let q = c .before .before .before .before .before .before .before .before .before .before .before .before .before .before .before .pre .1 in let a = c .before .before .before .before .before .before .before .before .before .before .before .before .before .before .before .args in recalled-returns (q .0) (q .1 .1) (q .1 .0) (c .before .before .before .before .before .before .before .before .before .read-cell .result) (c .before .before .before .before .before .before .before .before .before .read-cell .ensures) _ (c .before .before .before .recalled .ensures) _ (c .before .seen .given .1)
+
+-- src/look.rt:70:1
+look-up-same-length-5 : (t : ℕ) → look-up-lts.Need-same-length-5 (
+  read-cell-reads.Asked,
+  read-cell-reads.Learnt,
+  is-notice-reads.Asked,
+  is-notice-reads.Learnt,
+  recalled-reads.Asked,
+  recalled-reads.Learnt,
+  is-kept-reads.Asked,
+  is-kept-reads.Learnt,
+  work-out-below t,
+  work-out.Post,
+  settle-reads.Asked,
+  settle-reads.Learnt,
+) (look-up-at t) look-up.Post
+look-up-same-length-5 t c = search needs
+
+-- src/look.rt:70:1
+look-up-same-length-6 : (t : ℕ) → look-up-lts.Need-same-length-6 (
+  read-cell-reads.Asked,
+  read-cell-reads.Learnt,
+  is-notice-reads.Asked,
+  is-notice-reads.Learnt,
+  recalled-reads.Asked,
+  recalled-reads.Learnt,
+  is-kept-reads.Asked,
+  is-kept-reads.Learnt,
+  work-out-below t,
+  work-out.Post,
+  settle-reads.Asked,
+  settle-reads.Learnt,
+) (look-up-at t) look-up.Post
+look-up-same-length-6 t c = search needs
+
+-- src/look.rt:70:1
+look-up-same-length-7 : (t : ℕ) → look-up-lts.Need-same-length-7 (
+  read-cell-reads.Asked,
+  read-cell-reads.Learnt,
+  is-notice-reads.Asked,
+  is-notice-reads.Learnt,
+  recalled-reads.Asked,
+  recalled-reads.Learnt,
+  is-kept-reads.Asked,
+  is-kept-reads.Learnt,
+  work-out-below t,
+  work-out.Post,
+  settle-reads.Asked,
+  settle-reads.Learnt,
+) (look-up-at t) look-up.Post
+look-up-same-length-7 t c = search needs
+
+-- src/look.rt:70:1
+look-up-returns-3 : (t : ℕ) → look-up-lts.Need-returns-3 (
+  read-cell-reads.Asked,
+  read-cell-reads.Learnt,
+  is-notice-reads.Asked,
+  is-notice-reads.Learnt,
+  recalled-reads.Asked,
+  recalled-reads.Learnt,
+  is-kept-reads.Asked,
+  is-kept-reads.Learnt,
+  work-out-below t,
+  work-out.Post,
+  settle-reads.Asked,
+  settle-reads.Learnt,
+) (look-up-at t) look-up.Post
+look-up-returns-3 t c = let q = c .before .before .before .before .before .before .before .before .before .before .before .before .before .before .before .before .before .before .before .before .before .before .before .before .before .before .before .before .before .before .before .before .before .before .pre .1 in let a = c .before .before .before .before .before .before .before .before .before .before .before .before .before .before .before .before .before .before .before .before .before .before .before .before .before .before .before .before .before .before .before .before .before .before .args in worked-returns (q .0) (q .1 .1) (q .1 .0) _ (c .before .before .before .before .before .before .before .before .before .before .before .before .before .before .before .before .before .before .before .before .before .before .before .before .before .before .before .before .read-cell .ensures) _ (c .before .before .before .before .before .before .before .before .before .before .before .before .before .before .before .before .before .before .before .before .before .before .before .before .before .before .noticed .given .1) _ (c .before .before .before .before .before .before .before .before .before .before .before .before .before .before .before .before .before .before .is-kept .ensures) _ _ _ _ (c .before .before .before .before .before .before .before .before .before .before .before .before .before .before .work-out .kept .1 .1 .0) (c .before .before .before .before .before .before .before .before .before .before .before .before .before .before .work-out .ensures) _ _ _ _ (c .before .before .before .before .before .settle .ensures)
+
+abbrev work-out-Inv-loop : work-out-lts.InvT-loop
+work-out-Inv-loop sheet offsets table₀ tags₀ numbers₀ generation i at count kinds₀ amounts₀ flag₀ k₀ table tags numbers kinds amounts flag k =
+    Going sheet offsets table₀ tags₀ numbers₀ generation i at count k table tags numbers kinds amounts flag
+
+abbrev work-out-μ-loop : work-out-lts.MeasureT-loop
+work-out-μ-loop sheet offsets table₀ tags₀ numbers₀ generation i at count kinds₀ amounts₀ flag₀ k₀ table tags numbers kinds amounts flag k =
+    count - k
+
+-- src/look.rt:111:14
+work-out-mul-at : (t : ℕ) → work-out-lts.Need-mul-at (
+  parent-count-reads.Asked,
+  parent-count-reads.Learnt,
+  parent-reads.Asked,
+  parent-reads.Learnt,
+  look-up-below t,
+  look-up.Post,
+  kind-reads.Asked,
+  kind-reads.Learnt,
+  number-or-zero-reads.Asked,
+  number-or-zero-reads.Learnt,
+  either-reads.Asked,
+  either-reads.Learnt,
+  operation-reads.Asked,
+  operation-reads.Learnt,
+  apply-reads.Asked,
+  apply-reads.Learnt,
+) (work-out-at t) work-out.Post work-out-Inv-loop work-out-μ-loop
+work-out-mul-at t c = search needs
+
+-- src/look.rt:111:14
+work-out-shared-slice-read-at : (t : ℕ) → work-out-lts.Need-shared-slice-read-at (
+  parent-count-reads.Asked,
+  parent-count-reads.Learnt,
+  parent-reads.Asked,
+  parent-reads.Learnt,
+  look-up-below t,
+  look-up.Post,
+  kind-reads.Asked,
+  kind-reads.Learnt,
+  number-or-zero-reads.Asked,
+  number-or-zero-reads.Learnt,
+  either-reads.Asked,
+  either-reads.Learnt,
+  operation-reads.Asked,
+  operation-reads.Learnt,
+  apply-reads.Asked,
+  apply-reads.Learnt,
+) (work-out-at t) work-out.Post work-out-Inv-loop work-out-μ-loop
+work-out-shared-slice-read-at t c = search needs
+
+-- src/look.rt:112:9
+work-out-parent-count-requires : (t : ℕ) → work-out-lts.Need-parent-count-requires (
+  parent-count-reads.Asked,
+  parent-count-reads.Learnt,
+  parent-reads.Asked,
+  parent-reads.Learnt,
+  look-up-below t,
+  look-up.Post,
+  kind-reads.Asked,
+  kind-reads.Learnt,
+  number-or-zero-reads.Asked,
+  number-or-zero-reads.Learnt,
+  either-reads.Asked,
+  either-reads.Learnt,
+  operation-reads.Asked,
+  operation-reads.Learnt,
+  apply-reads.Asked,
+  apply-reads.Learnt,
+) (work-out-at t) work-out.Post work-out-Inv-loop work-out-μ-loop
+work-out-parent-count-requires t c κs = let q = c .before .before .before .before .before .pre .1 in let a = c .before .before .before .before .before .args in located-field (a .sheet .now) (a .offsets .now) (q .0 .located) (a .i) (q .1 .1 .0)
+
+-- src/look.rt:117:5
+work-out-loop-holds : (t : ℕ) → work-out-lts.Need-loop-holds (
+  parent-count-reads.Asked,
+  parent-count-reads.Learnt,
+  parent-reads.Asked,
+  parent-reads.Learnt,
+  look-up-below t,
+  look-up.Post,
+  kind-reads.Asked,
+  kind-reads.Learnt,
+  number-or-zero-reads.Asked,
+  number-or-zero-reads.Learnt,
+  either-reads.Asked,
+  either-reads.Learnt,
+  operation-reads.Asked,
+  operation-reads.Learnt,
+  apply-reads.Asked,
+  apply-reads.Learnt,
+) (work-out-at t) work-out.Post work-out-Inv-loop work-out-μ-loop
+work-out-loop-holds t c = let q = c .before .before .before .before .before .before .pre .1 in let a = c .before .before .before .before .before .before .args in going-start (q .0) (q .1 .0) (q .1 .1 .0) (q .1 .1 .1) _ (c .parent-count .ensures) _ _ refl refl
+
+-- src/look.rt:118:13
+work-out-parent-requires : (t : ℕ) → work-out-lts.Need-parent-requires (
+  parent-count-reads.Asked,
+  parent-count-reads.Learnt,
+  parent-reads.Asked,
+  parent-reads.Learnt,
+  look-up-below t,
+  look-up.Post,
+  kind-reads.Asked,
+  kind-reads.Learnt,
+  number-or-zero-reads.Asked,
+  number-or-zero-reads.Learnt,
+  either-reads.Asked,
+  either-reads.Learnt,
+  operation-reads.Asked,
+  operation-reads.Learnt,
+  apply-reads.Asked,
+  apply-reads.Learnt,
+) (work-out-at t) work-out.Post work-out-Inv-loop work-out-μ-loop
+work-out-parent-requires t c κs = let inv = c .before .loop .inv in (going-field inv, going-more inv (search needs))
+
+-- src/look.rt:119:13
+work-out-look-up-requires : (t : ℕ) → work-out-lts.Need-look-up-requires (
+  parent-count-reads.Asked,
+  parent-count-reads.Learnt,
+  parent-reads.Asked,
+  parent-reads.Learnt,
+  look-up-below t,
+  look-up.Post,
+  kind-reads.Asked,
+  kind-reads.Learnt,
+  number-or-zero-reads.Asked,
+  number-or-zero-reads.Learnt,
+  either-reads.Asked,
+  either-reads.Learnt,
+  operation-reads.Asked,
+  operation-reads.Learnt,
+  apply-reads.Asked,
+  apply-reads.Learnt,
+) (work-out-at t) work-out.Post work-out-Inv-loop work-out-μ-loop
+work-out-look-up-requires t c κs = let inv = c .before .before .before .before .before .loop .inv in let p = c .before .before .before .parent in let low = going-below inv (p .result) (p .ensures) (c .before .before .before .before .loop-test .taken) in (omega (arith, low, c .before .before .before .before .before .before .before .before .before .before .before .before .pre .0), (going-lent inv, (gathering-memo (inv .gathering), omega (arith, low, inv .low))))
+
+-- src/look.rt:121:20
+work-out-kind-requires : (t : ℕ) → work-out-lts.Need-kind-requires (
+  parent-count-reads.Asked,
+  parent-count-reads.Learnt,
+  parent-reads.Asked,
+  parent-reads.Learnt,
+  look-up-below t,
+  look-up.Post,
+  kind-reads.Asked,
+  kind-reads.Learnt,
+  number-or-zero-reads.Asked,
+  number-or-zero-reads.Learnt,
+  either-reads.Asked,
+  either-reads.Learnt,
+  operation-reads.Asked,
+  operation-reads.Learnt,
+  apply-reads.Asked,
+  apply-reads.Learnt,
+) (work-out-at t) work-out.Post work-out-Inv-loop work-out-μ-loop
+work-out-kind-requires t c κs = search needs
+
+-- src/look.rt:121:9
+work-out-array-write-kinds : (t : ℕ) → work-out-lts.Need-array-write-kinds (
+  parent-count-reads.Asked,
+  parent-count-reads.Learnt,
+  parent-reads.Asked,
+  parent-reads.Learnt,
+  look-up-below t,
+  look-up.Post,
+  kind-reads.Asked,
+  kind-reads.Learnt,
+  number-or-zero-reads.Asked,
+  number-or-zero-reads.Learnt,
+  either-reads.Asked,
+  either-reads.Learnt,
+  operation-reads.Asked,
+  operation-reads.Learnt,
+  apply-reads.Asked,
+  apply-reads.Learnt,
+) (work-out-at t) work-out.Post work-out-Inv-loop work-out-μ-loop
+work-out-array-write-kinds t c = search needs
+
+-- src/look.rt:122:22
+work-out-number-or-zero-requires : (t : ℕ) → work-out-lts.Need-number-or-zero-requires (
+  parent-count-reads.Asked,
+  parent-count-reads.Learnt,
+  parent-reads.Asked,
+  parent-reads.Learnt,
+  look-up-below t,
+  look-up.Post,
+  kind-reads.Asked,
+  kind-reads.Learnt,
+  number-or-zero-reads.Asked,
+  number-or-zero-reads.Learnt,
+  either-reads.Asked,
+  either-reads.Learnt,
+  operation-reads.Asked,
+  operation-reads.Learnt,
+  apply-reads.Asked,
+  apply-reads.Learnt,
+) (work-out-at t) work-out.Post work-out-Inv-loop work-out-μ-loop
+work-out-number-or-zero-requires t c κs = search needs
+
+-- src/look.rt:122:9
+work-out-mul-amounts : (t : ℕ) → work-out-lts.Need-mul-amounts (
+  parent-count-reads.Asked,
+  parent-count-reads.Learnt,
+  parent-reads.Asked,
+  parent-reads.Learnt,
+  look-up-below t,
+  look-up.Post,
+  kind-reads.Asked,
+  kind-reads.Learnt,
+  number-or-zero-reads.Asked,
+  number-or-zero-reads.Learnt,
+  either-reads.Asked,
+  either-reads.Learnt,
+  operation-reads.Asked,
+  operation-reads.Learnt,
+  apply-reads.Asked,
+  apply-reads.Learnt,
+) (work-out-at t) work-out.Post work-out-Inv-loop work-out-μ-loop
+work-out-mul-amounts t c = search needs
+
+-- src/look.rt:122:9
+work-out-array-set-from-amounts : (t : ℕ) → work-out-lts.Need-array-set-from-amounts (
+  parent-count-reads.Asked,
+  parent-count-reads.Learnt,
+  parent-reads.Asked,
+  parent-reads.Learnt,
+  look-up-below t,
+  look-up.Post,
+  kind-reads.Asked,
+  kind-reads.Learnt,
+  number-or-zero-reads.Asked,
+  number-or-zero-reads.Learnt,
+  either-reads.Asked,
+  either-reads.Learnt,
+  operation-reads.Asked,
+  operation-reads.Learnt,
+  apply-reads.Asked,
+  apply-reads.Learnt,
+) (work-out-at t) work-out.Post work-out-Inv-loop work-out-μ-loop
+work-out-array-set-from-amounts t c = search needs
+
+-- src/look.rt:123:9
+work-out-either-requires : (t : ℕ) → work-out-lts.Need-either-requires (
+  parent-count-reads.Asked,
+  parent-count-reads.Learnt,
+  parent-reads.Asked,
+  parent-reads.Learnt,
+  look-up-below t,
+  look-up.Post,
+  kind-reads.Asked,
+  kind-reads.Learnt,
+  number-or-zero-reads.Asked,
+  number-or-zero-reads.Learnt,
+  either-reads.Asked,
+  either-reads.Learnt,
+  operation-reads.Asked,
+  operation-reads.Learnt,
+  apply-reads.Asked,
+  apply-reads.Learnt,
+) (work-out-at t) work-out.Post work-out-Inv-loop work-out-μ-loop
+work-out-either-requires t c κs = search needs
+
+-- src/look.rt:124:9
+work-out-add-k : (t : ℕ) → work-out-lts.Need-add-k (
+  parent-count-reads.Asked,
+  parent-count-reads.Learnt,
+  parent-reads.Asked,
+  parent-reads.Learnt,
+  look-up-below t,
+  look-up.Post,
+  kind-reads.Asked,
+  kind-reads.Learnt,
+  number-or-zero-reads.Asked,
+  number-or-zero-reads.Learnt,
+  either-reads.Asked,
+  either-reads.Learnt,
+  operation-reads.Asked,
+  operation-reads.Learnt,
+  apply-reads.Asked,
+  apply-reads.Learnt,
+) (work-out-at t) work-out.Post work-out-Inv-loop work-out-μ-loop
+work-out-add-k t c = search needs
+
+-- src/look.rt:117:5
+work-out-loop-less : (t : ℕ) → work-out-lts.Need-loop-less (
+  parent-count-reads.Asked,
+  parent-count-reads.Learnt,
+  parent-reads.Asked,
+  parent-reads.Learnt,
+  look-up-below t,
+  look-up.Post,
+  kind-reads.Asked,
+  kind-reads.Learnt,
+  number-or-zero-reads.Asked,
+  number-or-zero-reads.Learnt,
+  either-reads.Asked,
+  either-reads.Learnt,
+  operation-reads.Asked,
+  operation-reads.Learnt,
+  apply-reads.Asked,
+  apply-reads.Learnt,
+) (work-out-at t) work-out.Post work-out-Inv-loop work-out-μ-loop
+work-out-loop-less t c = search needs
+
+-- src/look.rt:117:5
+work-out-loop-again : (t : ℕ) → work-out-lts.Need-loop-again (
+  parent-count-reads.Asked,
+  parent-count-reads.Learnt,
+  parent-reads.Asked,
+  parent-reads.Learnt,
+  look-up-below t,
+  look-up.Post,
+  kind-reads.Asked,
+  kind-reads.Learnt,
+  number-or-zero-reads.Asked,
+  number-or-zero-reads.Learnt,
+  either-reads.Asked,
+  either-reads.Learnt,
+  operation-reads.Asked,
+  operation-reads.Learnt,
+  apply-reads.Asked,
+  apply-reads.Learnt,
+) (work-out-at t) work-out.Post work-out-Inv-loop work-out-μ-loop
+work-out-loop-again t c = let inv = c .before .before .before .before .before .before .before .before .before .before .before .before .before .before .before .loop .inv in let p = c .before .before .before .before .before .before .before .before .before .before .before .before .before .parent in let l = c .before .before .before .before .before .before .before .before .before .look-up in going-next inv (p .result) (p .ensures) (c .before .before .before .before .before .before .before .before .before .before .before .before .before .before .loop-test .taken) (seenMeaning (l .result)) _ _ _ (l .kept .1 .1 .0) (l .kept .1 .1 .1 .0) (l .kept .1 .1 .1 .1 .0) (l .ensures) _ (c .either .ensures) _ (c .before .before .kind .ensures) _ (back _ (search needs) ∙ c .before .number-or-zero .ensures)
+
+-- src/look.rt:126:9
+work-out-operation-requires : (t : ℕ) → work-out-lts.Need-operation-requires (
+  parent-count-reads.Asked,
+  parent-count-reads.Learnt,
+  parent-reads.Asked,
+  parent-reads.Learnt,
+  look-up-below t,
+  look-up.Post,
+  kind-reads.Asked,
+  kind-reads.Learnt,
+  number-or-zero-reads.Asked,
+  number-or-zero-reads.Learnt,
+  either-reads.Asked,
+  either-reads.Learnt,
+  operation-reads.Asked,
+  operation-reads.Learnt,
+  apply-reads.Asked,
+  apply-reads.Learnt,
+) (work-out-at t) work-out.Post work-out-Inv-loop work-out-μ-loop
+work-out-operation-requires t c κs = let inv = c .before .loop .inv in (going-field inv, going-figure inv)
+
+-- src/look.rt:128:16
+work-out-apply-requires : (t : ℕ) → work-out-lts.Need-apply-requires (
+  parent-count-reads.Asked,
+  parent-count-reads.Learnt,
+  parent-reads.Asked,
+  parent-reads.Learnt,
+  look-up-below t,
+  look-up.Post,
+  kind-reads.Asked,
+  kind-reads.Learnt,
+  number-or-zero-reads.Asked,
+  number-or-zero-reads.Learnt,
+  either-reads.Asked,
+  either-reads.Learnt,
+  operation-reads.Asked,
+  operation-reads.Learnt,
+  apply-reads.Asked,
+  apply-reads.Learnt,
+) (work-out-at t) work-out.Post work-out-Inv-loop work-out-μ-loop
+work-out-apply-requires t c κs = let inv = c .before .before .before .before .loop .inv in (going-takes inv _ (c .before .before .operation .ensures), going-formed inv (c .before .before .before .loop-test .left))
+
+-- src/look.rt:99:1
+work-out-same-length : (t : ℕ) → work-out-lts.Need-same-length (
+  parent-count-reads.Asked,
+  parent-count-reads.Learnt,
+  parent-reads.Asked,
+  parent-reads.Learnt,
+  look-up-below t,
+  look-up.Post,
+  kind-reads.Asked,
+  kind-reads.Learnt,
+  number-or-zero-reads.Asked,
+  number-or-zero-reads.Learnt,
+  either-reads.Asked,
+  either-reads.Learnt,
+  operation-reads.Asked,
+  operation-reads.Learnt,
+  apply-reads.Asked,
+  apply-reads.Learnt,
+) (work-out-at t) work-out.Post work-out-Inv-loop work-out-μ-loop
+work-out-same-length t c = search needs
+
+-- src/look.rt:99:1
+work-out-same-length-2 : (t : ℕ) → work-out-lts.Need-same-length-2 (
+  parent-count-reads.Asked,
+  parent-count-reads.Learnt,
+  parent-reads.Asked,
+  parent-reads.Learnt,
+  look-up-below t,
+  look-up.Post,
+  kind-reads.Asked,
+  kind-reads.Learnt,
+  number-or-zero-reads.Asked,
+  number-or-zero-reads.Learnt,
+  either-reads.Asked,
+  either-reads.Learnt,
+  operation-reads.Asked,
+  operation-reads.Learnt,
+  apply-reads.Asked,
+  apply-reads.Learnt,
+) (work-out-at t) work-out.Post work-out-Inv-loop work-out-μ-loop
+work-out-same-length-2 t c = c .before .before .before .before .before .loop .inv .tags-length
+
+-- src/look.rt:99:1
+work-out-same-length-3 : (t : ℕ) → work-out-lts.Need-same-length-3 (
+  parent-count-reads.Asked,
+  parent-count-reads.Learnt,
+  parent-reads.Asked,
+  parent-reads.Learnt,
+  look-up-below t,
+  look-up.Post,
+  kind-reads.Asked,
+  kind-reads.Learnt,
+  number-or-zero-reads.Asked,
+  number-or-zero-reads.Learnt,
+  either-reads.Asked,
+  either-reads.Learnt,
+  operation-reads.Asked,
+  operation-reads.Learnt,
+  apply-reads.Asked,
+  apply-reads.Learnt,
+) (work-out-at t) work-out.Post work-out-Inv-loop work-out-μ-loop
+work-out-same-length-3 t c = c .before .before .before .before .before .loop .inv .numbers-length
+
+-- src/look.rt:99:1
+work-out-returns : (t : ℕ) → work-out-lts.Need-returns (
+  parent-count-reads.Asked,
+  parent-count-reads.Learnt,
+  parent-reads.Asked,
+  parent-reads.Learnt,
+  look-up-below t,
+  look-up.Post,
+  kind-reads.Asked,
+  kind-reads.Learnt,
+  number-or-zero-reads.Asked,
+  number-or-zero-reads.Learnt,
+  either-reads.Asked,
+  either-reads.Learnt,
+  operation-reads.Asked,
+  operation-reads.Learnt,
+  apply-reads.Asked,
+  apply-reads.Learnt,
+) (work-out-at t) work-out.Post work-out-Inv-loop work-out-μ-loop
+work-out-returns t c = let inv = c .before .before .before .before .before .loop .inv in going-done inv (c .before .before .before .before .loop-test .left) _ (c .before .before .before .operation .ensures) _ (c .apply .ensures)
+
+pub +look-up+work-out-spec : {M : Type 1} → statement M
++look-up+work-out-spec = close μ-look-up μ-work-out (λ t. look-up-lts.spec (
+  read-cell-reads.Asked,
+  read-cell-reads.Learnt,
+  is-notice-reads.Asked,
+  is-notice-reads.Learnt,
+  recalled-reads.Asked,
+  recalled-reads.Learnt,
+  is-kept-reads.Asked,
+  is-kept-reads.Learnt,
+  work-out-below t,
+  work-out.Post,
+  settle-reads.Asked,
+  settle-reads.Learnt,
+)
+    (look-up-at t)
+    look-up.Post
+    (look-up-read-cell-requires t)
+    (look-up-enum-known-value t)
+    (look-up-is-notice-requires t)
+    (look-up-enum-known-noticed t)
+    (look-up-recalled-requires t)
+    (look-up-enum-known-seen t)
+    (look-up-enum-told t)
+    (look-up-mul-is-kept t)
+    (look-up-shared-slice-read-is-kept t)
+    (look-up-is-kept-requires t)
+    (look-up-work-out-requires t)
+    (look-up-settle-requires t)
+    (look-up-same-length t)
+    (look-up-returns t)
+    (look-up-same-length-2 t)
+    (look-up-same-length-3 t)
+    (look-up-same-length-4 t)
+    (look-up-returns-2 t)
+    (look-up-same-length-5 t)
+    (look-up-same-length-6 t)
+    (look-up-same-length-7 t)
+    (look-up-returns-3 t))
+    λ t. work-out-lts.spec (
+      parent-count-reads.Asked,
+      parent-count-reads.Learnt,
+      parent-reads.Asked,
+      parent-reads.Learnt,
+      look-up-below t,
+      look-up.Post,
+      kind-reads.Asked,
+      kind-reads.Learnt,
+      number-or-zero-reads.Asked,
+      number-or-zero-reads.Learnt,
+      either-reads.Asked,
+      either-reads.Learnt,
+      operation-reads.Asked,
+      operation-reads.Learnt,
+      apply-reads.Asked,
+      apply-reads.Learnt,
+    )
+    (work-out-at t)
+    work-out.Post
+    work-out-Inv-loop
+    work-out-μ-loop
+    (work-out-mul-at t)
+    (work-out-shared-slice-read-at t)
+    (work-out-parent-count-requires t)
+    (work-out-loop-holds t)
+    (work-out-parent-requires t)
+    (work-out-look-up-requires t)
+    (work-out-kind-requires t)
+    (work-out-array-write-kinds t)
+    (work-out-number-or-zero-requires t)
+    (work-out-mul-amounts t)
+    (work-out-array-set-from-amounts t)
+    (work-out-either-requires t)
+    (work-out-add-k t)
+    (work-out-loop-less t)
+    (work-out-loop-again t)
+    (work-out-operation-requires t)
+    (work-out-apply-requires t)
+    (work-out-same-length t)
+    (work-out-same-length-2 t)
+    (work-out-same-length-3 t)
+    (work-out-returns t)

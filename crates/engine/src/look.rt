@@ -1,0 +1,132 @@
+// Looking up and working out. The two call each other up the circuit: parents have lower numbers.
+ghost use mathlib.Core.Path.{_≡_};
+ghost use mathlib.Core.Bool.{true, false, _||_};
+ghost use Prim.Native.Nat.{ℕ, _+_, _*_, _<_, _≤_};
+ghost use lib.ListN.{length};
+ghost use Rattle.circuit.specs.Table as circuit;
+ghost use Rattle.circuit.specs.Sheet.{size, itemAt, isFigure};
+ghost use Rattle.circuit.specs.Machine.{lookUp, work};
+ghost use Rattle.sheet.specs.Opened.{sheetOf};
+ghost use Rattle.table.specs.Bytes.{decodeTable};
+ghost use Rattle.table.specs.Rows.{setRow};
+ghost use Rattle.table.specs.Record.{width, encodeCell};
+ghost use Rattle.table.specs.Meaning.{markMeaning};
+ghost use Rattle.engine.specs.Memo.{Found, seenMeaning, Memo, tagOf};
+ghost use Rattle.engine.specs.Pass.{Lent, Leaves, Settled};
+use crate::memo;
+use crate::memo::Recall;
+use crate::memo::Seen;
+use table::Cell;
+use table::Mark;
+use value::Value;
+
+pub fn is_notice(m: Mark) -> bool
+    ensures { λ r. ⌜ r ≡ circuit.isNotice (markMeaning m) ⌝ }
+{
+    match m {
+        Mark::Unmarked => false,
+        Mark::Refresh => false,
+        Mark::Notice => true,
+    }
+}
+
+pub fn notice_if(flag: bool) -> Mark
+    ensures { λ r. ⌜ markMeaning r ≡ circuit.noticeIf flag ⌝ }
+{
+    if flag { Mark::Notice } else { Mark::Unmarked }
+}
+
+fn either(a: bool, b: bool) -> bool
+    ensures { λ r. ⌜ r ≡ (a || b) ⌝ }
+{
+    a || b
+}
+
+// What working out item i gave, for a look-up: flagged too if its own mark is notice. It is stored where the item is kept, and
+// remembered elsewhere.
+fn settle(
+    table: &mut [u8],
+    tags: &mut [u64],
+    numbers: &mut [i64],
+    generation: u64,
+    i: usize,
+    kept: bool,
+    noticed: bool,
+    worked: Seen,
+) -> Seen
+    requires { ⌜ width * i + width ≤ length (now table) ⌝ ∗ ⌜ i < length (now tags) ⌝ ∗ ⌜ i < length (now numbers) ⌝ ∗ ⌜ generation < 2_147_483_648 ⌝ }
+    ensures { λ r. ⌜ Settled i generation kept noticed (seenMeaning worked) (now (table .entry)) (now (tags .entry)) (now (numbers .entry)) (seenMeaning r) (now (table .exit)) (now (tags .exit)) (now (numbers .exit)) ⌝ }
+{
+    let value = worked.value;
+    let flag = either(worked.flag, noticed);
+    let seen = Seen { value, flag };
+    if kept {
+        table::store_cell(table, i, Cell::Held(value, notice_if(flag)));
+    } else {
+        memo::remember(tags, numbers, generation, i, seen);
+    }
+    seen
+}
+
+pub fn look_up(
+    sheet: &[u8],
+    offsets: &[usize],
+    table: &mut [u8],
+    tags: &mut [u64],
+    numbers: &mut [i64],
+    generation: u64,
+    i: usize,
+) -> Seen
+    requires { ⌜ Lent (now sheet) (now offsets) (now table) ⌝ ∗ ⌜ Memo (sheetOf (now sheet)) (decodeTable (now table)) (now tags) (now numbers) generation ⌝ ∗ ⌜ i < size (sheetOf (now sheet)) ⌝ }
+    ensures { λ r. ⌜ ((b : ℕ) → i < b → Leaves (now (sheet .entry)) (now (table .entry)) (now (tags .entry)) generation b (lookUp (sheetOf (now (sheet .entry))) (decodeTable (now (table .entry))) i) (seenMeaning r) (now (table .exit)) (now (tags .exit)) (now (numbers .exit))) ⌝ }
+{
+    match table::read_cell(table, i) {
+        Cell::Held(value, mark) => Seen {
+            value,
+            flag: is_notice(mark),
+        },
+        Cell::Unk(noticed) => match memo::recalled(tags, numbers, generation, i) {
+            Recall::Known(seen) => seen,
+            Recall::Unknown => {
+                let kept = item::is_kept(sheet, offsets[i]);
+                let worked = work_out(sheet, offsets, table, tags, numbers, generation, i);
+                settle(table, tags, numbers, generation, i, kept, noticed, worked)
+            }
+        },
+    }
+}
+
+// Works item i out from its parents.
+pub fn work_out(
+    sheet: &[u8],
+    offsets: &[usize],
+    table: &mut [u8],
+    tags: &mut [u64],
+    numbers: &mut [i64],
+    generation: u64,
+    i: usize,
+) -> Seen
+    requires { ⌜ Lent (now sheet) (now offsets) (now table) ⌝ ∗ ⌜ Memo (sheetOf (now sheet)) (decodeTable (now table)) (now tags) (now numbers) generation ⌝ ∗ ⌜ i < size (sheetOf (now sheet)) ⌝ ∗ ⌜ isFigure (itemAt (sheetOf (now sheet)) i) ≡ true ⌝ }
+    ensures { λ r. ⌜ ((b : ℕ) → i ≤ b → Leaves (now (sheet .entry)) (now (table .entry)) (now (tags .entry)) generation b (work (sheetOf (now (sheet .entry))) (decodeTable (now (table .entry))) i) (seenMeaning r) (now (table .exit)) (now (tags .exit)) (now (numbers .exit))) ⌝ }
+{
+    let at = offsets[i];
+    let count = item::parent_count(sheet, at);
+    let mut kinds = [0u8; 16];
+    let mut amounts = [0i64; 16];
+    let mut flag = false;
+    let mut k = 0;
+    while k < count {
+        let p = item::parent(sheet, at, k);
+        let seen = look_up(sheet, offsets, table, tags, numbers, generation, p);
+        let value = seen.value;
+        kinds[k] = value.kind();
+        amounts[k] = value.number_or_zero();
+        flag = either(flag, seen.flag);
+        k += 1;
+    }
+    let op = item::operation(sheet, at);
+    Seen {
+        value: value::apply(op, &kinds, &amounts, count),
+        flag,
+    }
+}

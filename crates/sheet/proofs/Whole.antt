@@ -1,0 +1,71 @@
+-- The check of a whole sheet, from its first field and its items. Assumes nothing.
+use mathlib.Core.Path.{_≡_, refl, sym, ap, ap₂, _∙_}
+use mathlib.Core.Bool.{true, _&&_}
+use mathlib.Core.List.{List}
+use Prim.Native.Nat.{ℕ, zero, suc, _+_, _≤_}
+use native.Mathlib.Omega.{arith}
+use lib.Dec.{leb}
+use lib.ListN.{length}
+use borrow.Author.Tests.{leb-true}
+use Rattle.field.specs.Field.{cutAt, le16At}
+use Rattle.field.specs.declared.Cut.{Cut}
+use Rattle.field.specs.declared.Cut.the-variants.{Field}
+use Rattle.field.proofs.Cutting.{FieldAt, field-iff}
+use Rattle.sheet.specs.Layout.{headTag, itemLimit, countAllowed}
+use Rattle.sheet.specs.Read.{editionIn, countIn, headContent, headNext, headTests, judge, scan, scanLast, scanSheet, conclude, readSheet}
+use Rattle.sheet.specs.Opened.{offsetsOf}
+use Rattle.sheet.specs.Check.{checkedOf, mostItems, soundItems, readSoFar, over, levelsOf, afterHead}
+use Rattle.sheet.specs.declared.Checked.{Checked}
+use Rattle.sheet.specs.declared.Checked.the-variants.{Refused}
+use Rattle.sheet.proofs.Content.{content16}
+use Rattle.sheet.proofs.Scan.{HeadRead, head-read, and-right}
+
+-- what the check answers and leaves in its arrays
+abbrev pub Checks : List ℕ → Checked → (offsets offsets₀ levels levels₀ : List ℕ) → Type 0
+Checks s r offsets offsets₀ levels levels₀ =
+    (r ≡ checkedOf (readSheet s))
+    × ((offsets ≡ over (offsetsOf (readSoFar s)) offsets₀) × (levels ≡ over (levelsOf (readSoFar s)) levels₀))
+
+pub limit-most : (edition n : ℕ) → countAllowed edition n ≡ true → n ≤ mostItems
+unfolding countAllowed itemLimit mostItems
+limit-most edition n e = leb-true n 1024 (and-right (leb 1 n) (leb n 1024) e)
+
+-- the first field is at fault
+pub head-refused : (s : List ℕ) (k : ℕ) (offsets levels : List ℕ) → (k ≡ 0 → ⊥) → judge headTests s (cutAt s 0) ≡ k
+    → Checks s (Refused k 0) offsets offsets levels levels
+unfolding readSheet scanSheet readSoFar
+head-refused s zero offsets levels n e = absurd (n refl)
+head-refused s (suc k) offsets levels n e = rw e (refl, (refl, refl))
+
+-- it is not
+module _ (s : List ℕ) (tag start len next : ℕ) (cut : cutAt s 0 ≡ Field tag start len next) (e : judge headTests s (cutAt s 0) ≡ 0) where
+  read : HeadRead s
+  read = head-read s e
+
+  placed-at : (start ≡ 3) × (len ≡ 4)
+  placed-at = let h = read .head in (cc, cc)
+
+  pub head-room : start + 4 ≤ length s
+  head-room =
+      let f = field-iff s 0 tag start len next .0 cut in
+      let p = placed-at in
+      omega arith
+
+  module _ (edition count : ℕ) (e₁ : edition ≡ le16At s start) (e₂ : count ≡ le16At s (start + 2)) where
+    edition-found : edition ≡ editionIn (headContent s)
+    edition-found = e₁ ∙ ap (le16At s) (placed-at .0) ∙ sym (content16 s 3 4 0 (omega arith))
+
+    count-found : count ≡ countIn (headContent s)
+    count-found = e₂ ∙ ap (λ k. le16At s (k + 2)) (placed-at .0) ∙ sym (content16 s 3 4 2 (omega arith))
+
+    pub count-most : count ≤ mostItems
+    count-most = rw count-found (limit-most (editionIn (headContent s)) (countIn (headContent s)) (read .count-fits))
+
+    pub head-accepted : (r : Checked) (offsets offsets₀ levels levels₀ : List ℕ) → r ≡ checkedOf (conclude edition (scanLast s (scan s edition count)))
+        → offsets ≡ over (offsetsOf (soundItems s edition count)) offsets₀ → levels ≡ over (levelsOf (soundItems s edition count)) levels₀
+        → Checks s r offsets offsets₀ levels levels₀
+    unfolding readSheet scanSheet readSoFar
+    head-accepted r offsets offsets₀ levels levels₀ a b c =
+        let m = edition-found in
+        let n = count-found in
+        rw e (rw m at rw n at a, (rw m at rw n at b, rw m at rw n at c))

@@ -1,0 +1,12 @@
+-- `sheet::limits::edition_known` meets its contract. Assumes nothing.
+use mathlib.Core.Path.{refl}
+use Rattle.sheet.specs.Layout.{editionKnown}
+use Rattle.sheet.proofs.limits.edition_known.Statement.{statement}
+use Rattle.sheet.proofs.limits.edition_known.Tie as tie
+
+returns : tie.Need-returns
+unfolding editionKnown
+returns c = refl
+
+pub edition-known-spec : {M : Type 1} → statement M
+edition-known-spec = tie.close (tie.spec returns)

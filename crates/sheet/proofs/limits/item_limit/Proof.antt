@@ -1,0 +1,12 @@
+-- `sheet::limits::item_limit` meets its contract. Assumes nothing.
+use mathlib.Core.Path.{refl}
+use Rattle.sheet.specs.Layout.{itemLimit}
+use Rattle.sheet.proofs.limits.item_limit.Statement.{statement}
+use Rattle.sheet.proofs.limits.item_limit.Tie as tie
+
+returns : tie.Need-returns
+unfolding itemLimit
+returns c = refl
+
+pub item-limit-spec : {M : Type 1} → statement M
+item-limit-spec = tie.close (tie.spec returns)

@@ -1,0 +1,12 @@
+-- `sheet::limits::keep_allowed` meets its contract. Assumes nothing.
+use mathlib.Core.Path.{refl}
+use Rattle.sheet.specs.Layout.{keepAllowed}
+use Rattle.sheet.proofs.limits.keep_allowed.Statement.{statement}
+use Rattle.sheet.proofs.limits.keep_allowed.Tie as tie
+
+returns : tie.Need-returns
+unfolding keepAllowed
+returns c = refl
+
+pub keep-allowed-spec : {M : Type 1} → statement M
+keep-allowed-spec = tie.close (tie.spec returns)

@@ -1,0 +1,12 @@
+-- `sheet::limits::spread_allowed` meets its contract. Assumes nothing.
+use mathlib.Core.Path.{refl}
+use Rattle.sheet.specs.Layout.{spreadAllowed}
+use Rattle.sheet.proofs.limits.spread_allowed.Statement.{statement}
+use Rattle.sheet.proofs.limits.spread_allowed.Tie as tie
+
+returns : tie.Need-returns
+unfolding spreadAllowed
+returns c = refl
+
+pub spread-allowed-spec : {M : Type 1} → statement M
+spread-allowed-spec = tie.close (tie.spec returns)
