@@ -86,9 +86,9 @@ pub fn is_child(s: &[u8], at: usize, i: usize) -> bool
     requires { ⌜ ItemField (now s) at ⌝ }
     ensures { λ r. ⌜ r ≡ circuit.member i (circuit.parentsOf (fieldItem (now (s .entry)) at)) ⌝ }
 {
-    let n = parent_count(s, at);
+    let count = parent_count(s, at);
     let mut k = 0;
-    while k < n {
+    while k < count {
         if parent(s, at, k) == i {
             return true;
         }
@@ -113,10 +113,10 @@ pub fn write_index(offsets: &[usize], n: usize, index: &mut [u8])
     requires { ⌜ (n ≤ length (now offsets)) × (length (now index) ≡ 4 * n) ⌝ }
     ensures { λ r. ⌜ now (index .exit) ≡ offsetBytes (take n (now (offsets .entry))) ⌝ }
 {
-    let mut k = 0;
-    while k < n {
-        put_offset(index, 4 * k, offsets[k]);
-        k += 1;
+    let mut written = 0;
+    while written < n {
+        put_offset(index, 4 * written, offsets[written]);
+        written += 1;
     }
 }
 
@@ -135,12 +135,12 @@ pub fn index_matches(offsets: &[usize], n: usize, index: &[u8]) -> bool
     requires { ⌜ (n ≤ length (now offsets)) × (length (now index) ≡ 4 * n) ⌝ }
     ensures { λ r. ⌜ r ≡ sameBytes (now (index .entry)) (offsetBytes (take n (now (offsets .entry)))) ⌝ }
 {
-    let mut k = 0;
-    while k < n {
-        if !is_offset(index, 4 * k, offsets[k]) {
+    let mut matched = 0;
+    while matched < n {
+        if !is_offset(index, 4 * matched, offsets[matched]) {
             return false;
         }
-        k += 1;
+        matched += 1;
     }
     true
 }

@@ -106,6 +106,10 @@ length-at-least (suc k) n h =
     let ih = length-at-least k (n / 10) t in
     omega (arith, length-more n (omega (arith, le-div-iff-mul-le {k = 10} {x = 1} {y = n} (omega arith) .0 (omega (arith, pow-pos k)))))
 
+-- so the count is known from the two powers between which the number lies
+pub length-digits : (k n : ℕ) → 10 ^ k ≤ n → n < 10 ^ suc k → length (digits n) ≡ suc k
+length-digits k n l h = omega (arith, length-at-least k n l, length-at-most k n h)
+
 -- a number is below ten to the count of its digits
 pub below-pow : (n : ℕ) → n < 10 ^ length (digits n)
 below-pow = by-digits (λ n. n < 10 ^ length (digits n)) small more

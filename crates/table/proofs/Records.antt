@@ -1,18 +1,17 @@
 -- Records: which cells are encoded and decoded, and that the two are inverse. Assumes nothing.
-use Prim.Native.Nat.{ℕ, zero, suc, _+_, _^_, _≤_, _<_}
-use mathlib.Core.Path.{_≡_, refl, ap, sym, _∙_}
+use Prim.Native.Nat.{ℕ, zero, suc, _<_}
+use mathlib.Core.Path.{_≡_, refl, ap, _∙_}
 use mathlib.Core.Bool.{Bool, true, false, cond, not, _&&_}
 use mathlib.Core.List.{List, [], _∷_}
 use native.Mathlib.Omega.{arith}
 use lib.Dec.{leb, eqb, lit<}
 use borrow.Author.Tests.{leb-true, eqb-true}
-use lib.IntN.{ℤ, pos, negsuc, natAbs}
-use lib.Signed.{mag}
-use lib.ListN.{length, getD, take, drop}
+use lib.IntN.{ℤ, pos, negsuc}
+use lib.ListN.{length}
 use lib.Seq.{take-all}
 use mir.Syntax.{w64}
 use mir.Val.{SFits, toZ, ofZ}
-use Rattle.word.specs.Word.{Bytes, leAt, le64At, bytes64}
+use Rattle.word.specs.Word.{Bytes, bytes64}
 use Rattle.word.proofs.Bytes.{leAt-drop, signed-again, bytes-again, length-bytes64, bytes-cons, bytes-leBytes}
 use Rattle.circuit.proofs.RuleLaws.{and-left, and-right}
 use Rattle.circuit.specs.Value.{Value, null, out, num, limit, inRange, sameNumber, kindOf, numberOf, isOut, wellFormed}

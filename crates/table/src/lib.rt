@@ -116,7 +116,7 @@ fn codes_formed(figure: bool, kind: u8, mark: u8) -> bool
         return false;
     }
     if figure {
-        if kind == 0 { mark != 1 } else { true }
+        if kind != 0 { true } else { mark != 1 }
     } else {
         match kind {
             0 | 2 => false,

@@ -1,6 +1,6 @@
 -- Numbers of several bytes: what the code computes, and that reading and writing are inverse. Assumes nothing.
 use Prim.Native.Nat.{ℕ, zero, suc, _+_, _*_, _/_, _%_, _^_, _≤_, _<_}
-use mathlib.Core.Path.{_≡_, refl, ap, sym, _∙_}
+use mathlib.Core.Path.{_≡_, refl, ap, _∙_}
 use mathlib.Core.List.{List, [], _∷_, _++_}
 use native.Mathlib.Omega.{arith}
 use native.Mathlib.Nat.{add-assoc, pow-suc}
@@ -8,7 +8,7 @@ use native.Mathlib.Numerals.{towards-suc, add-one}
 use lib.ListN.{length, getD, take, drop, set}
 use lib.IntN.{ℤ}
 use mir.Syntax.{w64}
-use mir.Val.{SFits, toZ, ofZ}
+use mir.Val.{SFits, ofZ}
 use mir.ValLaws.{toZ-ofZ, ofZ-toZ, ofZ-fits, toZ-fits}
 use lib.Seq.{sets, getD-drop, getD-take, drop-cons}
 use Rattle.word.specs.Word.{Bytes, leAt, leBytes, le64At, bytes64}

@@ -34,10 +34,10 @@ returns : tie.Need-returns Inv-loop μ-loop
 returns c =
     let a = c .before .before .before .before .before .before .before in
     let l = c .before .before .before .before .loop in
-    compared-other (a .args .index .now) (a .args .offsets .now) (a .args .n) (l .k) (omega arith) (omega arith) (omega arith) (l .inv .1) (sym (not-true _ (c .if1 .taken)) ∙ c .before .is-offset .ensures)
+    compared-other (a .args .index .now) (a .args .offsets .now) (a .args .n) (l .matched) (omega arith) (omega arith) (omega arith) (l .inv .1) (sym (not-true _ (c .if1 .taken)) ∙ c .before .is-offset .ensures)
 
-add-k : tie.Need-add-k Inv-loop μ-loop
-add-k c = omega arith
+add-matched : tie.Need-add-matched Inv-loop μ-loop
+add-matched c = omega arith
 
 loop-less : tie.Need-loop-less Inv-loop μ-loop
 loop-less c = omega arith
@@ -46,13 +46,13 @@ loop-again : tie.Need-loop-again Inv-loop μ-loop
 loop-again c =
     let a = c .before .before .before .before .before .before .before in
     let l = c .before .before .before .before .loop in
-    (omega arith, compared-next (a .args .index .now) (a .args .offsets .now) (a .args .n) (l .k) (omega arith) (omega arith) (omega arith) (l .inv .1) (sym (not-false _ (c .if1 .left)) ∙ c .before .is-offset .ensures))
+    (omega arith, compared-next (a .args .index .now) (a .args .offsets .now) (a .args .n) (l .matched) (omega arith) (omega arith) (omega arith) (l .inv .1) (sym (not-false _ (c .if1 .left)) ∙ c .before .is-offset .ensures))
 
 returns-2 : tie.Need-returns-2 Inv-loop μ-loop
 returns-2 c =
     let a = c .before .before .before .before in
     let l = c .before .loop in
-    compared-done (a .args .index .now) (a .args .offsets .now) (a .args .n) (l .k) (omega arith) (omega arith) (omega arith) (l .inv .1)
+    compared-done (a .args .index .now) (a .args .offsets .now) (a .args .n) (l .matched) (omega arith) (omega arith) (omega arith) (l .inv .1)
 
 pub index-matches-spec : {M : Type 1} → statement M
 index-matches-spec =
@@ -66,7 +66,7 @@ index-matches-spec =
     shared-slice-read-is-offset
     is-offset-requires
     returns
-    add-k
+    add-matched
     loop-less
     loop-again
     returns-2)

@@ -32,8 +32,8 @@ shared-slice-read-put-offset c = omega arith
 put-offset-requires : tie.Need-put-offset-requires Inv-loop μ-loop
 put-offset-requires c κs = omega arith
 
-add-k : tie.Need-add-k Inv-loop μ-loop
-add-k c = omega arith
+add-written : tie.Need-add-written Inv-loop μ-loop
+add-written c = omega arith
 
 loop-less : tie.Need-loop-less Inv-loop μ-loop
 loop-less c = omega arith
@@ -45,8 +45,8 @@ loop-again c =
     let offsets = a .args .offsets .now in
     let e = c .before .before .put-offset .ensures in (
       omega arith,
-      ap length e ∙ put-length (l .index) (4 * l .k) (getD offsets (l .k) 0) ∙ l .inv .1,
-      ap (take (4 * (l .k + 1))) e ∙ write-next offsets (l .index) (l .k) (omega arith) (omega arith) (l .inv .2),
+      ap length e ∙ put-length (l .index) (4 * l .written) (getD offsets (l .written) 0) ∙ l .inv .1,
+      ap (take (4 * (l .written + 1))) e ∙ write-next offsets (l .index) (l .written) (omega arith) (omega arith) (l .inv .2),
     )
 
 same-length : tie.Need-same-length Inv-loop μ-loop
@@ -57,7 +57,7 @@ returns : tie.Need-returns Inv-loop μ-loop
 returns c =
     let a = c .before .before .before .before in
     let l = c .before .loop in
-    write-done (a .args .offsets .now) (l .index) (l .k) (a .args .n) (omega arith) (l .inv .1) (l .inv .2)
+    write-done (a .args .offsets .now) (l .index) (l .written) (a .args .n) (omega arith) (l .inv .1) (l .inv .2)
 
 pub write-index-spec : {M : Type 1} → statement M
 write-index-spec =
@@ -70,7 +70,7 @@ write-index-spec =
     mul-put-offset-2
     shared-slice-read-put-offset
     put-offset-requires
-    add-k
+    add-written
     loop-less
     loop-again
     same-length

@@ -29,8 +29,6 @@ returns-2 c =
 
 put-value-requires : tie.Need-put-value-requires
 put-value-requires c κs =
-    let at-start = c .before .before .before .before .before in
-    let read = toZ-ofZ w64 (at-start .args .number) (at-start .fits .number) in
     (sym (c .before .before .before .accepts .ensures) ∙ not-false _ (c .before .before .if1 .left), c .before .if2 .left)
 
 same-length : tie.Need-same-length
