@@ -1,7 +1,4 @@
-pub mod Holdable
-pub mod Bridge
-pub mod Demands
+pub mod Gathering
+pub mod Looking
 pub mod Recalling
 pub mod Settling
-pub mod Looking
-pub mod Gathering

@@ -33,7 +33,7 @@ use Rattle.engine.specs.declared.memo.Recall.the-variants.{Known}
 use Rattle.value.proofs.Parents.{of-own-parts}
 use Rattle.engine.specs.Memo.{Found, found, seenMeaning, recallMeaning, bit, codeOf, tagOf, foundIn, remembered, Remembers, Memo, NoneFrom}
 use Rattle.engine.specs.Pass.{Lent, Leaves, Settled, behind, gatherTo}
-use Rattle.engine.proofs.Holdable.{look-formed, work-formed}
+use Rattle.office.proofs.Holdable.{look-formed, work-formed}
 
 -- the table that is lent, by the machine's words
 module _ {s offsets t : List ℕ} (lent : Lent s offsets t) where

@@ -1,4 +1,2 @@
-pub mod Office
-pub mod Demands
 pub mod Memo
 pub mod Pass

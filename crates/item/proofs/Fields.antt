@@ -17,7 +17,7 @@ use Rattle.sheet.specs.Layout.{LayoutItem, entryField, figureField, figureTag, 
 use Rattle.sheet.specs.Read.{contentAt, itemIn, ruleIn, keepIn, spreadIn, parentCountIn, parentIn, parentsIn, nameIn}
 use Rattle.sheet.proofs.Scan.{allowed-operation}
 use Rattle.sheet.proofs.Items.{parents-count}
-use Rattle.sheet.proofs.Index.{parents-most}
+use Rattle.sheet.proofs.IndexLaws.{parents-most}
 use Rattle.value.specs.Meaning.{operationMeaning}
 use Rattle.value.specs.declared.Operation.{Operation as Answer}
 use Rattle.item.specs.Item.{fieldContent, fieldItem, ruleByte, keepByte, spreadByte, countByte, FigureField, ItemField, itemOperation, OperationRead, CountRead}

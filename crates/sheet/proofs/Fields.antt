@@ -1,11 +1,10 @@
 -- The first field and the last, from what the code tests of their bytes; a field that is not there whole. Assumes nothing.
-use mathlib.Core.Path.{_≡_, refl, sym, ap, ap₂, _∙_}
+use mathlib.Core.Path.{_≡_, refl, sym, ap, _∙_}
 use mathlib.Core.Bool.{Bool, true, false, cond, not, _&&_}
 use mathlib.Core.List.{List, [], _∷_}
-use mathlib.Core.Logic.{_⊎_, inl, inr}
-use Prim.Native.Nat.{ℕ, zero, suc, _+_, _≤_, _<_}
+use mathlib.Core.Logic.{inl, inr}
+use Prim.Native.Nat.{ℕ, _+_, _≤_, _<_}
 use native.Mathlib.Omega.{arith}
-use lib.Dec.{eqb, ltb}
 use lib.ListN.{length}
 use borrow.Author.Tests.{lt-ltb, le-ltb, eq-eqb, ne-eqb}
 use types.Run.{OneOf}
@@ -14,7 +13,7 @@ use Rattle.field.specs.Field.{cutAt, le16At}
 use Rattle.field.specs.declared.Cut.{Cut}
 use Rattle.field.specs.declared.Cut.the-variants.{Field, Short, Absent}
 use Rattle.field.proofs.Cut.{the-type}
-use Rattle.field.proofs.Cutting.{FieldAt, field-iff, content-length}
+use Rattle.field.proofs.Cutting.{field-iff, content-length}
 use Rattle.circuit.specs.Calls.{Test, firstCause}
 use Rattle.sheet.specs.Layout.{headTag, lastTag, editionKnown, countAllowed}
 use Rattle.sheet.specs.Read.{contentAt, editionIn, countIn, headTests, lastTests, judge, Placed, going, scanLast, conclude}

@@ -1,18 +1,17 @@
 -- The lowest cause of an item's field, from what the code tests of its bytes. Assumes nothing.
 use mathlib.Core.Path.{_≡_, refl, sym, ap, ap₂, _∙_}
-use mathlib.Core.Bool.{Bool, true, false, cond, not, _&&_, _||_}
+use mathlib.Core.Bool.{Bool, true, false, cond, not, _&&_}
 use mathlib.Core.List.{List, [], _∷_, map}
-use Prim.Native.Nat.{ℕ, zero, suc, _+_, _*_, _-_, _≤_, _<_}
+use Prim.Native.Nat.{ℕ, suc, _+_, _*_, _-_, _≤_, _<_}
 use native.Mathlib.Omega.{arith}
-use lib.Dec.{eqb, leb, ltb}
-use lib.ListN.{length, getD, take, List·getD-map}
+use lib.Dec.{ltb}
+use lib.ListN.{length, getD, List·getD-map}
 use lib.Seq.{getD-take}
-use borrow.Author.Tests.{ltb-true, lt-ltb, le-ltb, eq-eqb, ne-eqb}
+use borrow.Author.Tests.{ltb-true, lt-ltb, le-ltb, ne-eqb}
 use Rattle.circuit.specs.Calls.{firstCause}
-use Rattle.sheet.specs.Layout.{LayoutItem, entryField, figureField, entryTag, figureTag, levelLimit, keepAllowed, spreadAllowed, ruleAllowed, nameAllowed, all, highest}
+use Rattle.sheet.specs.Layout.{entryField, entryTag, figureTag, levelLimit, keepAllowed, spreadAllowed, ruleAllowed, nameAllowed, all, highest}
 use Rattle.sheet.specs.Read.{contentAt, ruleIn, keepIn, spreadIn, parentCountIn, parentsIn, nameIn, itemIn, Placed, placed, levelOf, itemLevel, lengthOrName, itemTests}
-use Rattle.sheet.specs.Check.{judgedOf, judgedItem, LevelsAt, levelsOf, numbersAt, levelOver}
-use Rattle.sheet.specs.declared.Judged.{Judged}
+use Rattle.sheet.specs.Check.{judgedOf, judgedItem, LevelsAt, numbersAt, levelOver}
 use Rattle.sheet.specs.declared.Judged.the-variants.{Sound, Fault}
 use Rattle.sheet.proofs.Names.{part-length}
 use Rattle.sheet.proofs.Content.{content-at, parents-are, name-is}

@@ -11,7 +11,7 @@ pub mod Exactly
 pub mod Scanned
 pub mod Whole
 pub mod Located
-pub mod Index
+pub mod IndexLaws
 pub mod Tests
 pub mod Causes
 pub mod Examples

@@ -1,14 +1,14 @@
 -- Laws of lists that the check's loops use: a test of each element, the highest of some numbers, a part of a list, a list written over
 -- the front of another. Assumes nothing.
-use mathlib.Core.Path.{_≡_, refl, sym, ap, _∙_}
-use mathlib.Core.Bool.{Bool, true, false, cond, _&&_}
-use mathlib.Core.List.{List, [], _∷_, _++_, map, append-assoc, map-append}
+use mathlib.Core.Path.{_≡_, refl, ap, _∙_}
+use mathlib.Core.Bool.{Bool, true, false, _&&_}
+use mathlib.Core.List.{List, [], _∷_, _++_, map, map-append}
 use Prim.Native.Nat.{ℕ, zero, suc, _+_, _*_, _-_, _≤_, _<_, max}
 use native.Mathlib.Omega.{arith}
 use native.Mathlib.Numerals.{add-one}
 use native.Mathlib.Nat.{add-suc}
-use lib.ListN.{length, getD, take, drop, set, length-append, length-take, length-drop, length-map}
-use lib.Seq.{take-suc, take-add, drop-drop, drop-cons, set-split, set-at, getD-take, getD-drop, append-snoc}
+use lib.ListN.{length, getD, take, drop, set, length-append, length-drop}
+use lib.Seq.{take-suc, take-add, drop-cons, set-at, getD-drop, append-snoc}
 use Rattle.field.specs.Field.{le16At}
 use Rattle.sheet.specs.Layout.{all, highest}
 use Rattle.sheet.specs.Check.{over, numbersAt}

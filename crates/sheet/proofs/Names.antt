@@ -1,15 +1,14 @@
 -- When a part of the bytes is a name. Assumes nothing.
-use mathlib.Core.Path.{_≡_, refl, sym, ap, _∙_}
-use mathlib.Core.Bool.{Bool, true, false, _&&_}
+use mathlib.Core.Path.{_≡_}
+use mathlib.Core.Bool.{true, false}
 use mathlib.Core.List.{List}
 use Prim.Native.Nat.{ℕ, _+_, _≤_, _<_}
 use native.Mathlib.Omega.{arith}
-use lib.Dec.{leb}
-use lib.ListN.{length, getD, take, drop, length-take, length-drop}
+use lib.ListN.{length, getD, length-take, length-drop}
 use borrow.Author.Tests.{le-leb, lt-leb}
 use Rattle.sheet.specs.Layout.{all, nameByte, nameAllowed, nameLimit}
 use Rattle.sheet.specs.Read.{contentAt}
-use Rattle.sheet.proofs.Lists.{and-false, all-part-fails}
+use Rattle.sheet.proofs.Lists.{all-part-fails}
 
 pub part-length : (s : List ℕ) (at len : ℕ) → at + len ≤ length s → length (contentAt s at len) ≡ len
 part-length s at len h = simp (length-take, length-drop) (omega arith)

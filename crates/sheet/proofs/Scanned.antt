@@ -1,22 +1,20 @@
 -- The scan of the items as the check's loop makes it: one more item, a stop, and what the scratch arrays hold. Assumes nothing.
 use mathlib.Core.Path.{_≡_, refl, sym, ap, _∙_}
 use mathlib.Core.List.{List, [], _∷_, _++_, map, map-append}
-use Prim.Native.Nat.{ℕ, zero, suc, _+_, _-_, _≤_, _<_}
+use Prim.Native.Nat.{ℕ, zero, suc, _+_, _-_, _<_}
 use native.Mathlib.Omega.{arith}
 use native.Mathlib.Numerals.{add-one}
 use native.Mathlib.Nat.{zero-add, suc-add}
 use lib.ListN.{length, take, set, length-map}
 use lib.Seq.{take-at}
 use Rattle.field.specs.Field.{cutAt}
-use Rattle.field.specs.declared.Cut.{Cut}
 use Rattle.field.specs.declared.Cut.the-variants.{Field}
 use Rattle.circuit.specs.Calls.{firstCause}
-use Rattle.sheet.specs.Read.{contentAt, itemIn, Placed, placed, itemLevel, itemTests, judge, Scan, going, stopped, scan, scanItem, scanLast, conclude, goOn, placeField}
+use Rattle.sheet.specs.Read.{contentAt, itemIn, Placed, placed, itemLevel, itemTests, judge, going, stopped, scan, scanLast, conclude, goOn, placeField}
 use Rattle.sheet.specs.Opened.{offsetsOf}
 use Rattle.sheet.specs.Check.{checkedOf, judgedOf, judgedItem, LevelsAt, levelsOf, over, latest, soundItems}
 use Rattle.sheet.specs.declared.Checked.{Checked}
 use Rattle.sheet.specs.declared.Checked.the-variants.{Refused}
-use Rattle.sheet.specs.declared.Judged.{Judged}
 use Rattle.sheet.specs.declared.Judged.the-variants.{Sound, Fault}
 use Rattle.sheet.proofs.Lists.{over-more}
 use Rattle.sheet.proofs.Scan.{scan-length, scan-stopped}

@@ -1,6 +1,6 @@
 -- The check of a whole sheet, from its first field and its items. Assumes nothing.
-use mathlib.Core.Path.{_≡_, refl, sym, ap, ap₂, _∙_}
-use mathlib.Core.Bool.{true, _&&_}
+use mathlib.Core.Path.{_≡_, refl, sym, ap, _∙_}
+use mathlib.Core.Bool.{true}
 use mathlib.Core.List.{List}
 use Prim.Native.Nat.{ℕ, zero, suc, _+_, _≤_}
 use native.Mathlib.Omega.{arith}
@@ -8,13 +8,12 @@ use lib.Dec.{leb}
 use lib.ListN.{length}
 use borrow.Author.Tests.{leb-true}
 use Rattle.field.specs.Field.{cutAt, le16At}
-use Rattle.field.specs.declared.Cut.{Cut}
 use Rattle.field.specs.declared.Cut.the-variants.{Field}
-use Rattle.field.proofs.Cutting.{FieldAt, field-iff}
-use Rattle.sheet.specs.Layout.{headTag, itemLimit, countAllowed}
-use Rattle.sheet.specs.Read.{editionIn, countIn, headContent, headNext, headTests, judge, scan, scanLast, scanSheet, conclude, readSheet}
+use Rattle.field.proofs.Cutting.{field-iff}
+use Rattle.sheet.specs.Layout.{itemLimit, countAllowed}
+use Rattle.sheet.specs.Read.{editionIn, countIn, headContent, headTests, judge, scan, scanLast, scanSheet, conclude, readSheet}
 use Rattle.sheet.specs.Opened.{offsetsOf}
-use Rattle.sheet.specs.Check.{checkedOf, mostItems, soundItems, readSoFar, over, levelsOf, afterHead}
+use Rattle.sheet.specs.Check.{checkedOf, mostItems, soundItems, readSoFar, over, levelsOf}
 use Rattle.sheet.specs.declared.Checked.{Checked}
 use Rattle.sheet.specs.declared.Checked.the-variants.{Refused}
 use Rattle.sheet.proofs.Content.{content16}

@@ -17,7 +17,7 @@ use Rattle.sheet.specs.Causes.{RuleTakes, sumTakes, differenceTakes, sma
 use Rattle.sheet.proofs.Scan.{and-left, and-right, all-listed}
 use Rattle.sheet.proofs.Items.{pairs-length, name-length}
 use Rattle.sheet.proofs.Exactly.{and-four, within-parts}
-use Rattle.sheet.proofs.Index.{parents-most}
+use Rattle.sheet.proofs.IndexLaws.{parents-most}
 use Rattle.sheet.proofs.Tests.{Tells, holds, fails, tells-rule}
 
 Bytes-nil : Bytes []

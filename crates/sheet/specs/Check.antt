@@ -23,6 +23,15 @@ abbrev pub checkedOf : SheetRead → Checked
 checkedOf (opens edition ps) = Opens edition (length ps)
 checkedOf (refused k at) = Refused k at
 
+-- the number and the offset under which the answer is given: both 0 for a sheet that opens
+abbrev pub checkedNumber : Checked → ℕ
+checkedNumber (Opens edition count) = 0
+checkedNumber (Refused k at) = k
+
+abbrev pub checkedOffset : Checked → ℕ
+checkedOffset (Opens edition count) = 0
+checkedOffset (Refused k at) = at
+
 -- the most items of a sheet of any edition: what the scratch arrays must hold
 unfoldable pub mostItems : ℕ
 mostItems = 1024

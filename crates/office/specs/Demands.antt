@@ -18,7 +18,7 @@ use Rattle.sheet.specs.Opened.{sheetOf}
 use Rattle.table.specs.Rows.{row}
 use Rattle.table.specs.Record.{width, kindIn, markIn}
 use Rattle.table.specs.Bytes.{decodeTable}
-use Rattle.engine.specs.Office.{Given, openOn, callOn, runOn, kindRead, numberRead}
+use Rattle.office.specs.Office.{Given, openOn, callOn, runOn, kindRead, numberRead}
 
 -- what a call answers, beside what it leaves in the lent bytes
 pub record Answer : Type 0 where

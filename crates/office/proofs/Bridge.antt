@@ -26,8 +26,8 @@ use Rattle.table.specs.Record.{width, decodeCell}
 use Rattle.table.specs.Rows.{row}
 use Rattle.table.specs.Bytes.{encodeTable, decodeTable, tableForm, Holdable, tableLength}
 use Rattle.table.proofs.Tables.{length-encodeTable, decode-encodeTable, encoded-tableForm, holdable-wellFormed}
-use Rattle.engine.specs.Office.{Given, refusal, accepted, kindRead, numberRead, sameBytes, lengthsWrong, indexWrong, tableWrong, callTests, unlessRefused, effectOn, callRead, callOn, runOn}
-use Rattle.engine.proofs.Holdable.{perform-holdable}
+use Rattle.office.specs.Office.{Given, refusal, accepted, kindRead, numberRead, sameBytes, lengthsWrong, indexWrong, tableWrong, callTests, unlessRefused, effectOn, callRead, callOn, runOn}
+use Rattle.office.proofs.Holdable.{perform-holdable}
 
 -- nothing stands beyond the sheet
 abbrev pub Within : Sheet → Table → Type 0

@@ -27,7 +27,7 @@ use Rattle.sheet.specs.Read.{Placed, Scan, going, stopped, placeField, goOn, ju
 use Rattle.sheet.specs.Opened.{sheetFrom, sheetOf, sheetRead}
 use Rattle.sheet.specs.Index.{indexBytes}
 use Rattle.sheet.proofs.Scan.{opened-ordered}
-use Rattle.sheet.proofs.Index.{index-width}
+use Rattle.sheet.proofs.IndexLaws.{index-width}
 use Rattle.field.specs.Field.{cutAt}
 use Rattle.field.specs.declared.Cut.{Cut}
 use Rattle.field.specs.declared.Cut.the-variants.{Field, Short, Absent}
@@ -35,10 +35,10 @@ use Rattle.table.specs.Rows.{row}
 use Rattle.table.specs.Record.{width, kindIn, markIn, markCode, encodeCell}
 use Rattle.table.specs.Bytes.{encodeTable, decodeTable, Holdable}
 use Rattle.table.proofs.Tables.{encoded-record, encodeTable-ext, bare-holdable, full-holdable}
-use Rattle.engine.specs.Office.{Given, accepted, refusal, lengthsWrong, openingTests, unlessRefused, callOn, openRead, openOn, runOn, kindRead, numberRead}
-use Rattle.engine.specs.Demands.{Answer, answerOf, Posted, postOf, ifAccepted, acceptedPosts, freshAnswer, SameReading, StaysStored, OfficesAgree, postsOf, Keeps}
-use Rattle.engine.proofs.Holdable.{run-holdable, perform-holdable}
-use Rattle.engine.proofs.Bridge.{Within, perform-within, decode-within, givenBy, call-performs, run-runs}
+use Rattle.office.specs.Office.{Given, accepted, refusal, lengthsWrong, openingTests, unlessRefused, callOn, openRead, openOn, runOn, kindRead, numberRead}
+use Rattle.office.specs.Demands.{Answer, answerOf, Posted, postOf, ifAccepted, acceptedPosts, freshAnswer, SameReading, StaysStored, OfficesAgree, postsOf, Keeps}
+use Rattle.office.proofs.Holdable.{run-holdable, perform-holdable}
+use Rattle.office.proofs.Bridge.{Within, perform-within, decode-within, givenBy, call-performs, run-runs}
 
 -- a reading that stops does so by a number that is not 0
 abbrev Positive : Scan → Type 0
@@ -124,7 +124,7 @@ cut-holdable : (S : Sheet) (T : Table) → Holdable S T → Holdable S (cut S T)
 cut-holdable S T h i low = rw (cut-below S T i low) (h i low)
 
 -- a table that is equal below n is sound too
-figure-below : (S : Sheet) (k : ℕ) → isFigure (itemAt S k) ≡ true → k < size S
+pub figure-below : (S : Sheet) (k : ℕ) → isFigure (itemAt S k) ≡ true → k < size S
 figure-below S k f = go (ltb k (size S)) refl
   where
     go : (b : Bool) → ltb k (size S) ≡ b → k < size S
@@ -184,7 +184,7 @@ kind-cell (held null m) = refl
 kind-cell (held out m) = refl
 kind-cell (held (num z) m) = refl
 
-mark-cell : (c : Cell) → markIn (encodeCell c) ≡ markCode (markOf c)
+pub mark-cell : (c : Cell) → markIn (encodeCell c) ≡ markCode (markOf c)
 unfolding encodeCell
 mark-cell (unk b) = refl
 mark-cell (held v m) = refl
@@ -194,7 +194,7 @@ code-unmarked unmarked e = refl
 code-unmarked refresh e = absurd (omega arith)
 code-unmarked notice e = absurd (omega arith)
 
-unmarked-code : (m : Mark) → isMark m ≡ false → markCode m ≡ 0
+pub unmarked-code : (m : Mark) → isMark m ≡ false → markCode m ≡ 0
 unmarked-code unmarked e = refl
 unmarked-code refresh e = let bad : _≡_ {A = ℕ} 0 1 = cc in absurd (omega arith)
 unmarked-code notice e = let bad : _≡_ {A = ℕ} 0 1 = cc in absurd (omega arith)
@@ -215,7 +215,7 @@ module _ (s : List ℕ) (edition : ℕ) (ps : List Placed) (reads : readSheet s 
   ordered : Ordered (sheetRead edition ps)
   ordered = opened-ordered s edition ps reads
 
-  sized : size (sheetRead edition ps) ≡ length ps
+  pub sized : size (sheetRead edition ps) ≡ length ps
   sized = length-map (layoutOf edition ps .items) _ ∙ length-map ps _
 
   pub sheet-is : sheetOf s ≡ sheetRead edition ps
@@ -225,11 +225,11 @@ module _ (s : List ℕ) (edition : ℕ) (ps : List Placed) (reads : readSheet s 
   unfoldable pub start : Opening → Table
   start o = cut (sheetRead edition ps) (opened o (sheetRead edition ps))
 
-  start-holdable : (o : Opening) → Holdable (sheetRead edition ps) (start o)
+  pub start-holdable : (o : Opening) → Holdable (sheetRead edition ps) (start o)
   unfolding start
   start-holdable o = cut-holdable (sheetRead edition ps) _ (opened-holdable o (sheetRead edition ps))
 
-  start-within : (o : Opening) → Within (sheetRead edition ps) (start o)
+  pub start-within : (o : Opening) → Within (sheetRead edition ps) (start o)
   unfolding start
   start-within o = cut-within (sheetRead edition ps) (opened o (sheetRead edition ps))
 
@@ -241,7 +241,7 @@ module _ (s : List ℕ) (edition : ℕ) (ps : List Placed) (reads : readSheet s 
   unfolding start
   start-encoded o = encodeTable-ext (sheetRead edition ps) _ _ (λ i low. sym (cut-below (sheetRead edition ps) (opened o (sheetRead edition ps)) i low))
 
-  run-within : (cs : List Call) (T : Table) → Within (sheetRead edition ps) T → Within (sheetRead edition ps) (run (sheetRead edition ps) T cs)
+  pub run-within : (cs : List Call) (T : Table) → Within (sheetRead edition ps) T → Within (sheetRead edition ps) (run (sheetRead edition ps) T cs)
   unfolding run
   run-within [] T w = w
   run-within (c ∷ cs) T w = run-within cs (perform (sheetRead edition ps) T c .table) (perform-within (sheetRead edition ps) ordered T c w)
@@ -264,7 +264,7 @@ module _ (s : List ℕ) (edition : ℕ) (ps : List Placed) (reads : readSheet s 
       ∙ ap (λ qs. postingsOf (ifAccepted (perform (sheetRead edition ps) T c .number) (postOf c)) ++ qs) rest
       ∙ ap (λ qs. qs ++ postings (sheetRead edition ps) U cs) (post-made (perform (sheetRead edition ps) T c .number) c)
 
-  runs : (cs : List Call) (T : Table) → Holdable (sheetRead edition ps) T → Within (sheetRead edition ps) T
+  pub runs : (cs : List Call) (T : Table) → Holdable (sheetRead edition ps) T → Within (sheetRead edition ps) T
       → runOn s (indexBytes ps) (encodeTable (sheetRead edition ps) T) cs ≡ encodeTable (sheetRead edition ps) (run (sheetRead edition ps) T cs)
   runs = run-runs s edition ps reads (index-width ps) sized ordered
 

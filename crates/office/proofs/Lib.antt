@@ -1,0 +1,9 @@
+pub mod Accepted
+pub mod Bridge
+pub mod Demands
+pub mod Examples
+pub mod Holdable
+pub mod Leaves
+pub mod Meaning
+pub mod Refusals
+pub mod Words

@@ -1,0 +1,4 @@
+pub mod Demands
+pub mod Meaning
+pub mod Office
+pub mod Refusals

@@ -1,0 +1,179 @@
+-- The refusals of the openings and the five calls: each cause in the words of its row, the order in which a request's causes
+-- count, and what is demanded of the number given. The causes 1 to 7 are those of the sheet. Assumes nothing.
+use Prim.Native.Nat.{ℕ, _*_, _<_, _≤_}
+use mathlib.Core.Path.{_≡_}
+use mathlib.Core.Bool.{Bool, true, false}
+use mathlib.Core.List.{List, [], _∷_, _++_}
+use mathlib.Core.Logic.{_⊎_, _↔_}
+use lib.IntN.{ℤ, pos, natAbs}
+use lib.ListN.{length}
+use Rattle.circuit.specs.Value.{limit}
+use Rattle.circuit.specs.Sheet.{Sheet, size, itemAt, isFigure}
+use Rattle.circuit.specs.Calls.{Call, post, keep, drop, step, ask}
+use Rattle.circuit.specs.Offices.{Opening}
+use Rattle.sheet.specs.Read.{Placed}
+use Rattle.sheet.specs.Opened.{sheetOf, itemsOf}
+use Rattle.sheet.specs.Index.{indexBytes, le32At}
+use Rattle.sheet.specs.Causes.{FirstFault, Faultless, item, itemCount, tagOf, offsetOf}
+use Rattle.table.specs.Rows.{row}
+use Rattle.table.specs.Record.{width, kindIn, markIn, numberIn}
+use Rattle.office.specs.Office.{Given, openOn, callOn}
+use Rattle.office.specs.Demands.{tableAfter}
+
+-- an opening, or one of the five calls with its arguments
+pub data Request : Type 0 where
+  opening : Opening → Request
+  calling : Call → Request
+
+-- the request on a sheet, an index and a table
+abbrev pub serve : Request → List ℕ → List ℕ → List ℕ → Given
+serve (opening o) s x t = openOn o s x t
+serve (calling c) s x t = callOn s x t c
+
+-- 8: index not 4n bytes, or table not 10n
+abbrev pub LengthsWrong : ℕ → List ℕ → List ℕ → Type 0
+LengthsWrong n x t = (¬ (length x ≡ 4 * n)) ⊎ (¬ (length t ≡ 10 * n))
+
+-- 9: index not as opening writes it
+abbrev pub IndexNotAsOpened : List Placed → List ℕ → Type 0
+IndexNotAsOpened ps x = ¬ (x ≡ indexBytes ps)
+
+-- numbers run from -limit to limit
+abbrev pub BeyondRange : ℤ → Type 0
+BeyondRange z = limit < natAbs z
+
+-- A record of kind k, mark m and number z breaks its form, or the number its range; whether the item is a figure comes first.
+pub data RecordBroken (figure : Bool) (k m : ℕ) (z : ℤ) : Type 0 where
+  kindUnknown : 3 < k → RecordBroken figure k m z
+  markUnknown : 2 < m → RecordBroken figure k m z
+  -- entries never have kind 0 or 2, nor mark 1
+  entryUnk : figure ≡ false → k ≡ 0 → RecordBroken figure k m z
+  entryOut : figure ≡ false → k ≡ 2 → RecordBroken figure k m z
+  entryRefresh : figure ≡ false → m ≡ 1 → RecordBroken figure k m z
+  -- a figure of kind 0 never has mark 1
+  unkRefresh : figure ≡ true → k ≡ 0 → m ≡ 1 → RecordBroken figure k m z
+  -- the number is 0 unless the kind is 3
+  numberNotZero : ¬ (k ≡ 3) → ¬ (z ≡ pos 0) → RecordBroken figure k m z
+  beyondRange : k ≡ 3 → BeyondRange z → RecordBroken figure k m z
+
+abbrev pub RecordBrokenAt : Sheet → List ℕ → ℕ → Type 0
+RecordBrokenAt S t i =
+    RecordBroken (isFigure (itemAt S i)) (kindIn (row width t i)) (markIn (row width t i)) (numberIn (row width t i))
+
+-- 10: table breaks its form, or a number its range
+abbrev pub TableBroken : Sheet → List ℕ → Type 0
+TableBroken S t = (i : ℕ) × (i < size S) × RecordBrokenAt S t i
+
+-- 11: item number n or more
+abbrev pub NoSuchItem : Sheet → ℕ → Type 0
+NoSuchItem S i = size S ≤ i
+
+-- 12: post to a figure; keep or drop of an entry
+abbrev pub ToFigure : Sheet → ℕ → Type 0
+ToFigure S i = isFigure (itemAt S i) ≡ true
+
+abbrev pub OfEntry : Sheet → ℕ → Type 0
+OfEntry S i = isFigure (itemAt S i) ≡ false
+
+-- 13: posted kind not 1 or 3, number not 0 for kind 1, or beyond the range
+pub data NotPostable (kind : ℕ) (z : ℤ) : Type 0 where
+  kindOther : ¬ (kind ≡ 1) → ¬ (kind ≡ 3) → NotPostable kind z
+  nullNotZero : kind ≡ 1 → ¬ (z ≡ pos 0) → NotPostable kind z
+  numberBeyond : kind ≡ 3 → BeyondRange z → NotPostable kind z
+
+-- 14: step where there is no mark
+abbrev pub NoMark : List ℕ → ℕ → Type 0
+NoMark t i = markIn (row width t i) ≡ 0
+
+-- a number with its cause
+pub record Row : Type 1 where
+  pub number : ℕ
+  pub cause : Type 0
+
+abbrev pub cause : ℕ → Type 0 → Row
+cause k P = record { number = k; cause = P }
+
+-- The causes of what is lent, which count before a call's own.
+abbrev pub lentCauses : Sheet → List Placed → List ℕ → List ℕ → List Row
+lentCauses S ps x t =
+    cause 8 (LengthsWrong (size S) x t)
+    ∷ cause 9 (IndexNotAsOpened ps x)
+    ∷ cause 10 (TableBroken S t)
+    ∷ []
+
+-- the causes of a call's own
+abbrev pub ownCauses : Sheet → List ℕ → Call → List Row
+ownCauses S t (post i kind z) = cause 11 (NoSuchItem S i) ∷ cause 12 (ToFigure S i) ∷ cause 13 (NotPostable kind z) ∷ []
+ownCauses S t (keep i) = cause 11 (NoSuchItem S i) ∷ cause 12 (OfEntry S i) ∷ []
+ownCauses S t (drop i) = cause 11 (NoSuchItem S i) ∷ cause 12 (OfEntry S i) ∷ []
+ownCauses S t (step i) = cause 11 (NoSuchItem S i) ∷ cause 14 (NoMark t i) ∷ []
+ownCauses S t (ask i) = cause 11 (NoSuchItem S i) ∷ []
+
+-- The causes of a request in the order in which they count, after the sheet has been read. Openings use 8 alone.
+abbrev pub causesIn : Sheet → List Placed → List ℕ → List ℕ → Request → List Row
+causesIn S ps x t (opening o) = cause 8 (LengthsWrong (size S) x t) ∷ []
+causesIn S ps x t (calling c) = lentCauses S ps x t ++ ownCauses S t c
+
+abbrev pub causesOf : List ℕ → List ℕ → List ℕ → Request → List Row
+causesOf s x t r = causesIn (sheetOf s) (itemsOf s) x t r
+
+-- k is the number of the first cause that holds
+abbrev pub First : List Row → ℕ → Type 0
+First [] k = ⊥
+First (r ∷ rs) k = ((k ≡ r .number) × r .cause) ⊎ ((¬ r .cause) × First rs k)
+
+-- no cause holds
+abbrev pub NoneHolds : List Row → Type 0
+NoneHolds [] = Unit {0}
+NoneHolds (r ∷ rs) = (¬ r .cause) × NoneHolds rs
+
+-- A request is to be refused with number k and an offset: for the first fault of the sheet, with its offset; else for the first
+-- of the request's causes, with offset 0.
+pub data Refused (s x t : List ℕ) (r : Request) (k offset : ℕ) : Type 0 where
+  bySheet : FirstFault s k offset → Refused s x t r k offset
+  byLent : Faultless s → First (causesOf s x t r) k → offset ≡ 0 → Refused s x t r k offset
+
+-- no cause at all
+pub record NoCause (s x t : List ℕ) (r : Request) : Type 0 where
+  pub sheet : Faultless s
+  pub lent : NoneHolds (causesOf s x t r)
+
+-- Demand 1, of a request on a sheet s, an index x and a table t.
+pub record TurnedBack (r : Request) (s x t : List ℕ) : Type 0 where
+  -- a number is given, with an offset, exactly if its cause is the first
+  pub given : (k offset : ℕ) → ¬ (k ≡ 0) → ((serve r s x t .number ≡ k) × (serve r s x t .offset ≡ offset)) ↔ Refused s x t r k offset
+  -- number 0 exactly if no cause holds
+  pub accepted : (serve r s x t .number ≡ 0) ↔ NoCause s x t r
+  -- and then the offset is 0
+  pub offset-0 : serve r s x t .number ≡ 0 → serve r s x t .offset ≡ 0
+  -- a number that is not 0 leaves every lent byte as it was
+  pub left : ¬ (serve r s x t .number ≡ 0) → (serve r s x t .index ≡ x) × (serve r s x t .table ≡ t)
+  -- and gives no value
+  pub no-value : ¬ (serve r s x t .number ≡ 0) → (serve r s x t .kind ≡ 0) × (serve r s x t .value ≡ pos 0)
+
+-- an input that is given number k
+abbrev pub Gets : ℕ → Type 0
+Gets k = (r : Request) × (s : List ℕ) × (x : List ℕ) × (t : List ℕ) × (serve r s x t .number ≡ k)
+
+-- each of the numbers 1 to 14 is given (15 and 16 are the printer's and the day program's)
+abbrev pub EachGiven : Type 0
+EachGiven =
+    Gets 1 × Gets 2 × Gets 3 × Gets 4 × Gets 5 × Gets 6 × Gets 7 × Gets 8 × Gets 9 × Gets 10 × Gets 11 × Gets 12 × Gets 13 × Gets 14
+
+-- What is lent with a sheet is accepted: the sheet has no fault, and none of the causes of index and table holds.
+pub record AcceptedLent (s x t : List ℕ) : Type 0 where
+  pub sheet : Faultless s
+  pub lent : NoneHolds (lentCauses (sheetOf s) (itemsOf s) x t)
+
+-- At an office, whatever was called before, index and table are accepted, and a call is given 0, or 11 or more.
+pub record OfficeAccepted (s : List ℕ) (office : Given) (cs : List Call) : Type 0 where
+  pub accepted : AcceptedLent s (office .index) (tableAfter s office cs)
+  pub numbers : (c : Call) → let g : Given = callOn s (office .index) (tableAfter s office cs) c in (g .number ≡ 0) ⊎ (11 ≤ g .number)
+
+-- The words above on the bytes of a sheet without a fault: n is the item count of the first field, item i is a figure exactly if
+-- its field has tag 3, and the index holds 4 bytes an item, the offset of its field.
+pub record SheetWords (s : List ℕ) : Type 0 where
+  pub count-is : size (sheetOf s) ≡ itemCount s
+  pub figure-is : (i : ℕ) → i < itemCount s → (isFigure (itemAt (sheetOf s) i) ≡ true) ↔ (tagOf s (item i) ≡ 3)
+  pub index-long : length (indexBytes (itemsOf s)) ≡ 4 * itemCount s
+  pub offset-is : (i : ℕ) → i < itemCount s → le32At (indexBytes (itemsOf s)) (4 * i) ≡ offsetOf s (item i)
