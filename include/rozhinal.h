@@ -68,8 +68,8 @@ extern "C" {
  *   ROZHINAL_TAG_HEAD     edition (2 bytes), item count n (2 bytes, 1 to ROZHINAL_MAX_ITEMS)
  *   then n items, numbered from 0, each one of
  *   ROZHINAL_TAG_ENTRY    name
- *   ROZHINAL_TAG_FIGURE   rule, keep, spread, parent count p (1 byte each), p parents (2 bytes each),
- *                         name
+ *   ROZHINAL_TAG_FIGURE   rule, keep, spread, parent count p (1 byte each), p parents (2 bytes
+ *                         each), name
  *   and last
  *   ROZHINAL_TAG_END      nothing; no byte follows
  *
@@ -173,7 +173,7 @@ enum rozhinal_refusal {
     ROZHINAL_REFUSED_PARENT = 6, /* a parent is not an earlier item */
     ROZHINAL_REFUSED_LEVEL = 7,  /* a level above ROZHINAL_MAX_LEVEL */
     /* faults of index and table */
-    ROZHINAL_REFUSED_SIZES = 8,  /* a length is not ROZHINAL_INDEX_BYTES(n), ROZHINAL_TABLE_BYTES(n) */
+    ROZHINAL_REFUSED_SIZES = 8,  /* index not ROZHINAL_INDEX_BYTES(n), or table not its length */
     ROZHINAL_REFUSED_INDEX = 9,  /* the index is not the one that an opening of the sheet writes */
     ROZHINAL_REFUSED_TABLE = 10, /* a record, or the value to print, breaks its form or range */
     /* faults of the arguments */
