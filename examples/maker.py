@@ -9,9 +9,9 @@ A sheet in text has an item a line; items are numbered from 0 in this order:
     entry NAME
     figure NAME RULE KEEP SPREAD = PARENT PARENT ...
 
-RULE is sum, difference, smallest, largest, share, choice, count or at-least. KEEP is keep or nokeep.
-SPREAD is defer, renew or forget. A PARENT is the name of an earlier item, or # and its number. A
-name has 1 to 16 characters, none a blank, all ASCII.
+RULE is sum, difference, smallest, largest, share, choice, count or at-least. KEEP is keep or
+nokeep. SPREAD is defer, renew or forget. A PARENT is the name of an earlier item, or # and its
+number. A name has 1 to 16 characters, none a blank, all ASCII.
 
 A day in text has a call a line, in the order in which they are made:
 

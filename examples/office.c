@@ -7,8 +7,8 @@
  * run goes on from. Commands come from standard input, one a line; `help` lists them. A command is
  * answered once its change is in the file.
  *
- * Exit status: 0 after quit or the end of the input, 1 if the sheet or the book is refused or a file
- * cannot be used, 2 for wrong usage.
+ * Exit status: 0 after quit or the end of the input, 1 if the sheet or the book is refused or a
+ * file cannot be used, 2 for wrong usage.
  */
 #include "book.h"
 #include "rozhinal.h"
@@ -210,7 +210,7 @@ static const struct {
     size_t least, most; /* words, with the verb */
     const char *help;
 } verbs[VERBS] = {
-    [POST] = { "post", "ITEM NUMBER", 3, 3, "post kilograms to an entry; `null`: nothing recorded" },
+    [POST] = { "post", "ITEM NUMBER", 3, 3, "post kilograms, or `null` for nothing recorded" },
     [ASK] = { "ask", "ITEM", 2, 2, "catch up, and read an item" },
     [KEEP] = { "keep", "ITEM", 2, 2, "store a figure" },
     [DROP] = { "drop", "ITEM", 2, 2, "store a figure no longer" },
@@ -223,7 +223,7 @@ static const struct {
 static void help(void)
 {
     for (size_t k = 0; k < VERBS; k++)
-        printf("%s %-12s %s\n", verbs[k].word, verbs[k].arguments, verbs[k].help);
+        printf("%-4s %-12s %s\n", verbs[k].word, verbs[k].arguments, verbs[k].help);
 }
 
 /* The verb of a command with a right number of words; VERBS if there is none, and says so. */
