@@ -62,15 +62,15 @@ def field(tag, content):
 
 def choose(words, word, what):
     if word not in words:
-        raise Mistake(f"{word!r} is no {what}; it is one of {', '.join(words)}")
+        raise Mistake(f"{word!a} is no {what}; it is one of {', '.join(words)}")
     return words[word]
 
 
 def name_bytes(name):
     if not all("!" <= c <= "~" for c in name):
-        raise Mistake(f"the name {name!r} has a character that is not printable ASCII")
+        raise Mistake(f"the name {name!a} has a character that is not printable ASCII")
     if len(name) > MAX_NAME:
-        raise Mistake(f"the name {name!r} has {len(name)} characters, {MAX_NAME} are the most")
+        raise Mistake(f"the name {name!a} has {len(name)} characters, {MAX_NAME} are the most")
     return name.encode("ascii")
 
 
@@ -83,7 +83,7 @@ def number_of(digits):
     return int(digits) if len(digits) <= 20 else 10**20
 
 
-def item_number(word, items):
+def item_number(word, items, where=""):
     """The number of the item that the word names; with # it may be beyond the items."""
     if word.startswith("#") and is_digits(word[1:]):
         number = number_of(word[1:])
@@ -92,21 +92,18 @@ def item_number(word, items):
         return number
     found = [i for i, item in enumerate(items) if item.name == word]
     if not found:
-        hint = f" (the item with this number is #{word})" if is_digits(word) else ""
-        raise Mistake(f"there is no item named {word!r}{hint}")
+        hint = f"; by number it is #{word}" if is_digits(word) else ""
+        raise Mistake(f"there is no item named {word!a}{where}{hint}")
     if len(found) > 1:
         numbers = ", ".join(f"#{i}" for i in found)
-        raise Mistake(f"several items are named {word!r}: {numbers}; write the number")
+        raise Mistake(f"several items are named {word!a}: {numbers}; write the number")
     return found[0]
 
 
 def parent_number(word, items):
-    try:
-        number = item_number(word, items)
-    except Mistake as mistake:
-        raise Mistake(f"parent: {mistake}; parents stand on earlier lines") from None
+    number = item_number(word, items, " on an earlier line")
     if number >= len(items):
-        raise Mistake(f"parent {word}: the items before this one are #0 to #{len(items) - 1}")
+        raise Mistake(f"parent {word} is not an earlier item; this one is #{len(items)}")
     return number
 
 
@@ -126,7 +123,7 @@ def read_figure(words, items):
     parents = [parent_number(word, items) for word in words[6:]]
     if not least <= len(parents) <= most:
         wanted = str(least) if least == most else f"{least} to {most}"
-        raise Mistake(f"{words[2]} takes {wanted} parents, {len(parents)} are given")
+        raise Mistake(f"{words[2]} takes {wanted} parents, not {len(parents)}")
     level = 1 + max(items[p].level for p in parents)
     if level > MAX_LEVEL:
         raise Mistake(f"{words[1]} has level {level}, {MAX_LEVEL} is the highest")
@@ -141,7 +138,7 @@ def read_item(words, items):
         return read_entry(words)
     if words[0] == "figure":
         return read_figure(words, items)
-    raise Mistake(f"a line begins with entry or figure, not {words[0]!r}")
+    raise Mistake(f"a line begins with entry or figure, not {words[0]!a}")
 
 
 def posted(word):
@@ -150,7 +147,7 @@ def posted(word):
         return bytes([1]) + bytes(8)
     digits = word[1:] if word[0] in "+-" else word
     if not is_digits(digits):
-        raise Mistake(f"{word!r} is neither null nor a whole number")
+        raise Mistake(f"{word!a} is neither null nor a whole number")
     number = -number_of(digits) if word[0] == "-" else number_of(digits)
     if not -(2**63) <= number < 2**63:
         raise Mistake(f"{word} does not fit 64 bits")

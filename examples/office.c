@@ -236,7 +236,8 @@ static enum verb verb_of(char **words, size_t count)
         print_word(words[0]);
         puts(" is no command; try help");
     } else if (count < verbs[k].least || count > verbs[k].most) {
-        printf("it is written: %s %s\n", verbs[k].word, verbs[k].arguments);
+        printf("it is written: %s%s%s\n", verbs[k].word, verbs[k].most > 1 ? " " : "",
+               verbs[k].arguments);
         k = VERBS;
     }
     return (enum verb)k;
