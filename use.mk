@@ -6,7 +6,6 @@
 #
 # ROZHINAL_LIB_DIR is the folder of the archive; name another to build against a library that stands elsewhere.
 
-CC ?= gcc
 CFLAGS ?= -O2
 PREFIX ?= /usr/local
 ROZHINAL_LIB_DIR ?= target/staticlib
@@ -22,8 +21,8 @@ EXAMPLE_HEADERS := include/rozhinal.h examples/sheet.h examples/book.h
 lib:
 	rt staticlib rozhinal
 
-# Only the archive in target/ is made here.
-target/staticlib/librozhinal.a:
+# Only the archive in target/ is made here. It is proved and written anew when a source has changed.
+target/staticlib/librozhinal.a: crates.txt $(shell find crates -name '*.rt' -o -name '*.antt')
 	rt staticlib rozhinal
 
 install: $(ROZHINAL_ARCHIVE)
