@@ -14,7 +14,7 @@
  *
  * What is lent:
  *
- *   - Slices lent to one call must not overlap, unless all that overlap are only read (const here).
+ *   - Slices lent to one call must not overlap.
  *   - A pointer may be null only if its length is 0. Any other pointer will do for length 0, and is
  *     the safer choice.
  *   - Nothing is kept after the call: what was lent may be moved, copied or freed.
@@ -73,9 +73,10 @@ extern "C" {
  *   and last
  *   ROZHINAL_TAG_END      nothing; no byte follows
  *
- * A name has 1 to ROZHINAL_MAX_NAME bytes, each 33 to 126; names may repeat. A parent is the number
- * of an earlier item; a parent may be listed twice. An entry has level 0, a figure one more than
- * its highest parent.
+ * A name is made of 1 to ROZHINAL_MAX_NAME bytes from 33 ('!') to 126 ('~'). Two items may have the
+ * same name. Parents are given by number, and only items before the figure can be its parents; one
+ * may stand in the list more than once. Entries are at level 0, and a figure stands one level above
+ * the highest of its parents.
  */
 enum rozhinal_tag {
     ROZHINAL_TAG_HEAD = 1,
@@ -106,9 +107,9 @@ enum rozhinal_rule {
  * 1 if looking the figure up stores it, else 0.
  */
 enum rozhinal_spread {
-    ROZHINAL_DEFER = 0, /* it is marked, and worked out anew later */
-    ROZHINAL_RENEW = 1, /* it is worked out anew at once */
-    ROZHINAL_FORGET = 2 /* it is no longer stored */
+    ROZHINAL_DEFER = 0, /* it is marked refresh; if it is marked notice, as renew */
+    ROZHINAL_RENEW = 1, /* it is worked out anew at once, and marked notice if it changed */
+    ROZHINAL_FORGET = 2 /* it is no longer stored, and is marked notice */
 };
 
 /*
@@ -133,10 +134,9 @@ static inline size_t rozhinal_item_count(const uint8_t *sheet, size_t sheet_len)
  *   byte 1      mark, an enum rozhinal_mark
  *   bytes 2-9   number, two's complement, little-endian; 0 unless the kind is ROZHINAL_NUMBER
  *
- * An entry never has kind ROZHINAL_UNK or ROZHINAL_OUT, nor mark ROZHINAL_MARK_REFRESH. A figure of
- * kind ROZHINAL_UNK never has mark ROZHINAL_MARK_REFRESH. A figure is stored if its kind is not
- * ROZHINAL_UNK. A stored figure may be out of date until no mark is left: read values by
- * rozhinal_ask, not from the table.
+ * The kind of an entry is ROZHINAL_NULL or ROZHINAL_NUMBER. Only a stored figure, one whose kind is
+ * not ROZHINAL_UNK, can have the mark ROZHINAL_MARK_REFRESH. While any mark is left a stored figure
+ * may be out of date: read values by rozhinal_ask, not from the table.
  */
 #define ROZHINAL_RECORD_BYTES 10
 #define ROZHINAL_TABLE_BYTES(n) ((size_t)ROZHINAL_RECORD_BYTES * (n))
@@ -173,7 +173,7 @@ enum rozhinal_refusal {
     ROZHINAL_REFUSED_PARENT = 6, /* a parent is not an earlier item */
     ROZHINAL_REFUSED_LEVEL = 7,  /* a level above ROZHINAL_MAX_LEVEL */
     /* faults of index and table */
-    ROZHINAL_REFUSED_SIZES = 8,  /* index not ROZHINAL_INDEX_BYTES(n), or table not its length */
+    ROZHINAL_REFUSED_SIZES = 8,  /* index_len or table_len is not the size for n items */
     ROZHINAL_REFUSED_INDEX = 9,  /* the index is not the one that an opening of the sheet writes */
     ROZHINAL_REFUSED_TABLE = 10, /* a record, or the value to print, breaks its form or range */
     /* faults of the arguments */
