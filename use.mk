@@ -18,12 +18,20 @@ EXAMPLE_HEADERS := include/rozhinal.h examples/sheet.h examples/book.h
 
 .PHONY: lib install examples
 
+define PROVE_LIBRARY
+@test -d crates/rozhinal || { \
+    echo "The library's crate, crates/rozhinal, does not exist yet: there is no proved archive to make." >&2; \
+    echo "ROZHINAL_LIB_DIR names the folder of another librozhinal.a (tests/gate makes one in target/tests/lib)." >&2; \
+    exit 1; }
+rt staticlib rozhinal
+endef
+
 lib:
-	rt staticlib rozhinal
+	$(PROVE_LIBRARY)
 
 # Only the archive in target/ is made here. It is proved and written anew when a source has changed.
 target/staticlib/librozhinal.a: crates.txt $(shell find crates -name '*.rt' -o -name '*.antt')
-	rt staticlib rozhinal
+	$(PROVE_LIBRARY)
 
 install: $(ROZHINAL_ARCHIVE)
 	install -d $(DESTDIR)$(PREFIX)/include $(DESTDIR)$(PREFIX)/lib/pkgconfig
