@@ -1,5 +1,6 @@
 # make run    the program on its bundled data
 # make check  the gate
+# The targets for C programs are in use.mk.
 .PHONY: run check
 
 run:
@@ -8,3 +9,5 @@ run:
 
 check:
 	bash .ci/run
+
+include use.mk

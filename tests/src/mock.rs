@@ -1,4 +1,4 @@
-//! A stand-in for the engine, to try the comparison itself: the model's reader with another
+//! A mock of the engine, to try the comparison itself: the model's reader with another
 //! machine, which fills cells from a whole solution and catches up in one ascending sweep.
 //! It can be made wrong in one respect.
 

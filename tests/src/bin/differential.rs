@@ -1,4 +1,4 @@
-//! Compares the linked engine, or a stand-in, with the model. See README.md.
+//! Compares the linked engine, or a mock, with the model. See README.md.
 
 use rozhinal_tests::engine::{DayProgram, Engine};
 use rozhinal_tests::harness::days::DayBinary;
@@ -12,7 +12,7 @@ const USAGE: &str =
     "differential [--self] [--trace] [--seed N] [--calls N] [--offices N] [--days N] [--part N]";
 
 struct Options {
-    stand_in: bool,
+    mock: bool,
     plan: Plan,
 }
 
@@ -37,12 +37,12 @@ fn options() -> Result<Options, String> {
         only: None,
         trace: false,
     };
-    let mut options = Options { stand_in: false, plan };
+    let mut options = Options { mock: false, plan };
     let mut words = std::env::args().skip(1);
     while let Some(word) = words.next() {
         match word.as_str() {
             "--self" => {
-                options.stand_in = true;
+                options.mock = true;
                 continue;
             }
             "--trace" => {
@@ -66,8 +66,8 @@ fn options() -> Result<Options, String> {
 
 fn compare(options: Options) -> Result<(), String> {
     println!("seed {}", options.plan.seed);
-    let mut engine = engine(options.stand_in)?;
-    let mut day = day_program(options.stand_in)?;
+    let mut engine = engine(options.mock)?;
+    let mut day = day_program(options.mock)?;
     let start = Instant::now();
     let program = day.as_mut().map(|d| d as &mut dyn DayProgram);
     let tally = run(&options.plan, engine.as_mut(), program)?;
@@ -76,9 +76,9 @@ fn compare(options: Options) -> Result<(), String> {
     Ok(())
 }
 
-fn engine(stand_in: bool) -> Result<Box<dyn Engine>, String> {
-    if stand_in {
-        println!("engine: a stand-in in this program");
+fn engine(mock: bool) -> Result<Box<dyn Engine>, String> {
+    if mock {
+        println!("engine: a mock in this program");
         return Ok(Box::new(Mock(Wrong::Nothing)));
     }
     linked()
@@ -95,11 +95,11 @@ fn linked() -> Result<Box<dyn Engine>, String> {
     Err("no engine is linked: build with ROZHINAL_LIB_DIR set, or give --self".to_string())
 }
 
-/// The binary that ROZHINAL_DAY_BIN names; else, for a stand-in, the model's own beside this one.
-fn day_program(stand_in: bool) -> Result<Option<DayBinary>, String> {
+/// The binary that ROZHINAL_DAY_BIN names; else, for a mock, the model's own beside this one.
+fn day_program(mock: bool) -> Result<Option<DayBinary>, String> {
     let named = std::env::var_os("ROZHINAL_DAY_BIN").filter(|b| !b.is_empty()).map(PathBuf::from);
     let beside = std::env::current_exe().ok().map(|e| e.with_file_name("model_day"));
-    let binary = named.or(beside.filter(|b| stand_in && b.is_file()));
+    let binary = named.or(beside.filter(|b| mock && b.is_file()));
     match binary {
         Some(binary) => {
             println!("day program: {}", binary.display());

@@ -1,0 +1,207 @@
+/*
+ * The file, numbers little-endian: the mark of a book, three lengths (4 bytes each), sheet, index,
+ * table, and the FNV-1a sum of all bytes before it (8 bytes).
+ */
+#include "book.h"
+
+#include "rozhinal.h"
+#include "sheet.h"
+
+#include <errno.h>
+#include <fcntl.h>
+#include <stdlib.h>
+#include <string.h>
+#include <unistd.h>
+
+enum { MARK_BYTES = 16, LENGTH_BYTES = 4, SUM_BYTES = 8 };
+enum { HEAD_BYTES = MARK_BYTES + 3 * LENGTH_BYTES };
+static const char book_mark[MARK_BYTES + 1] = "rozhinal book 1\n";
+
+#define BOOK_MOST                                                                                \
+    (HEAD_BYTES + SHEET_MOST + ROZHINAL_INDEX_BYTES(ROZHINAL_MAX_ITEMS)                          \
+     + ROZHINAL_TABLE_BYTES(ROZHINAL_MAX_ITEMS) + SUM_BYTES)
+
+static void put_number(uint8_t *to, size_t bytes, uint64_t number)
+{
+    for (size_t k = 0; k < bytes; k++, number >>= 8)
+        to[k] = (uint8_t)(number & 0xFF);
+}
+
+static uint64_t get_number(const uint8_t *from, size_t bytes)
+{
+    uint64_t number = 0;
+    for (size_t k = bytes; k > 0; k--)
+        number = number << 8 | from[k - 1];
+    return number;
+}
+
+static uint64_t sum_of(const uint8_t *bytes, size_t length)
+{
+    uint64_t sum = UINT64_C(0xCBF29CE484222325);
+    for (size_t k = 0; k < length; k++)
+        sum = (sum ^ bytes[k]) * UINT64_C(0x100000001B3);
+    return sum;
+}
+
+/* The path with an ending, in memory that the caller frees. */
+static char *path_with(const char *path, const char *ending)
+{
+    size_t length = strlen(path), more = strlen(ending);
+    char *longer = malloc(length + more + 1);
+    if (longer != NULL) {
+        memcpy(longer, path, length);
+        memcpy(longer + length, ending, more + 1);
+    }
+    return longer;
+}
+
+int book_take(const struct book *book)
+{
+    char *path = path_with(book->path, ".lock");
+    if (path == NULL)
+        return -1;
+    int file = open(path, O_RDWR | O_CREAT | O_CLOEXEC, 0666);
+    free(path);
+    if (file < 0)
+        return -1;
+    struct flock lock = { .l_type = F_WRLCK, .l_whence = SEEK_SET };
+    if (fcntl(file, F_SETLK, &lock) == 0)
+        return 0;
+    int cause = errno == EACCES ? EAGAIN : errno;
+    close(file);
+    errno = cause;
+    return -1;
+}
+
+/*
+ * The library's word on sheet, index and table, 0 if they are good: a step of no item is then
+ * refused with 11.
+ */
+static uint64_t refusal_of(const struct book *book, const uint8_t *index, size_t index_len,
+                           uint8_t *table, size_t table_len)
+{
+    rozhinal_answer answer = rozhinal_step(book->sheet, book->sheet_len, index, index_len, table,
+                                           table_len, UINT64_MAX);
+    return answer.number == ROZHINAL_REFUSED_ITEM ? 0 : answer.number;
+}
+
+static enum book_state load_bytes(struct book *book, uint8_t *bytes, size_t length,
+                                  uint64_t *refusal)
+{
+    if (length < HEAD_BYTES + SUM_BYTES || memcmp(bytes, book_mark, MARK_BYTES) != 0)
+        return BOOK_DAMAGED;
+    size_t sheet_len = (size_t)get_number(bytes + MARK_BYTES, LENGTH_BYTES);
+    size_t index_len = (size_t)get_number(bytes + MARK_BYTES + LENGTH_BYTES, LENGTH_BYTES);
+    size_t table_len = (size_t)get_number(bytes + MARK_BYTES + 2 * LENGTH_BYTES, LENGTH_BYTES);
+    /* Three lengths of 32 bits do not overflow 64. */
+    if (sheet_len + index_len + table_len != length - HEAD_BYTES - SUM_BYTES)
+        return BOOK_DAMAGED;
+    uint8_t *sheet = bytes + HEAD_BYTES, *index = sheet + sheet_len, *table = index + index_len;
+    int whole = get_number(table + table_len, SUM_BYTES) == sum_of(bytes, length - SUM_BYTES);
+    if (sheet_len != book->sheet_len || memcmp(sheet, book->sheet, sheet_len) != 0)
+        return whole ? BOOK_OTHER_SHEET : BOOK_DAMAGED;
+    *refusal = refusal_of(book, index, index_len, table, table_len);
+    if (*refusal != 0 || !whole)
+        return BOOK_DAMAGED;
+    memcpy(book->index, index, book->index_len);
+    memcpy(book->table, table, book->table_len);
+    return BOOK_LOADED;
+}
+
+enum book_state book_load(struct book *book, uint64_t *refusal)
+{
+    *refusal = 0;
+    size_t length = 0;
+    uint8_t *bytes = read_file(book->path, BOOK_MOST, &length);
+    if (bytes == NULL)
+        return errno == ENOENT ? BOOK_ABSENT : errno == EFBIG ? BOOK_DAMAGED : BOOK_UNREADABLE;
+    enum book_state state = load_bytes(book, bytes, length, refusal);
+    free(bytes);
+    return state;
+}
+
+static int write_all(int file, const uint8_t *bytes, size_t length)
+{
+    while (length > 0) {
+        ssize_t written = write(file, bytes, length);
+        if (written < 0 && errno == EINTR)
+            continue;
+        if (written < 0)
+            return -1;
+        bytes += written;
+        length -= (size_t)written;
+    }
+    return 0;
+}
+
+/* Writes a file and sees that its bytes are on the disk. */
+static int write_file(const char *path, const uint8_t *bytes, size_t length)
+{
+    int file = open(path, O_WRONLY | O_CREAT | O_TRUNC | O_CLOEXEC, 0666);
+    if (file < 0)
+        return -1;
+    int failed = write_all(file, bytes, length) != 0 || fsync(file) != 0;
+    int cause = errno;
+    if (close(file) != 0 && !failed) {
+        failed = 1;
+        cause = errno;
+    }
+    errno = cause;
+    return failed ? -1 : 0;
+}
+
+/* Sees that the folder of the path is on the disk, with the file's new name. */
+static int sync_folder(const char *path)
+{
+    char *folder = path_with(path, "");
+    if (folder == NULL)
+        return -1;
+    char *slash = strrchr(folder, '/');
+    if (slash != NULL)
+        slash[slash == folder ? 1 : 0] = '\0';
+    int file = open(slash != NULL ? folder : ".", O_RDONLY | O_CLOEXEC);
+    free(folder);
+    if (file < 0)
+        return -1;
+    int failed = fsync(file) != 0;
+    int cause = errno;
+    close(file);
+    errno = cause;
+    return failed ? -1 : 0;
+}
+
+static uint8_t *book_bytes(const struct book *book, size_t *length)
+{
+    size_t inside = book->sheet_len + book->index_len + book->table_len;
+    *length = HEAD_BYTES + inside + SUM_BYTES;
+    uint8_t *bytes = malloc(*length);
+    if (bytes == NULL)
+        return NULL;
+    memcpy(bytes, book_mark, MARK_BYTES);
+    put_number(bytes + MARK_BYTES, LENGTH_BYTES, book->sheet_len);
+    put_number(bytes + MARK_BYTES + LENGTH_BYTES, LENGTH_BYTES, book->index_len);
+    put_number(bytes + MARK_BYTES + 2 * LENGTH_BYTES, LENGTH_BYTES, book->table_len);
+    uint8_t *sheet = bytes + HEAD_BYTES, *index = sheet + book->sheet_len;
+    memcpy(sheet, book->sheet, book->sheet_len);
+    memcpy(index, book->index, book->index_len);
+    memcpy(index + book->index_len, book->table, book->table_len);
+    put_number(bytes + *length - SUM_BYTES, SUM_BYTES, sum_of(bytes, *length - SUM_BYTES));
+    return bytes;
+}
+
+int book_save(const struct book *book)
+{
+    size_t length = 0;
+    uint8_t *bytes = book_bytes(book, &length);
+    char *path = path_with(book->path, ".new");
+    int state = -1;
+    if (bytes == NULL || path == NULL)
+        errno = ENOMEM;
+    else if (write_file(path, bytes, length) == 0 && rename(path, book->path) == 0)
+        state = sync_folder(book->path) == 0 ? 0 : 1;
+    int cause = errno;
+    free(bytes);
+    free(path);
+    errno = cause;
+    return state;
+}

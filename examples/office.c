@@ -1,0 +1,421 @@
+/*
+ * An office at a terminal.
+ *
+ *     office [-f] SHEET BOOK
+ *
+ * Opens the sheet, bare or with -f full, and keeps index and table in the file BOOK, which a later
+ * run goes on from. Commands come from standard input, one a line; `help` lists them. A command is
+ * answered once its change is in the file.
+ *
+ * Exit status: 0 after quit or the end of the input, 1 if the sheet or the book is refused or a
+ * file cannot be used, 2 for wrong usage.
+ */
+#include "book.h"
+#include "rozhinal.h"
+#include "sheet.h"
+
+#include <errno.h>
+#include <inttypes.h>
+#include <stdlib.h>
+#include <string.h>
+#include <unistd.h>
+
+struct office {
+    struct book book;
+    size_t count;
+    uint8_t *saved; /* the table as it is in the file */
+};
+
+#define LENT(b) (b)->sheet, (b)->sheet_len, (b)->index, (b)->index_len, (b)->table, (b)->table_len
+
+/* ---- Showing items ---- */
+
+static void print_value(uint64_t kind, int64_t number)
+{
+    uint8_t scratch[ROZHINAL_PRINT_BYTES];
+    int64_t length = rozhinal_print(kind, number, scratch, sizeof scratch);
+    if (length > 0)
+        printf("%.*s", (int)length, (const char *)scratch);
+    else
+        printf("%s", "UNK");
+}
+
+static int64_t record_number(const uint8_t *record)
+{
+    uint64_t bits = 0;
+    for (size_t k = 8; k > 0; k--)
+        bits = bits << 8 | record[1 + k];
+    int64_t number;
+    memcpy(&number, &bits, sizeof number);
+    return number;
+}
+
+static void show_item(const struct office *office, size_t i)
+{
+    static const char *const marks[] = { "-", "refresh", "notice" };
+    const uint8_t *record = office->book.table + ROZHINAL_TABLE_BYTES(i);
+    struct item item = item_at(office->book.sheet, office->book.index, i);
+    const char *state = !item.figure ? "entry"
+                        : record[0] != ROZHINAL_UNK ? "stored" : "not stored";
+    const char *mark = record[1] <= ROZHINAL_MARK_NOTICE ? marks[record[1]] : "?";
+    printf("%4zu  %-16s  %-10s  %-7s  ", i, item.name, state, mark);
+    print_value(record[0], record_number(record));
+    putchar('\n');
+}
+
+static void list_all(const struct office *office)
+{
+    puts("item  name              state       mark     value");
+    for (size_t i = 0; i < office->count; i++)
+        show_item(office, i);
+}
+
+/* ---- Saving ---- */
+
+/* Sees that the table is in the file. If it cannot be, the table is again the one in the file. */
+static bool save(struct office *office)
+{
+    struct book *book = &office->book;
+    if (memcmp(book->table, office->saved, book->table_len) == 0)
+        return true;
+    int state = book_save(book);
+    if (state < 0) {
+        printf("not done: %s: %s\n", book->path, strerror(errno));
+        memcpy(book->table, office->saved, book->table_len);
+        return false;
+    }
+    if (state > 0)
+        printf("warning: %s: %s\n", book->path, strerror(errno));
+    memcpy(office->saved, book->table, book->table_len);
+    return true;
+}
+
+/* ---- Words of a command ---- */
+
+static bool is_digits(const char *word)
+{
+    return word[0] != '\0' && word[strspn(word, "0123456789")] == '\0';
+}
+
+/* A word as typed, with anything unprintable left out, and cut. */
+static void print_word(const char *word)
+{
+    enum { SHOWN = 40 };
+    size_t shown = 0;
+    putchar('\'');
+    for (; *word != '\0' && shown < SHOWN; word++, shown++)
+        putchar(*word > ' ' && *word <= '~' ? *word : '?');
+    printf("%s'", *word != '\0' ? "..." : "");
+}
+
+/* The item that a word names: # and a number, a name, or else a number. */
+static bool find_item(const struct office *office, const char *word, uint64_t *item)
+{
+    /* A number too large for 64 bits becomes the largest, which is no item either. */
+    if (word[0] == '#' && is_digits(word + 1)) {
+        *item = strtoull(word + 1, NULL, 10);
+        return true;
+    }
+    size_t found = 0, first = 0;
+    for (size_t i = 0; i < office->count; i++) {
+        if (strcmp(item_at(office->book.sheet, office->book.index, i).name, word) != 0)
+            continue;
+        if (found++ == 0)
+            first = i;
+    }
+    if (found == 1) {
+        *item = first;
+        return true;
+    }
+    if (found == 0 && is_digits(word)) {
+        *item = strtoull(word, NULL, 10);
+        return true;
+    }
+    print_word(word);
+    if (found == 0)
+        puts(" is no item");
+    else
+        printf(" names %zu items, the first is #%zu; use # and the number\n", found, first);
+    return false;
+}
+
+/* A posted value: null, or a number of 64 bits. The library tests the range. */
+static bool read_value(const char *word, uint64_t *kind, int64_t *number)
+{
+    *kind = ROZHINAL_NULL;
+    *number = 0;
+    if (strcmp(word, "null") == 0)
+        return true;
+    *kind = ROZHINAL_NUMBER;
+    if (is_digits(word[0] == '-' || word[0] == '+' ? word + 1 : word)) {
+        errno = 0;
+        long long value = strtoll(word, NULL, 10);
+        *number = value;
+        if (errno == 0)
+            return true;
+    }
+    print_word(word);
+    puts(" is neither null nor a number of 64 bits");
+    return false;
+}
+
+/* ---- Commands ---- */
+
+static void refuse(uint64_t number)
+{
+    printf("refused with %" PRIu64 ": %s\n", number, refusal_words(number));
+}
+
+/* After an accepted call that gives no value. */
+static void done(struct office *office, rozhinal_answer answer, uint64_t item)
+{
+    if (answer.number != ROZHINAL_ACCEPTED)
+        refuse(answer.number);
+    else if (save(office))
+        show_item(office, (size_t)item);
+}
+
+static void post(struct office *office, uint64_t item, const char *word)
+{
+    uint64_t kind;
+    int64_t number;
+    if (read_value(word, &kind, &number))
+        done(office, rozhinal_post(LENT(&office->book), item, kind, number), item);
+}
+
+static void ask(struct office *office, uint64_t item)
+{
+    rozhinal_reading reading = rozhinal_ask(LENT(&office->book), item);
+    if (reading.number != ROZHINAL_ACCEPTED) {
+        refuse(reading.number);
+    } else if (save(office)) {
+        printf("%s = ", item_at(office->book.sheet, office->book.index, (size_t)item).name);
+        print_value(reading.kind, reading.value);
+        putchar('\n');
+    }
+}
+
+static void list_one(const struct office *office, uint64_t item)
+{
+    if (item < office->count)
+        show_item(office, (size_t)item);
+    else
+        refuse(ROZHINAL_REFUSED_ITEM);
+}
+
+enum verb { POST, ASK, KEEP, DROP, STEP, LIST, HELP, QUIT, VERBS };
+
+static const struct {
+    const char *word, *arguments;
+    size_t least, most; /* words, with the verb */
+    const char *help;
+} verbs[VERBS] = {
+    [POST] = { "post", "ITEM NUMBER", 3, 3, "post kilograms, or `null` for nothing recorded" },
+    [ASK] = { "ask", "ITEM", 2, 2, "catch up, and read an item" },
+    [KEEP] = { "keep", "ITEM", 2, 2, "store a figure" },
+    [DROP] = { "drop", "ITEM", 2, 2, "store a figure no longer" },
+    [STEP] = { "step", "ITEM", 2, 2, "do the work of an item's mark" },
+    [LIST] = { "list", "[ITEM]", 1, 2, "show all items, or one" },
+    [HELP] = { "help", "", 1, 1, "show this; ITEM is a name, or # and a number" },
+    [QUIT] = { "quit", "", 1, 1, "end" },
+};
+
+static void help(void)
+{
+    for (size_t k = 0; k < VERBS; k++)
+        printf("%-4s %-12s %s\n", verbs[k].word, verbs[k].arguments, verbs[k].help);
+}
+
+/* The verb of a command with a right number of words; VERBS if there is none, and says so. */
+static enum verb verb_of(char **words, size_t count)
+{
+    size_t k = 0;
+    while (k < VERBS && strcmp(verbs[k].word, words[0]) != 0)
+        k++;
+    if (k == VERBS) {
+        print_word(words[0]);
+        puts(" is no command; try help");
+    } else if (count < verbs[k].least || count > verbs[k].most) {
+        printf("it is written: %s%s%s\n", verbs[k].word, verbs[k].most > 1 ? " " : "",
+               verbs[k].arguments);
+        k = VERBS;
+    }
+    return (enum verb)k;
+}
+
+/* A command on an item, with the value of a post. */
+static void command_on(struct office *office, enum verb verb, char **words)
+{
+    const struct book *book = &office->book;
+    uint64_t item;
+    if (!find_item(office, words[1], &item))
+        return;
+    if (verb == POST)
+        post(office, item, words[2]);
+    else if (verb == ASK)
+        ask(office, item);
+    else if (verb == KEEP)
+        done(office, rozhinal_keep(LENT(book), item), item);
+    else if (verb == DROP)
+        done(office, rozhinal_drop(LENT(book), item), item);
+    else if (verb == STEP)
+        done(office, rozhinal_step(LENT(book), item), item);
+    else
+        list_one(office, item);
+}
+
+/* False after quit. */
+static bool command(struct office *office, char **words, size_t count)
+{
+    enum verb verb = verb_of(words, count);
+    if (verb == HELP)
+        help();
+    else if (verb == LIST && count == 1)
+        list_all(office);
+    else if (verb < HELP)
+        command_on(office, verb, words);
+    return verb != QUIT;
+}
+
+/* ---- Lines ---- */
+
+/* Cuts a line into words, at most so many; more are counted, not kept. */
+static size_t cut_words(char *line, char **words, size_t most)
+{
+    static const char blanks[] = " \t\r\n";
+    size_t count = 0;
+    for (char *word = line + strspn(line, blanks); *word != '\0'; count++) {
+        char *end = word + strcspn(word, blanks);
+        char *next = end + strspn(end, blanks);
+        *end = '\0';
+        if (count < most)
+            words[count] = word;
+        word = next;
+    }
+    return count;
+}
+
+static int run(struct office *office)
+{
+    char *line = NULL;
+    size_t room = 0;
+    bool prompt = isatty(STDIN_FILENO), open = true;
+    while (open) {
+        if (prompt)
+            fputs("> ", stdout);
+        fflush(stdout);
+        ssize_t length = getline(&line, &room, stdin);
+        if (length < 0)
+            break;
+        char *words[3];
+        if (memchr(line, '\0', (size_t)length) != NULL) {
+            puts("a line with a zero byte is no command");
+            continue;
+        }
+        size_t count = cut_words(line, words, 3);
+        if (count > 0)
+            open = command(office, words, count);
+    }
+    free(line);
+    bool failed = ferror(stdin);
+    if (fflush(stdout) != 0 || ferror(stdout) || failed) {
+        fputs("office: input or output failed\n", stderr);
+        return 1;
+    }
+    return 0;
+}
+
+/* ---- Starting ---- */
+
+/* Opens the sheet anew in index and table. */
+static bool open_sheet(const struct book *book, bool full)
+{
+    rozhinal_answer answer = full ? rozhinal_open_full(LENT(book)) : rozhinal_open_bare(LENT(book));
+    if (answer.number == ROZHINAL_ACCEPTED)
+        return true;
+    fputs("office: the sheet is ", stderr);
+    print_refusal(stderr, book->sheet, book->sheet_len, answer);
+    return false;
+}
+
+/* Goes on from the book, or begins it with the table that the opening wrote. */
+static bool open_book(struct book *book, bool full)
+{
+    uint64_t refusal;
+    enum book_state state = book_load(book, &refusal);
+    switch (state) {
+    case BOOK_LOADED:
+        printf("going on with %s\n", book->path);
+        return true;
+    case BOOK_ABSENT:
+        if (book_save(book) < 0)
+            break;
+        printf("opened %s: %s begins\n", full ? "full" : "bare", book->path);
+        return true;
+    case BOOK_OTHER_SHEET:
+        fprintf(stderr, "office: %s belongs to another sheet\n", book->path);
+        return false;
+    case BOOK_DAMAGED:
+        fprintf(stderr, "office: %s is damaged", book->path);
+        if (refusal != 0)
+            fprintf(stderr, ", refused with %" PRIu64 ": %s", refusal, refusal_words(refusal));
+        fputc('\n', stderr);
+        return false;
+    case BOOK_UNREADABLE:
+        break;
+    }
+    fprintf(stderr, "office: %s: %s\n", book->path, strerror(errno));
+    return false;
+}
+
+static bool take(const struct book *book)
+{
+    if (book_take(book) == 0)
+        return true;
+    fprintf(stderr, "office: %s: %s\n", book->path,
+            errno == EAGAIN ? "another office has it open" : strerror(errno));
+    return false;
+}
+
+static int start(struct office *office, bool full)
+{
+    struct book *book = &office->book;
+    office->count = rozhinal_item_count(book->sheet, book->sheet_len);
+    book->index_len = ROZHINAL_INDEX_BYTES(office->count);
+    book->table_len = ROZHINAL_TABLE_BYTES(office->count);
+    book->index = malloc(book->index_len + 1);
+    book->table = malloc(book->table_len + 1);
+    office->saved = malloc(book->table_len + 1);
+    int status = 1;
+    if (book->index == NULL || book->table == NULL || office->saved == NULL) {
+        fputs("office: no memory\n", stderr);
+    } else if (open_sheet(book, full) && take(book) && open_book(book, full)) {
+        memcpy(office->saved, book->table, book->table_len);
+        status = run(office);
+    }
+    free(book->index);
+    free(book->table);
+    free(office->saved);
+    return status;
+}
+
+int main(int argc, char **argv)
+{
+    bool full = argc == 4 && strcmp(argv[1], "-f") == 0;
+    if (argc != 3 && !full) {
+        fputs("usage: office [-f] SHEET BOOK\n", stderr);
+        return 2;
+    }
+    const char *path = argv[argc - 2];
+    struct office office = { .book = { .path = argv[argc - 1] } };
+    uint8_t *sheet = read_file(path, SHEET_MOST, &office.book.sheet_len);
+    if (sheet == NULL) {
+        fprintf(stderr, "office: %s: %s\n", path,
+                errno == EFBIG ? "longer than any sheet" : strerror(errno));
+        return 1;
+    }
+    office.book.sheet = sheet;
+    int status = start(&office, full);
+    free(sheet);
+    return status;
+}

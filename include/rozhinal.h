@@ -1,0 +1,289 @@
+/*
+ * Rozhinal 1.0.0: an engine for quota ledgers.
+ *
+ * A sheet is a circuit of items. An entry is posted; a figure is worked out from earlier items, its
+ * parents, by one of eight rules. The caller lends three slices of bytes to each call:
+ *
+ *   sheet   the circuit, as the caller made it; no call changes it
+ *   index   written by an opening, then only read
+ *   table   written by an opening, then changed by the calls
+ *
+ * The engine keeps no state, allocates nothing, and reads and writes no byte but those lent to the
+ * call. A call may run in any thread, also while another call runs, as long as no two running calls
+ * are lent the same table and none is lent an index that an opening is writing.
+ *
+ * What is lent:
+ *
+ *   - Slices lent to one call must not overlap.
+ *   - A pointer may be null only if its length is 0. Any other pointer will do for length 0, and is
+ *     the safer choice.
+ *   - Nothing is kept after the call: what was lent may be moved, copied or freed.
+ *   - A table is good only with the sheet that it was opened with. Lent with another sheet it may
+ *     be accepted, if its form fits, and the readings then mean nothing. Keep sheet, index and
+ *     table together.
+ *   - A table that only the engine has written since an opening is always accepted (with its own
+ *     sheet and index). A table with bytes from elsewhere may be accepted too, but its readings are
+ *     then not promised.
+ *
+ * A refused call changes no lent byte. An accepted call never fails halfway.
+ *
+ * Stack: looking up goes from a figure to its parents, so the depth is bounded by the levels of a
+ * sheet (at most ROZHINAL_MAX_LEVEL), and each call has scratch space for ROZHINAL_MAX_ITEMS items.
+ */
+#ifndef ROZHINAL_H
+#define ROZHINAL_H
+
+#include <stddef.h>
+#include <stdint.h>
+
+#ifdef __cplusplus
+extern "C" {
+#endif
+
+#define ROZHINAL_VERSION_MAJOR 1
+#define ROZHINAL_VERSION_MINOR 0
+#define ROZHINAL_VERSION_PATCH 0
+#define ROZHINAL_VERSION "1.0.0"
+
+/* ---- Limits ---------------------------------------------------------------------------------- */
+
+/* A number of kilograms lies from -ROZHINAL_LIMIT to ROZHINAL_LIMIT. */
+#define ROZHINAL_LIMIT INT64_C(1000000000000)
+/* The second parent of a share lies from 0 to ROZHINAL_WHOLE: it counts ten-thousandths. */
+#define ROZHINAL_WHOLE INT64_C(10000)
+
+#define ROZHINAL_EDITION 1
+#define ROZHINAL_MAX_ITEMS 1024
+#define ROZHINAL_MAX_PARENTS 16
+#define ROZHINAL_MAX_LEVEL 64
+#define ROZHINAL_MAX_NAME 16
+
+/* ---- The sheet ------------------------------------------------------------------------------- */
+
+/*
+ * A sheet is a row of fields: tag (1 byte), length (2 bytes), then so many content bytes. Numbers
+ * are little-endian.
+ *
+ *   tag                   content
+ *   ROZHINAL_TAG_HEAD     edition (2 bytes), item count n (2 bytes, 1 to ROZHINAL_MAX_ITEMS)
+ *   then n items, numbered from 0, each one of
+ *   ROZHINAL_TAG_ENTRY    name
+ *   ROZHINAL_TAG_FIGURE   rule, keep, spread, parent count p (1 byte each), p parents (2 bytes
+ *                         each), name
+ *   and last
+ *   ROZHINAL_TAG_END      nothing; no byte follows
+ *
+ * A name is made of 1 to ROZHINAL_MAX_NAME bytes from 33 ('!') to 126 ('~'). Two items may have the
+ * same name. Parents are given by number, and only items before the figure can be its parents; one
+ * may stand in the list more than once. Entries are at level 0, and a figure stands one level above
+ * the highest of its parents.
+ */
+enum rozhinal_tag {
+    ROZHINAL_TAG_HEAD = 1,
+    ROZHINAL_TAG_ENTRY = 2,
+    ROZHINAL_TAG_FIGURE = 3,
+    ROZHINAL_TAG_END = 4
+};
+
+/*
+ * The rules. A parent that is OUT makes every rule OUT; a result beyond the range is OUT. NULL is
+ * "nothing recorded", and each rule gives NULL if all its parents are NULL.
+ */
+enum rozhinal_rule {
+    ROZHINAL_SUM = 1,        /* 1 to 16 parents: the sum of those not NULL */
+    ROZHINAL_DIFFERENCE = 2, /* 2 parents: first minus second, one NULL as 0 */
+    ROZHINAL_SMALLEST = 3,   /* 1 to 16 parents: the smallest of those not NULL */
+    ROZHINAL_LARGEST = 4,    /* 1 to 16 parents: the largest of those not NULL */
+    ROZHINAL_SHARE = 5,      /* 2 parents: first * second / ROZHINAL_WHOLE, rounded down; NULL if
+                                either is; OUT if the second is not from 0 to ROZHINAL_WHOLE */
+    ROZHINAL_CHOICE = 6,     /* 3 parents: the second if the first is above 0, else the third; NULL
+                                if the first is */
+    ROZHINAL_COUNT = 7,      /* 1 to 16 parents: how many are not NULL */
+    ROZHINAL_AT_LEAST = 8    /* 2 parents: 1 if first >= second, else 0; NULL if either is */
+};
+
+/*
+ * What a stored figure does when it is told that a parent has changed. The byte before it, keep, is
+ * 1 if looking the figure up stores it, else 0.
+ */
+enum rozhinal_spread {
+    ROZHINAL_DEFER = 0, /* it is marked refresh; if it is marked notice, as renew */
+    ROZHINAL_RENEW = 1, /* it is worked out anew at once, and marked notice if it changed */
+    ROZHINAL_FORGET = 2 /* it is no longer stored, and is marked notice */
+};
+
+/*
+ * The item count n that the sheet states: bytes 5 and 6. It means something only if the sheet
+ * opens; 0 for a sheet too short to state it. Use it to size index and table before an opening.
+ */
+static inline size_t rozhinal_item_count(const uint8_t *sheet, size_t sheet_len)
+{
+    return sheet_len < 7 ? 0 : (size_t)sheet[5] + 256 * (size_t)sheet[6];
+}
+
+/* ---- Index and table ------------------------------------------------------------------------- */
+
+/* The index: for each item the offset of its field in the sheet, 4 bytes, little-endian. */
+#define ROZHINAL_OFFSET_BYTES 4
+#define ROZHINAL_INDEX_BYTES(n) ((size_t)ROZHINAL_OFFSET_BYTES * (n))
+
+/*
+ * The table: a record for each item.
+ *
+ *   byte 0      kind, an enum rozhinal_kind
+ *   byte 1      mark, an enum rozhinal_mark
+ *   bytes 2-9   number, two's complement, little-endian; 0 unless the kind is ROZHINAL_NUMBER
+ *
+ * The kind of an entry is ROZHINAL_NULL or ROZHINAL_NUMBER. Only a stored figure, one whose kind is
+ * not ROZHINAL_UNK, can have the mark ROZHINAL_MARK_REFRESH. While any mark is left a stored figure
+ * may be out of date: read values by rozhinal_ask, not from the table.
+ */
+#define ROZHINAL_RECORD_BYTES 10
+#define ROZHINAL_TABLE_BYTES(n) ((size_t)ROZHINAL_RECORD_BYTES * (n))
+
+enum rozhinal_kind {
+    ROZHINAL_UNK = 0,   /* no value: a figure with nothing stored */
+    ROZHINAL_NULL = 1,  /* nothing recorded */
+    ROZHINAL_OUT = 2,   /* arithmetic left the range */
+    ROZHINAL_NUMBER = 3 /* a number of kilograms */
+};
+
+enum rozhinal_mark {
+    ROZHINAL_MARK_NONE = 0,    /* nothing to do */
+    ROZHINAL_MARK_REFRESH = 1, /* to be worked out anew from its parents */
+    ROZHINAL_MARK_NOTICE = 2   /* has changed, and its children are still to be told */
+};
+
+/* ---- Answers --------------------------------------------------------------------------------- */
+
+/*
+ * The number of an answer. 1 to 7 are faults of the sheet: the answer's offset is that of the first
+ * field at fault, and the number the lowest that applies to it. For a field that is absent the
+ * offset is the sheet's length; for bytes after the last field it is where they begin. With every
+ * other number the offset is 0. The lowest number that applies is given.
+ */
+enum rozhinal_refusal {
+    ROZHINAL_ACCEPTED = 0,
+    /* faults of the sheet */
+    ROZHINAL_REFUSED_FIELD = 1,  /* a field runs past the end, or is absent */
+    ROZHINAL_REFUSED_TAG = 2,    /* a tag is wrong for its place, or bytes follow the last field */
+    ROZHINAL_REFUSED_LENGTH = 3, /* a field's length or a name is wrong */
+    ROZHINAL_REFUSED_COUNT = 4,  /* the edition or the item count is wrong */
+    ROZHINAL_REFUSED_RULE = 5,   /* rule, keep or spread, or the parent count for the rule */
+    ROZHINAL_REFUSED_PARENT = 6, /* a parent is not an earlier item */
+    ROZHINAL_REFUSED_LEVEL = 7,  /* a level above ROZHINAL_MAX_LEVEL */
+    /* faults of index and table */
+    ROZHINAL_REFUSED_SIZES = 8,  /* index_len or table_len is not the size for n items */
+    ROZHINAL_REFUSED_INDEX = 9,  /* the index is not the one that an opening of the sheet writes */
+    ROZHINAL_REFUSED_TABLE = 10, /* a record, or the value to print, breaks its form or range */
+    /* faults of the arguments */
+    ROZHINAL_REFUSED_ITEM = 11,     /* there is no item with this number */
+    ROZHINAL_REFUSED_SORT = 12,     /* a post to a figure, or a keep or drop of an entry */
+    ROZHINAL_REFUSED_POSTED = 13,   /* neither NULL with number 0 nor a number within the range */
+    ROZHINAL_REFUSED_UNMARKED = 14, /* a step of an item that has no mark */
+    ROZHINAL_REFUSED_SCRATCH = 15,  /* the printer's scratch is under ROZHINAL_PRINT_BYTES */
+    /* the day program's alone; no function gives it */
+    ROZHINAL_REFUSED_DAY = 16 /* a field of the day log is wrong */
+};
+
+/* The answer of a call. Accepted: number 0 and offset 0. */
+typedef struct {
+    uint64_t number; /* an enum rozhinal_refusal */
+    uint64_t offset;
+} rozhinal_answer;
+
+/* The answer of an ask, with the value read. Refused: kind ROZHINAL_UNK and value 0. */
+typedef struct {
+    uint64_t number; /* an enum rozhinal_refusal */
+    uint64_t offset;
+    uint64_t kind;   /* an enum rozhinal_kind, never ROZHINAL_UNK if accepted */
+    int64_t value;   /* the number, 0 unless the kind is ROZHINAL_NUMBER */
+} rozhinal_reading;
+
+/* ---- Openings -------------------------------------------------------------------------------- */
+
+/*
+ * Both read the sheet and write every byte of index and table: each entry NULL, no marks. They
+ * refuse with 1 to 8. What stood in index and table before counts for nothing.
+ */
+
+/* Opens with no figure stored. */
+rozhinal_answer rozhinal_open_bare(const uint8_t *sheet, size_t sheet_len,
+                                   uint8_t *index, size_t index_len,
+                                   uint8_t *table, size_t table_len);
+
+/* Opens with every figure stored, as NULL. */
+rozhinal_answer rozhinal_open_full(const uint8_t *sheet, size_t sheet_len,
+                                   uint8_t *index, size_t index_len,
+                                   uint8_t *table, size_t table_len);
+
+/* ---- Calls ----------------------------------------------------------------------------------- */
+
+/* Every call reads sheet, index and table first, and refuses them with 1 to 10. */
+
+/*
+ * Posts NULL (kind ROZHINAL_NULL, number 0) or a number (kind ROZHINAL_NUMBER) to an entry. An
+ * equal value changes nothing; another is stored, and marked notice. Refuses with 11, 12 and 13
+ * besides.
+ */
+rozhinal_answer rozhinal_post(const uint8_t *sheet, size_t sheet_len,
+                              const uint8_t *index, size_t index_len,
+                              uint8_t *table, size_t table_len,
+                              uint64_t item, uint64_t kind, int64_t number);
+
+/*
+ * Looks a figure up and stores it, whatever its keep byte. A stored figure is untouched. Refuses
+ * with 11 and 12 besides.
+ */
+rozhinal_answer rozhinal_keep(const uint8_t *sheet, size_t sheet_len,
+                              const uint8_t *index, size_t index_len,
+                              uint8_t *table, size_t table_len,
+                              uint64_t item);
+
+/* Makes a figure unstored; a refresh mark becomes notice. Refuses with 11 and 12 besides. */
+rozhinal_answer rozhinal_drop(const uint8_t *sheet, size_t sheet_len,
+                              const uint8_t *index, size_t index_len,
+                              uint8_t *table, size_t table_len,
+                              uint64_t item);
+
+/*
+ * Does the work of one mark. Refresh: the figure is worked out anew; the mark is cleared if nothing
+ * changed, else it becomes notice. Notice: the children are told, and the mark is cleared. Refuses
+ * with 11 and 14 besides.
+ */
+rozhinal_answer rozhinal_step(const uint8_t *sheet, size_t sheet_len,
+                              const uint8_t *index, size_t index_len,
+                              uint8_t *table, size_t table_len,
+                              uint64_t item);
+
+/*
+ * Steps the lowest marked item until none is marked, then looks the item up and gives its value:
+ * the right one for what was last posted, whatever was stored, dropped or stepped before. Refuses
+ * with 11 besides.
+ */
+rozhinal_reading rozhinal_ask(const uint8_t *sheet, size_t sheet_len,
+                              const uint8_t *index, size_t index_len,
+                              uint8_t *table, size_t table_len,
+                              uint64_t item);
+
+/* ---- Printer --------------------------------------------------------------------------------- */
+
+/*
+ * The scratch bytes that the printer asks for. A printed value is shorter. No 0 byte is written
+ * after it.
+ */
+#define ROZHINAL_PRINT_BYTES 20
+
+/*
+ * Writes a value at the front of scratch: decimal digits, '-' before a negative number, "-" for
+ * NULL, "OUT" for OUT. Gives the length of the part written; the bytes after it are unchanged.
+ * Refused, it gives -10 (kind or number breaks the form or range; ROZHINAL_UNK is no value) or -15
+ * (scratch too small), and scratch is unchanged.
+ */
+int64_t rozhinal_print(uint64_t kind, int64_t number, uint8_t *scratch, size_t scratch_len);
+
+#ifdef __cplusplus
+}
+#endif
+
+#endif

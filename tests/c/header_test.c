@@ -1,0 +1,189 @@
+/* The header against the library: sizes, offsets, the example, each refusal that can be given. */
+#include "rozhinal.h"
+
+#include <inttypes.h>
+#include <stdio.h>
+#include <string.h>
+
+_Static_assert(sizeof(rozhinal_answer) == 16, "answer");
+_Static_assert(offsetof(rozhinal_answer, number) == 0, "answer.number");
+_Static_assert(offsetof(rozhinal_answer, offset) == 8, "answer.offset");
+_Static_assert(sizeof(rozhinal_reading) == 32, "reading");
+_Static_assert(offsetof(rozhinal_reading, number) == 0, "reading.number");
+_Static_assert(offsetof(rozhinal_reading, offset) == 8, "reading.offset");
+_Static_assert(offsetof(rozhinal_reading, kind) == 16, "reading.kind");
+_Static_assert(offsetof(rozhinal_reading, value) == 24, "reading.value");
+_Static_assert(sizeof(size_t) == 8 && sizeof(void *) == 8, "a slice is two 64-bit words");
+_Static_assert(ROZHINAL_INDEX_BYTES(5) == 20 && ROZHINAL_TABLE_BYTES(5) == 50, "index and table");
+_Static_assert(ROZHINAL_REFUSED_DAY == 16 && ROZHINAL_REFUSED_SIZES == 8, "refusals");
+_Static_assert(ROZHINAL_NUMBER == 3 && ROZHINAL_MARK_NOTICE == 2, "kinds and marks");
+
+enum { ITEMS = 5, INDEX = 4 * ITEMS, TABLE = 10 * ITEMS, SHEET = 46 };
+
+static const uint8_t example[SHEET] = {
+    1, 4, 0, 1, 0, 5, 0,                        /* edition 1, 5 items */
+    2, 1, 0, 'A',                               /* 0 */
+    2, 1, 0, 'L',                               /* 1 */
+    2, 1, 0, 'S',                               /* 2 */
+    3, 9, 0, 1, 1, 0, 2, 0, 0, 2, 0, 'T',       /* 3: sum of 0 and 2, keep, defer */
+    3, 9, 0, 2, 0, 0, 2, 3, 0, 1, 0, 'B',       /* 4: 3 minus 1, defer */
+    4, 0, 0,
+};
+
+/* Side by side, so that a byte written outside its slice shows as a change. */
+struct lent {
+    uint8_t sheet[1024];
+    uint8_t index[INDEX];
+    uint8_t table[TABLE];
+    uint8_t scratch[ROZHINAL_PRINT_BYTES];
+};
+
+static struct lent now, before;
+static size_t sheet_len;
+static int faults;
+
+#define SHEET_SLICE now.sheet, sheet_len
+#define LENT SHEET_SLICE, now.index, sizeof now.index, now.table, sizeof now.table
+
+static void require(int right, const char *what)
+{
+    if (!right) {
+        printf("WRONG: %s\n", what);
+        faults++;
+    }
+}
+
+static void start(void)
+{
+    memset(&now, 0xEE, sizeof now);
+    memcpy(now.sheet, example, sizeof example);
+    sheet_len = sizeof example;
+    before = now;
+}
+
+static void accepted(const char *call, rozhinal_answer a)
+{
+    printf("%s: %" PRIu64 " %" PRIu64 "\n", call, a.number, a.offset);
+    before = now;
+}
+
+static void refused(const char *call, rozhinal_answer a)
+{
+    printf("%s: refused %" PRIu64 " %" PRIu64 "\n", call, a.number, a.offset);
+    require(memcmp(&now, &before, sizeof now) == 0, "a refused call changed a lent byte");
+}
+
+static void ask(uint64_t item)
+{
+    rozhinal_reading r = rozhinal_ask(LENT, item);
+    int64_t length = rozhinal_print(r.kind, r.value, now.scratch, sizeof now.scratch);
+    require(length > 0 && length <= ROZHINAL_PRINT_BYTES, "the length of a printed value");
+    if (length > 0)
+        printf("ask %" PRIu64 ": %" PRIu64 " %" PRIu64 " %.*s\n", item, r.number, r.offset,
+               (int)length, (const char *)now.scratch);
+    before = now;
+}
+
+static void the_example(void)
+{
+    start();
+    require(rozhinal_item_count(now.sheet, sheet_len) == ITEMS, "the item count");
+    require(rozhinal_item_count(now.sheet, 6) == 0, "the item count of a short sheet");
+    accepted("open bare", rozhinal_open_bare(LENT));
+    for (size_t i = 0; i < ITEMS; i++)
+        printf("index %zu: %u\n", i, (unsigned)now.index[4 * i]);
+    accepted("post 0 1000", rozhinal_post(LENT, 0, ROZHINAL_NUMBER, 1000));
+    accepted("post 1 300", rozhinal_post(LENT, 1, ROZHINAL_NUMBER, 300));
+    ask(4);
+    accepted("post 2 -200", rozhinal_post(LENT, 2, ROZHINAL_NUMBER, -200));
+    accepted("step 2", rozhinal_step(LENT, 2));
+    accepted("keep 4", rozhinal_keep(LENT, 4));
+    accepted("drop 3", rozhinal_drop(LENT, 3));
+    ask(4);
+    accepted("post 0 null", rozhinal_post(LENT, 0, ROZHINAL_NULL, 0));
+    ask(0);
+    ask(3);
+    accepted("post 0 limit", rozhinal_post(LENT, 0, ROZHINAL_NUMBER, ROZHINAL_LIMIT));
+    accepted("post 2 1", rozhinal_post(LENT, 2, ROZHINAL_NUMBER, 1));
+    ask(0);
+    ask(4);
+    accepted("open full", rozhinal_open_full(LENT));
+    require(now.table[30] == ROZHINAL_NULL, "a figure after a full opening");
+    ask(4);
+}
+
+/* One byte of the example changed, then an ask. */
+static void damaged_sheet(const char *what, size_t place, uint8_t byte)
+{
+    start();
+    accepted("open bare", rozhinal_open_bare(LENT));
+    now.sheet[place] = byte;
+    before = now;
+    rozhinal_reading r = rozhinal_ask(LENT, 0);
+    require(r.kind == ROZHINAL_UNK && r.value == 0, "a refused ask gives no value");
+    refused(what, (rozhinal_answer){ r.number, r.offset });
+}
+
+/* A chain of figures one level above the limit. */
+static void too_deep(void)
+{
+    const size_t items = ROZHINAL_MAX_LEVEL + 2;
+    start();
+    uint8_t *p = now.sheet;
+    memcpy(p, (const uint8_t[]){ 1, 4, 0, 1, 0, (uint8_t)items, 0, 2, 1, 0, 'E' }, 11);
+    p += 11;
+    for (size_t i = 1; i < items; i++, p += 10)
+        memcpy(p, (const uint8_t[]){ 3, 7, 0, 1, 0, 0, 1, (uint8_t)(i - 1), 0, 'F' }, 10);
+    memcpy(p, (const uint8_t[]){ 4, 0, 0 }, 3);
+    sheet_len = (size_t)(p + 3 - now.sheet);
+    before = now;
+    refused("a level of 65", rozhinal_open_full(LENT));
+}
+
+static void sheet_refusals(void)
+{
+    damaged_sheet("an item too long", 8, 200);
+    damaged_sheet("a tag of 5", 11, 5);
+    damaged_sheet("a name with a blank", 18, ' ');
+    damaged_sheet("edition 2", 3, 2);
+    damaged_sheet("rule 9", 22, 9);
+    damaged_sheet("item 3 with parent 3", 26, 3);
+    too_deep();
+}
+
+static void other_refusals(void)
+{
+    start();
+    refused("an index of 19 bytes",
+            rozhinal_open_bare(SHEET_SLICE, now.index, INDEX - 1, now.table, TABLE));
+    accepted("open bare", rozhinal_open_bare(LENT));
+    now.index[4]++;
+    before = now;
+    refused("a changed index", rozhinal_step(LENT, 0));
+    now.index[4]--;
+    now.table[1] = ROZHINAL_MARK_REFRESH;
+    before = now;
+    refused("an entry marked refresh", rozhinal_step(LENT, 0));
+    now.table[1] = ROZHINAL_MARK_NONE;
+    before = now;
+    refused("item 5", rozhinal_keep(LENT, ITEMS));
+    refused("item 2^64 - 1", rozhinal_drop(LENT, UINT64_MAX));
+    refused("post to a figure", rozhinal_post(LENT, 3, ROZHINAL_NUMBER, 1));
+    refused("drop of an entry", rozhinal_drop(LENT, 0));
+    refused("post of OUT", rozhinal_post(LENT, 0, ROZHINAL_OUT, 0));
+    refused("post beyond the range", rozhinal_post(LENT, 0, ROZHINAL_NUMBER, ROZHINAL_LIMIT + 1));
+    refused("step without a mark", rozhinal_step(LENT, 0));
+    int64_t unk = rozhinal_print(ROZHINAL_UNK, 0, now.scratch, sizeof now.scratch);
+    printf("print UNK: %" PRId64 "\n", unk);
+    int64_t small = rozhinal_print(ROZHINAL_NULL, 0, now.scratch, ROZHINAL_PRINT_BYTES - 1);
+    printf("print into 19 bytes: %" PRId64 "\n", small);
+    require(memcmp(&now, &before, sizeof now) == 0, "a refused print changed a lent byte");
+}
+
+int main(void)
+{
+    the_example();
+    sheet_refusals();
+    other_refusals();
+    return faults == 0 ? 0 : 1;
+}

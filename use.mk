@@ -1,0 +1,52 @@
+# The library for C programs, and the programs that use it.
+#
+#   make lib                    prove the library and write target/staticlib/librozhinal.a
+#   make install PREFIX=/usr    header, archive and pkg-config file (DESTDIR is put before it)
+#   make examples               target/examples/lister and target/examples/office
+#
+# ROZHINAL_LIB_DIR is the folder of the archive; name another to build against a library that stands elsewhere.
+
+CFLAGS ?= -O2
+PREFIX ?= /usr/local
+ROZHINAL_LIB_DIR ?= target/staticlib
+EXAMPLES_DIR ?= target/examples
+
+ROZHINAL_VERSION := $(shell sed -n 's/^.define ROZHINAL_VERSION "\(.*\)"/\1/p' include/rozhinal.h)
+ROZHINAL_ARCHIVE := $(ROZHINAL_LIB_DIR)/librozhinal.a
+EXAMPLE_FLAGS := -std=c11 -D_POSIX_C_SOURCE=200809L -Wall -Wextra -Werror -Iinclude
+EXAMPLE_HEADERS := include/rozhinal.h examples/sheet.h examples/book.h
+
+.PHONY: lib install examples
+
+define PROVE_LIBRARY
+@test -d crates/rozhinal || { \
+    echo "The library's crate, crates/rozhinal, does not exist yet: there is no proved archive to make." >&2; \
+    echo "ROZHINAL_LIB_DIR names the folder of another librozhinal.a (tests/gate makes one in target/tests/lib)." >&2; \
+    exit 1; }
+rt staticlib rozhinal
+endef
+
+lib:
+	$(PROVE_LIBRARY)
+
+# Only the archive in target/ is made here. It is proved and written anew when a source has changed.
+target/staticlib/librozhinal.a: crates.txt $(shell find crates -name '*.rt' -o -name '*.antt')
+	$(PROVE_LIBRARY)
+
+install: $(ROZHINAL_ARCHIVE)
+	install -d $(DESTDIR)$(PREFIX)/include $(DESTDIR)$(PREFIX)/lib/pkgconfig
+	install -m 644 include/rozhinal.h $(DESTDIR)$(PREFIX)/include/rozhinal.h
+	install -m 644 $(ROZHINAL_ARCHIVE) $(DESTDIR)$(PREFIX)/lib/librozhinal.a
+	sed -e 's|@PREFIX@|$(PREFIX)|' -e 's|@VERSION@|$(ROZHINAL_VERSION)|' rozhinal.pc.in \
+	    > $(DESTDIR)$(PREFIX)/lib/pkgconfig/rozhinal.pc
+	chmod 644 $(DESTDIR)$(PREFIX)/lib/pkgconfig/rozhinal.pc
+
+examples: $(EXAMPLES_DIR)/lister $(EXAMPLES_DIR)/office
+
+$(EXAMPLES_DIR)/lister: examples/lister.c examples/sheet.c $(EXAMPLE_HEADERS) $(ROZHINAL_ARCHIVE)
+	mkdir -p $(EXAMPLES_DIR)
+	$(CC) $(EXAMPLE_FLAGS) $(CFLAGS) -o $@ $(filter %.c,$^) $(ROZHINAL_ARCHIVE)
+
+$(EXAMPLES_DIR)/office: examples/office.c examples/book.c examples/sheet.c $(EXAMPLE_HEADERS) $(ROZHINAL_ARCHIVE)
+	mkdir -p $(EXAMPLES_DIR)
+	$(CC) $(EXAMPLE_FLAGS) $(CFLAGS) -o $@ $(filter %.c,$^) $(ROZHINAL_ARCHIVE)
