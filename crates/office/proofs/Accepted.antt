@@ -13,11 +13,11 @@ use Rattle.sheet.specs.Index.{indexBytes}
 use Rattle.sheet.proofs.Scan.{opened-ordered}
 use Rattle.sheet.proofs.Causes.{opens-faultless}
 use Rattle.sheet.proofs.IndexLaws.{index-length}
-use Rattle.table.specs.Bytes.{encodeTable}
+use Rattle.table.specs.Bytes.{encodeTable, tableForm}
 use Rattle.table.proofs.Tables.{length-encodeTable, encoded-tableForm}
 use Rattle.office.specs.Office.{openOn, runOn}
 use Rattle.office.specs.Demands.{tableAfter}
-use Rattle.office.specs.Refusals.{NoneHolds, lentCauses, AcceptedLent, OfficeAccepted}
+use Rattle.office.specs.Refusals.{TableBroken, NoneHolds, lentCauses, AcceptedLent, OfficeAccepted}
 use Rattle.office.proofs.Holdable.{run-holdable}
 use Rattle.office.proofs.Demands.{Opens, opening-opens, sized, start, start-holdable, start-within, runs, office, opening-gives}
 use Rattle.office.proofs.Refusals.{form-unbroken, lent-numbers}
@@ -44,9 +44,9 @@ module _ (s : List ℕ) (edition : ℕ) (ps : List Placed) (reads : readSheet s 
       tabled : length (runOn s (indexBytes ps) (encodeTable S (start s edition ps reads o)) cs) ≡ 10 * size S
       tabled = ap length is ∙ length-encodeTable S _
 
-      formed : ¬ Rattle.office.specs.Refusals.TableBroken S (runOn s (indexBytes ps) (encodeTable S (start s edition ps reads o)) cs)
+      formed : ¬ TableBroken S (runOn s (indexBytes ps) (encodeTable S (start s edition ps reads o)) cs)
       formed =
-          form-unbroken S _ (ap (Rattle.table.specs.Bytes.tableForm S) is
+          form-unbroken S _ (ap (tableForm S) is
           ∙ encoded-tableForm S _ (run-holdable S (opened-ordered s edition ps reads) cs _ (start-holdable s edition ps reads o)))
 
 -- An office's index and table are never refused.

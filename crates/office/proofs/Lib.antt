@@ -1,5 +1,6 @@
 pub mod Accepted
 pub mod Bridge
+pub mod Causes
 pub mod Demands
 pub mod Examples
 pub mod Holdable

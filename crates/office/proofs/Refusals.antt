@@ -1,213 +1,29 @@
--- Each test of what is lent and of a call's arguments says what its row says, and so the number given is that of the first
--- cause. Assumes nothing.
-use Prim.Native.Nat.{ℕ, zero, suc, _*_, _<_, _≤_}
+-- The number given is that of the first cause, and a refusal leaves everything lent. Assumes nothing.
+use Prim.Native.Nat.{ℕ, zero, suc, _<_, _≤_}
 use native.Mathlib.Omega.{arith}
 use mathlib.Core.Path.{_≡_, refl, sym, ap, ap₂, _∙_, subst}
 use mathlib.Core.Bool.{Bool, true, false, cond, not}
 use mathlib.Core.List.{List, [], _∷_}
-use mathlib.Core.Logic.{_⊎_, inl, inr, ⊎-elim}
+use mathlib.Core.Logic.{_⊎_, inl, inr, _↔_}
 use mathlib.Core.Option.{none, some}
-use lib.Dec.{eqb, leb}
-use lib.IntN.{ℤ, pos, negsuc, natAbs}
+use lib.Dec.{eqb}
+use lib.IntN.{ℤ, pos}
 use lib.ListN.{length, length-map}
-use borrow.Author.Tests.{leb-true, leb-false, not-false}
-use Rattle.circuit.specs.Value.{Value, null, num, limit, inRange, sameNumber, kindOf, numberOf}
-use Rattle.circuit.specs.Sheet.{Sheet, size, itemAt, isFigure, beyond}
-use Rattle.circuit.specs.Table.{unmarked, refresh, notice, unk, held, isMarked}
-use Rattle.circuit.specs.Calls.{Call, post, keep, drop, step, ask, Test, firstCause, tests, postedValue, isNone, effect}
+use borrow.Author.Tests.{not-false}
+use Rattle.circuit.specs.Value.{Value, null, num, inRange, sameNumber, kindOf, numberOf}
+use Rattle.circuit.specs.Sheet.{Sheet, size, itemAt, isFigure}
+use Rattle.circuit.specs.Calls.{Call, post, keep, drop, step, ask, Test, firstCause, tests, postedValue, effect}
 use Rattle.sheet.specs.Read.{Placed, SheetRead, opens, refused, readSheet, layoutOf}
 use Rattle.sheet.specs.Opened.{sheetRead, sheetOf, sheetFrom, itemsOf, placedFrom}
-use Rattle.sheet.specs.Index.{indexWidth, indexBytes}
 use Rattle.sheet.specs.Causes.{Faultless}
-use Rattle.sheet.proofs.Tests.{Tells, holds, fails, tells-if, tells-and, Refutes, right, wrong, refutes-if, refutes-and, tells-not, refutes-tells, tells-eq, refutes-le}
+use Rattle.sheet.proofs.Tests.{Tells, holds, fails, Refutes, right, wrong, tells-eq}
 use Rattle.sheet.proofs.Causes.{refused-exactly, opens-faultless, refused-number}
-use Rattle.table.specs.Rows.{row, allBelow}
-use Rattle.table.specs.Record.{width, kindIn, markIn, numberIn, decodeCell, valueCoded, allowed, codesForm, numberForm, recordForm}
-use Rattle.table.specs.Bytes.{decodeTable, tableForm, recordInForm}
-use Rattle.office.specs.Office.{Given, refusal, accepted, sameBytes, lengthsWrong, indexWrong, tableWrong, openingTests, callTests, unlessRefused, effectOn, callRead, callOn, openRead, openOn}
-use Rattle.office.specs.Refusals.{Request, opening, calling, serve, LengthsWrong, IndexNotAsOpened, BeyondRange, RecordBroken, kindUnknown, markUnknown, entryUnk, entryOut, entryRefresh, unkRefresh, numberNotZero, beyondRange, RecordBrokenAt, TableBroken, NoSuchItem, NotPostable, kindOther, nullNotZero, numberBeyond, Row, cause, ownCauses, causesIn, causesOf, First, NoneHolds, Refused, bySheet, byLent, NoCause, TurnedBack, AcceptedLent}
-use Rattle.office.proofs.Bridge.{same-bytes, bytes-same}
-
--- ---- the tests
-
-refutes-not : {P : Type 0} {b : Bool} → Tells P b → Refutes P (not b)
-refutes-not (holds p) = wrong p
-refutes-not (fails n) = right n
-
-refutes-cond : {P A B : Type 0} {b x y : Bool} → Tells P b → Refutes A x → Refutes B y → Refutes ((P × A) ⊎ ((¬ P) × B)) (cond b x y)
-refutes-cond (holds p) (right n) y = right (⊎-elim (λ a. n (a .1)) (λ a. a .0 p))
-refutes-cond (holds p) (wrong a) y = wrong (inl (p, a))
-refutes-cond (fails n) x (right m) = right (⊎-elim (λ a. n (a .0)) (λ a. m (a .1)))
-refutes-cond (fails n) x (wrong b) = wrong (inr (n, b))
-
-tells-is : (b : Bool) → Tells (b ≡ true) b
-tells-is true = holds refl
-tells-is false = fails (λ e. let bad : _≡_ {A = ℕ} 0 1 = cc in omega arith)
-
-tells-is-not : (b : Bool) → Tells (b ≡ false) (not b)
-tells-is-not true = fails (λ e. let bad : _≡_ {A = ℕ} 0 1 = cc in omega arith)
-tells-is-not false = holds refl
-
-tells-zero : (z : ℤ) → Tells (z ≡ pos 0) (sameNumber z (pos 0))
-tells-zero (pos n) = tells-if (λ e. ap pos e) (λ e. cc) (tells-eq n 0)
-tells-zero (negsuc n) = fails (λ e. let bad : _≡_ {A = ℕ} 0 1 = cc in omega arith)
-
-refutes-range : (z : ℤ) → Refutes (BeyondRange z) (inRange z)
-unfolding inRange
-refutes-range z = refutes-le (natAbs z) limit
-
-refutes-allowed : (figure : Bool) (k m : ℕ)
-    → Refutes (((figure ≡ false) × (((k ≡ 0) ⊎ (k ≡ 2)) ⊎ (m ≡ 1))) ⊎ ((figure ≡ true) × ((k ≡ 0) × (m ≡ 1)))) (allowed figure k m)
-refutes-allowed false k m =
-    refutes-if (λ a. inl (refl, a)) (⊎-elim (λ a. a .1) (λ a. let bad : _≡_ {A = Bool} false true = a .0 in let z : _≡_ {A = ℕ} 0 1 = cc in absurd (omega arith)))
-    (refutes-and (refutes-and (refutes-not (tells-eq k 0)) (refutes-not (tells-eq k 2))) (refutes-not (tells-eq m 1)))
-refutes-allowed true k m =
-    refutes-if (λ a. inr (refl, a)) (⊎-elim (λ a. let bad : _≡_ {A = Bool} true false = a .0 in let z : _≡_ {A = ℕ} 0 1 = cc in absurd (omega arith)) (λ a. a .1))
-    (refutes-not (tells-and (tells-eq k 0) (tells-eq m 1)))
-
-refutes-number : (k : ℕ) (z : ℤ) → Refutes (((k ≡ 3) × BeyondRange z) ⊎ ((¬ (k ≡ 3)) × (¬ (z ≡ pos 0)))) (numberForm k z)
-unfolding numberForm
-refutes-number k z = refutes-cond (tells-eq k 3) (refutes-range z) (refutes-tells (tells-zero z))
-
--- a record's form
-pub refutes-record : (figure : Bool) (r : List ℕ) → Refutes (RecordBroken figure (kindIn r) (markIn r) (numberIn r)) (recordForm figure r)
-unfolding recordForm codesForm
-refutes-record figure r =
-    refutes-if into back
-    (refutes-and (refutes-and (refutes-and (refutes-le (kindIn r) 3) (refutes-le (markIn r) 2)) (refutes-allowed figure (kindIn r) (markIn r))) (refutes-number (kindIn r) (numberIn r)))
-  where
-    k : ℕ
-    k = kindIn r
-
-    m : ℕ
-    m = markIn r
-
-    z : ℤ
-    z = numberIn r
-
-    A : Type 0
-    A = ((figure ≡ false) × (((k ≡ 0) ⊎ (k ≡ 2)) ⊎ (m ≡ 1))) ⊎ ((figure ≡ true) × ((k ≡ 0) × (m ≡ 1)))
-
-    N : Type 0
-    N = ((k ≡ 3) × BeyondRange z) ⊎ ((¬ (k ≡ 3)) × (¬ (z ≡ pos 0)))
-
-    into : ((((3 < k) ⊎ (2 < m)) ⊎ A) ⊎ N) → RecordBroken figure k m z
-    into (inl (inl (inl h))) = kindUnknown h
-    into (inl (inl (inr h))) = markUnknown h
-    into (inl (inr (inl (e, inl (inl h))))) = entryUnk e h
-    into (inl (inr (inl (e, inl (inr h))))) = entryOut e h
-    into (inl (inr (inl (e, inr h)))) = entryRefresh e h
-    into (inl (inr (inr (e, h)))) = unkRefresh e (h .0) (h .1)
-    into (inr (inl (e, h))) = beyondRange e h
-    into (inr (inr (e, h))) = numberNotZero e h
-
-    back : RecordBroken figure k m z → ((((3 < k) ⊎ (2 < m)) ⊎ A) ⊎ N)
-    back (kindUnknown h) = inl (inl (inl h))
-    back (markUnknown h) = inl (inl (inr h))
-    back (entryUnk e h) = inl (inr (inl (e, inl (inl h))))
-    back (entryOut e h) = inl (inr (inl (e, inl (inr h))))
-    back (entryRefresh e h) = inl (inr (inl (e, inr h)))
-    back (unkRefresh e h l) = inl (inr (inr (e, (h, l))))
-    back (numberNotZero e h) = inr (inr (e, h))
-    back (beyondRange e h) = inr (inl (e, h))
-
--- some number below n fails a test
-refutes-below : (p : ℕ → Bool) (P : ℕ → Type 0) → ((i : ℕ) → Refutes (P i) (p i)) → (n : ℕ) → Refutes ((i : ℕ) × (i < n) × P i) (allBelow p n)
-unfolding allBelow
-refutes-below p P h zero = right (λ a. let l : a .0 < 0 = a .1 in omega arith)
-refutes-below p P h (suc n) = refutes-if into back (refutes-and (refutes-below p P h n) (h n))
-  where
-    into : ((i : ℕ) × (i < n) × P i) ⊎ P n → (i : ℕ) × (i < suc n) × P i
-    into (inl a) = let l : a .0 < n = a .1 in (a .0, omega arith, a .2)
-    into (inr b) = (n, omega arith, b)
-
-    back : (i : ℕ) × (i < suc n) × P i → ((i : ℕ) × (i < n) × P i) ⊎ P n
-    back a = go (tells-eq (a .0) n)
-      where
-        go : {b : Bool} → Tells (a .0 ≡ n) b → ((i : ℕ) × (i < n) × P i) ⊎ P n
-        go (holds e) = inr (subst P e (a .2))
-        go (fails e) = let l : a .0 < suc n = a .1 in inl (a .0, omega arith, a .2)
-
--- 8
-tells-lengths : (S : Sheet) (ps : List Placed) (x t : List ℕ) → size S ≡ length ps → Tells (LengthsWrong (size S) x t) (lengthsWrong ps x t)
-unfolding indexWidth
-tells-lengths S ps x t e =
-    rw e (tells-not (refutes-and (refutes-tells (tells-eq (length x) (4 * length ps))) (refutes-tells (tells-eq (length t) (10 * length ps)))))
-
--- 9
-tells-index : (ps : List Placed) (x : List ℕ) → Tells (IndexNotAsOpened ps x) (indexWrong ps x)
-tells-index ps x = go (sameBytes x (indexBytes ps)) refl
-  where
-    go : (b : Bool) → sameBytes x (indexBytes ps) ≡ b → Tells (IndexNotAsOpened ps x) (not b)
-    go true e = fails (λ n. n (bytes-same x (indexBytes ps) e))
-    go false e = holds (λ q. let s : sameBytes x (indexBytes ps) ≡ true = ap (sameBytes x) (sym q) ∙ same-bytes x in let bad : _≡_ {A = ℕ} 0 1 = cc in omega arith)
-
--- 10
-tells-table : (S : Sheet) (t : List ℕ) → Tells (TableBroken S t) (tableWrong S t)
-unfolding tableForm
-tells-table S t = tells-not (refutes-below (recordInForm S t) (RecordBrokenAt S t) (λ i. refutes-record (isFigure (itemAt S i)) (row width t i)) (size S))
-
--- 11
-tells-beyond : (S : Sheet) (i : ℕ) → Tells (NoSuchItem S i) (beyond S i)
-tells-beyond S i = go (leb (size S) i) refl
-  where
-    go : (b : Bool) → leb (size S) i ≡ b → Tells (NoSuchItem S i) b
-    go true e = holds (leb-true (size S) i e)
-    go false e = fails (λ h. omega (arith, leb-false (size S) i e))
-
--- 13
-tells-posted : (kind : ℕ) (z : ℤ) → Tells (NotPostable kind z) (isNone (postedValue kind z))
-unfolding postedValue
-tells-posted kind z = go (tells-eq kind 1) (tells-zero z) (tells-eq kind 3) (refutes-range z)
-  where
-    go : {a b c d : Bool} → Tells (kind ≡ 1) a → Tells (z ≡ pos 0) b → Tells (kind ≡ 3) c → Refutes (BeyondRange z) d
-        → Tells (NotPostable kind z) (isNone (cond a (cond b (some null) none) (cond c (cond d (some (num z)) none) none)))
-    go (holds p) (holds q) r s = fails no
-      where
-        no : NotPostable kind z → ⊥
-        no (kindOther h l) = h p
-        no (nullNotZero h l) = l q
-        no (numberBeyond h l) = omega arith
-    go (holds p) (fails q) r s = holds (nullNotZero p q)
-    go (fails p) q (holds r) (right n) = fails no
-      where
-        no : NotPostable kind z → ⊥
-        no (kindOther h l) = l r
-        no (nullNotZero h l) = p h
-        no (numberBeyond h l) = n l
-    go (fails p) q (holds r) (wrong b) = holds (numberBeyond r b)
-    go (fails p) q (fails r) s = holds (kindOther p r)
-
--- 14, where the record is in form
-tells-mark : (figure : Bool) (r : List ℕ) → ¬ RecordBroken figure (kindIn r) (markIn r) (numberIn r)
-    → Tells (markIn r ≡ 0) (not (isMarked (decodeCell r)))
-unfolding decodeCell
-tells-mark figure r form = go (tells-eq (kindIn r) 0) (tells-eq (markIn r) 1) (tells-eq (markIn r) 2)
-  where
-    k : ℕ
-    k = kindIn r
-
-    m : ℕ
-    m = markIn r
-
-    z : ℤ
-    z = numberIn r
-
-    low : ¬ (2 < m)
-    low h = form (markUnknown h)
-
-    unk-refresh : (f : Bool) → figure ≡ f → k ≡ 0 → m ≡ 1 → ⊥
-    unk-refresh true e h l = form (unkRefresh e h l)
-    unk-refresh false e h l = form (entryRefresh e l)
-
-    go : {a b c : Bool} → Tells (k ≡ 0) a → Tells (m ≡ 1) b → Tells (m ≡ 2) c
-        → Tells (m ≡ 0) (not (isMarked (cond a (unk c) (held (valueCoded k z) (cond b refresh (cond c notice unmarked))))))
-    go (holds p) (holds q) w = absurd (unk-refresh figure refl p q)
-    go (holds p) (fails q) (holds w) = fails (λ e. omega arith)
-    go (holds p) (fails q) (fails w) = holds (omega (arith, low))
-    go (fails p) (holds q) w = fails (λ e. omega arith)
-    go (fails p) (fails q) (holds w) = fails (λ e. omega arith)
-    go (fails p) (fails q) (fails w) = holds (omega (arith, low))
+use Rattle.table.specs.Rows.{row}
+use Rattle.table.specs.Record.{width}
+use Rattle.table.specs.Bytes.{decodeTable, tableForm}
+use Rattle.office.specs.Office.{Given, refusal, accepted, openingTests, callTests, unlessRefused, effectOn, callRead, callOn, openRead, openOn}
+use Rattle.office.specs.Refusals.{Request, opening, calling, serve, BeyondRange, TableBroken, NotPostable, kindOther, nullNotZero, numberBeyond, Row, cause, ownCauses, causesIn, causesOf, First, NoneHolds, HoldsAt, Lowest, Refused, bySheet, byLent, NoCause, TurnedBack, AcceptedLent}
+use Rattle.office.proofs.Causes.{tells-is, tells-is-not, tells-zero, refutes-range, tells-lengths, tells-index, tells-table, tells-beyond, tells-posted, tells-mark}
 
 -- ---- the first cause
 
@@ -289,6 +105,59 @@ tested S ps e x t (calling c) = (
   tells-lengths S ps x t e,
   λ n. (refl, omega arith, tells-index ps x, λ m. (refl, omega arith, tells-table S t, λ form. own-tested S t c form)),
 )
+
+-- ---- the lowest number
+
+-- the numbers rise, from above m
+abbrev Rising : ℕ → List Row → Type 0
+Rising m [] = Unit {0}
+Rising m (r ∷ rs) = (m < r .number) × Rising (r .number) rs
+
+holds-above : (m : ℕ) (rs : List Row) → Rising m rs → (j : ℕ) → HoldsAt rs j → m < j
+holds-above m [] up j h = absurd h
+holds-above m (r ∷ rs) up j (inl h) = omega (arith, up .0, h .0)
+holds-above m (r ∷ rs) up j (inr h) = omega (arith, up .0, holds-above (r .number) rs (up .1) j h)
+
+first-holds : (rs : List Row) (k : ℕ) → First rs k → HoldsAt rs k
+first-holds [] k f = absurd f
+first-holds (r ∷ rs) k (inl f) = inl f
+first-holds (r ∷ rs) k (inr f) = inr (first-holds rs k (f .1))
+
+first-below : (m : ℕ) (rs : List Row) → Rising m rs → (k : ℕ) → First rs k → (j : ℕ) → j < k → ¬ HoldsAt rs j
+first-below m [] up k f j l h = h
+first-below m (r ∷ rs) up k (inl f) j l (inl h) = omega (arith, f .0, h .0)
+first-below m (r ∷ rs) up k (inl f) j l (inr h) = omega (arith, f .0, holds-above (r .number) rs (up .1) j h)
+first-below m (r ∷ rs) up k (inr f) j l (inl h) = f .0 (h .1)
+first-below m (r ∷ rs) up k (inr f) j l (inr h) = first-below (r .number) rs (up .1) k (f .1) j l h
+
+lowest-first : (m : ℕ) (rs : List Row) → Rising m rs → (k : ℕ) → HoldsAt rs k → ((j : ℕ) → j < k → ¬ HoldsAt rs j) → First rs k
+lowest-first m [] up k h n = h
+lowest-first m (r ∷ rs) up k (inl h) n = inl h
+lowest-first m (r ∷ rs) up k (inr h) n =
+    inr (
+      λ c. n (r .number) (holds-above (r .number) rs (up .1) k h) (inl (refl, c)),
+      lowest-first (r .number) rs (up .1) k h (λ j l g. n j l (inr g)),
+    )
+
+own-rising : (S : Sheet) (t : List ℕ) (c : Call) → Rising 10 (ownCauses S t c)
+own-rising S t (post i kind z) = (omega arith, (omega arith, (omega arith, tt)))
+own-rising S t (keep i) = (omega arith, (omega arith, tt))
+own-rising S t (drop i) = (omega arith, (omega arith, tt))
+own-rising S t (step i) = (omega arith, (omega arith, tt))
+own-rising S t (ask i) = (omega arith, tt)
+
+causes-rising : (S : Sheet) (ps : List Placed) (x t : List ℕ) (r : Request) → Rising 7 (causesIn S ps x t r)
+causes-rising S ps x t (opening o) = (omega arith, tt)
+causes-rising S ps x t (calling c) = (omega arith, (omega arith, (omega arith, own-rising S t c)))
+
+first-lowest : (s x t : List ℕ) (r : Request) (k : ℕ) → First (causesOf s x t r) k ↔ Lowest (causesOf s x t r) k
+first-lowest s x t r k = (
+  λ f. record { holds = first-holds (causesOf s x t r) k f; none-below = first-below 7 (causesOf s x t r) up k f },
+  λ l. lowest-first 7 (causesOf s x t r) up k (l .holds) (l .none-below),
+)
+  where
+    up : Rising 7 (causesOf s x t r)
+    up = causes-rising (sheetOf s) (itemsOf s) x t r
 
 -- ---- what a request gives
 
@@ -449,6 +318,8 @@ pub turned-back : (r : Request) (s x t : List ℕ) → TurnedBack r s x t
 turned-back r s x t =
     record {
       given = λ k offset n. (to-cause s x t r g is k offset n, from-cause s x t r g is k offset n);
+      numbered = λ k n. (λ e. (g .offset, to-cause s x t r g is k (g .offset) n (e, refl)), λ f. from-cause s x t r g is k (f .0) n (f .1) .0);
+      lowest = first-lowest s x t r;
       accepted = (to-none s x t r g is, from-none s x t r g is);
       offset-0 = at-0 s x t r g is;
       left = λ n. let q = as-it-was s x t r g is n in (ap (λ h. h .index) (q .2), ap (λ h. h .table) (q .2));

@@ -127,6 +127,16 @@ abbrev pub NoneHolds : List Row → Type 0
 NoneHolds [] = Unit {0}
 NoneHolds (r ∷ rs) = (¬ r .cause) × NoneHolds rs
 
+-- the cause with number k holds
+abbrev pub HoldsAt : List Row → ℕ → Type 0
+HoldsAt [] k = ⊥
+HoldsAt (r ∷ rs) k = ((k ≡ r .number) × r .cause) ⊎ HoldsAt rs k
+
+-- k is the lowest number whose cause holds
+pub record Lowest (rs : List Row) (k : ℕ) : Type 0 where
+  pub holds : HoldsAt rs k
+  pub none-below : (j : ℕ) → j < k → ¬ HoldsAt rs j
+
 -- A request is to be refused with number k and an offset: for the first fault of the sheet, with its offset; else for the first
 -- of the request's causes, with offset 0.
 pub data Refused (s x t : List ℕ) (r : Request) (k offset : ℕ) : Type 0 where
@@ -142,6 +152,9 @@ pub record NoCause (s x t : List ℕ) (r : Request) : Type 0 where
 pub record TurnedBack (r : Request) (s x t : List ℕ) : Type 0 where
   -- a number is given, with an offset, exactly if its cause is the first
   pub given : (k offset : ℕ) → ¬ (k ≡ 0) → ((serve r s x t .number ≡ k) × (serve r s x t .offset ≡ offset)) ↔ Refused s x t r k offset
+  pub numbered : (k : ℕ) → ¬ (k ≡ 0) → (serve r s x t .number ≡ k) ↔ ((offset : ℕ) × Refused s x t r k offset)
+  -- after the sheet the lowest number wins
+  pub lowest : (k : ℕ) → First (causesOf s x t r) k ↔ Lowest (causesOf s x t r) k
   -- number 0 exactly if no cause holds
   pub accepted : (serve r s x t .number ≡ 0) ↔ NoCause s x t r
   -- and then the offset is 0
