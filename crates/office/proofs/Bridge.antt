@@ -22,11 +22,12 @@ use Rattle.circuit.proofs.Accepted.{accepted-effect, refused-table, keep-passed
 use Rattle.sheet.specs.Read.{Placed, SheetRead, opens, readSheet}
 use Rattle.sheet.specs.Opened.{sheetRead}
 use Rattle.sheet.specs.Index.{indexWidth, indexBytes}
+use Rattle.item.proofs.Offsets.{same-refl}
 use Rattle.table.specs.Record.{width, decodeCell}
 use Rattle.table.specs.Rows.{row}
 use Rattle.table.specs.Bytes.{encodeTable, decodeTable, tableForm, Holdable, tableLength}
 use Rattle.table.proofs.Tables.{length-encodeTable, decode-encodeTable, encoded-tableForm, holdable-wellFormed}
-use Rattle.office.specs.Office.{Given, refusal, accepted, kindRead, numberRead, sameBytes, lengthsWrong, indexWrong, tableWrong, callTests, unlessRefused, effectOn, callRead, callOn, runOn}
+use Rattle.office.specs.Office.{Given, refusal, accepted, kindRead, numberRead, lengthsWrong, indexWrong, tableWrong, callTests, unlessRefused, effectOn, callRead, callOn, runOn}
 use Rattle.office.proofs.Holdable.{perform-holdable}
 
 -- nothing stands beyond the sheet
@@ -113,22 +114,6 @@ decode-within S T h w = fun-ext λ i. go i (ltb i (size S)) refl
         let out : size S ≤ i = ltb-false i (size S) e in
         decoded-beyond S (encodeTable S T) (length-encodeTable S T) i out ∙ sym (w i out)
 
-pub same-bytes : (x : List ℕ) → sameBytes x x ≡ true
-unfolding sameBytes
-same-bytes [] = refl
-same-bytes (a ∷ rest) = rw (eq-eqb a a refl) (same-bytes rest)
-
-pub bytes-same : (x y : List ℕ) → sameBytes x y ≡ true → x ≡ y
-unfolding sameBytes
-bytes-same [] [] e = refl
-bytes-same [] (b ∷ bs) e = let bad : _≡_ {A = ℕ} 0 1 = cc in absurd (omega arith)
-bytes-same (a ∷ rest) [] e = let bad : _≡_ {A = ℕ} 0 1 = cc in absurd (omega arith)
-bytes-same (a ∷ rest) (b ∷ bs) e = go (eqb a b) refl e (λ q. bytes-same rest bs q)
-  where
-    go : (t : Bool) → eqb a b ≡ t → (t && sameBytes rest bs) ≡ true → (sameBytes rest bs ≡ true → rest ≡ bs) → (a ∷ rest) ≡ (b ∷ bs)
-    go true q e′ tail = let h : a ≡ b = borrow.Author.Tests.eqb-true a b q in let r : rest ≡ bs = tail e′ in cc
-    go false q e′ tail = let bad : _≡_ {A = ℕ} 0 1 = cc in absurd (omega arith)
-
 -- what the machine's outcome gives on bytes
 abbrev pub givenBy : Sheet → List ℕ → Outcome → Given
 givenBy S x o =
@@ -176,7 +161,7 @@ module _ (s : List ℕ) (edition : ℕ) (ps : List Placed) (opening : readSheet 
       causes : firstCause (callTests S ps x t c) ≡ firstCause (tests S T c)
       causes =
           pass-over 8 (lengthsWrong ps x t) _ lengths
-          ∙ pass-over 9 (indexWrong ps x) _ (ap not (same-bytes x))
+          ∙ pass-over 9 (indexWrong ps x) _ (ap not (same-refl x))
           ∙ pass-over 10 (tableWrong S t) _ (ap not (encoded-tableForm S T h))
           ∙ ap (λ U. firstCause (tests S U c)) again
 

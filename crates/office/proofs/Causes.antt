@@ -20,9 +20,10 @@ use Rattle.sheet.proofs.Tests.{Tells, holds, fails, tells-if, tells-and, Refute
 use Rattle.table.specs.Rows.{row, allBelow}
 use Rattle.table.specs.Record.{width, kindIn, markIn, numberIn, decodeCell, valueCoded, allowed, codesForm, numberForm, recordForm}
 use Rattle.table.specs.Bytes.{tableForm, recordInForm}
-use Rattle.office.specs.Office.{sameBytes, lengthsWrong, indexWrong, tableWrong}
+use Rattle.office.specs.Office.{lengthsWrong, indexWrong, tableWrong}
 use Rattle.office.specs.Refusals.{LengthsWrong, IndexNotAsOpened, BeyondRange, RecordBroken, kindUnknown, markUnknown, entryUnk, entryOut, entryRefresh, unkRefresh, numberNotZero, beyondRange, RecordBrokenAt, TableBroken, NoSuchItem, NotPostable, kindOther, nullNotZero, numberBeyond}
-use Rattle.office.proofs.Bridge.{same-bytes, bytes-same}
+use Rattle.item.specs.Offsets.{sameBytes}
+use Rattle.item.proofs.Offsets.{same-refl, same-equal}
 
 refutes-not : {P : Type 0} {b : Bool} → Tells P b → Refutes P (not b)
 refutes-not (holds p) = wrong p
@@ -133,8 +134,8 @@ pub tells-index : (ps : List Placed) (x : List ℕ) → Tells (IndexNotAsOpened 
 tells-index ps x = go (sameBytes x (indexBytes ps)) refl
   where
     go : (b : Bool) → sameBytes x (indexBytes ps) ≡ b → Tells (IndexNotAsOpened ps x) (not b)
-    go true e = fails (λ n. n (bytes-same x (indexBytes ps) e))
-    go false e = holds (λ q. let s : sameBytes x (indexBytes ps) ≡ true = ap (sameBytes x) (sym q) ∙ same-bytes x in let bad : _≡_ {A = ℕ} 0 1 = cc in omega arith)
+    go true e = fails (λ n. n (same-equal x (indexBytes ps) e))
+    go false e = holds (λ q. let s : sameBytes x (indexBytes ps) ≡ true = ap (sameBytes x) (sym q) ∙ same-refl x in let bad : _≡_ {A = ℕ} 0 1 = cc in omega arith)
 
 -- 10
 pub tells-table : (S : Sheet) (t : List ℕ) → Tells (TableBroken S t) (tableWrong S t)

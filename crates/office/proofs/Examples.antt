@@ -20,7 +20,8 @@ use Rattle.sheet.proofs.Examples.{reading, exampleBytes, head, entryA, end, fig
 use Rattle.table.specs.Rows.{rowsBelow, allBelow}
 use Rattle.table.specs.Record.{encodeCell, decodeCell, codesForm, numberForm, recordForm}
 use Rattle.table.specs.Bytes.{encodeTable, tableForm}
-use Rattle.office.specs.Office.{Given, refusal, accepted, sameBytes, callRead, callOn, openRead, openOn}
+use Rattle.item.specs.Offsets.{sameBytes}
+use Rattle.office.specs.Office.{Given, refusal, accepted, callRead, callOn, openRead, openOn}
 use Rattle.office.specs.Demands.{Answer, answerOf}
 use Rattle.office.specs.Refusals.{Request, opening, calling, serve, EachGiven}
 

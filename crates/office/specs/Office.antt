@@ -1,7 +1,7 @@
 -- The openings and the five calls on lent bytes, with all their refusals: what each gives, and what index and table hold
 -- afterwards. The exported functions and the day program cite these definitions. Assumes nothing.
 use Prim.Native.Nat.{ℕ, zero, suc, _*_}
-use mathlib.Core.Bool.{Bool, true, false, cond, not, _&&_}
+use mathlib.Core.Bool.{Bool, cond, not, _&&_}
 use mathlib.Core.List.{List, [], _∷_, _++_}
 use mathlib.Core.Option.{Option, none, some}
 use lib.Dec.{eqb}
@@ -14,6 +14,7 @@ use Rattle.circuit.specs.Offices.{Opening, opened}
 use Rattle.sheet.specs.Read.{Placed, SheetRead, opens, refused, readSheet}
 use Rattle.sheet.specs.Opened.{sheetRead}
 use Rattle.sheet.specs.Index.{indexWidth, indexBytes}
+use Rattle.item.specs.Offsets.{sameBytes}
 use Rattle.table.specs.Record.{width}
 use Rattle.table.specs.Bytes.{encodeTable, decodeTable, tableForm}
 
@@ -42,12 +43,6 @@ numberRead (some v) = numberOf v
 -- an accepted call: number 0 and offset 0
 abbrev pub accepted : Option Value → List ℕ → List ℕ → Given
 accepted v x t = record { number = 0; offset = 0; kind = kindRead v; value = numberRead v; index = x; table = t }
-
-unfoldable pub sameBytes : List ℕ → List ℕ → Bool
-sameBytes [] [] = true
-sameBytes [] (b ∷ bs) = false
-sameBytes (a ∷ rest) [] = false
-sameBytes (a ∷ rest) (b ∷ bs) = eqb a b && sameBytes rest bs
 
 -- 8: index not 4n bytes, or table not 10n
 abbrev pub lengthsWrong : List Placed → List ℕ → List ℕ → Bool
