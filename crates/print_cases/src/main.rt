@@ -1,7 +1,7 @@
 // Prints a fixed set of values, and what turns the printer back.
 use libc::STDOUT_FILENO;
-use printer::LIMIT;
 use printer::Printed;
+use value::LIMIT;
 
 fn line(text: &[u8]) {
     io::write_all(STDOUT_FILENO, text);

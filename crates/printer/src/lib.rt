@@ -4,9 +4,14 @@ ghost use mathlib.Core.Bool.{true};
 ghost use Prim.Native.Nat.{_+_, _^_, _≤_, _<_};
 ghost use lib.ListN.{length};
 ghost use lib.IntN.{natAbs};
+ghost use Rattle.circuit.specs.Value.{wellFormed};
+ghost use Rattle.value.specs.Meaning.{meaning};
 ghost use Rattle.printer.specs.Decimal.{digits, decimal, PowersOfTen};
-ghost use Rattle.printer.specs.Printing.{valueOf, isSome, textOf, partOf};
+ghost use Rattle.printer.specs.Printing.{printed, partOf};
 ghost use Rattle.printer.specs.Contract.{WithDigits, Front, Prints, PrintsCode};
+use value::Amount;
+use value::Parts;
+use value::Value;
 
 // The printer's answer: the length of the part that it has written, or the number of what turned it back.
 pub enum Printed {
@@ -109,31 +114,16 @@ fn put_mark(mark: &[u8], scratch: &mut [u8]) -> usize
     k
 }
 
-// Writes an accepted value.
-fn put_value(kind: u64, number: i64, scratch: &mut [u8]) -> usize
-    requires { ⌜ (isSome (valueOf kind number) ≡ true) × (20 ≤ length (now scratch)) ⌝ }
-    ensures { λ r. ⌜ Front (textOf (valueOf kind number)) (now (scratch .entry)) r (now (scratch .exit)) ⌝ }
+// Writes a value.
+fn put_value(v: Value, scratch: &mut [u8]) -> usize
+    requires { ⌜ (wellFormed (meaning v) ≡ true) × (20 ≤ length (now scratch)) ⌝ }
+    ensures { λ r. ⌜ Front (printed (meaning v)) (now (scratch .entry)) r (now (scratch .exit)) ⌝ }
 {
-    if kind == 3 {
-        return put_number(number, scratch);
-    }
-    if kind == 1 {
-        return put_mark(b"-", scratch);
-    }
-    put_mark(b"OUT", scratch)
-}
-
-// The range's limit.
-pub const LIMIT: i64 = 1_000_000_000_000;
-
-// Whether a kind and a number name a value.
-pub fn accepts(kind: u64, number: i64) -> bool
-    ensures { λ r. ⌜ r ≡ isSome (valueOf kind number) ⌝ }
-{
-    match kind {
-        3 => magnitude(number) <= LIMIT as u64,
-        1 | 2 => number == 0,
-        _ => false,
+    let a = v.amount;
+    match a {
+        Amount::Null => put_mark(b"-", scratch),
+        Amount::Out => put_mark(b"OUT", scratch),
+        Amount::Number(n) => put_number(n, scratch),
     }
 }
 
@@ -141,13 +131,15 @@ pub fn accepts(kind: u64, number: i64) -> bool
 pub fn print_into(kind: u64, number: i64, scratch: &mut [u8]) -> Printed
     ensures { λ r. ⌜ Prints kind number (now (scratch .entry)) r (now (scratch .exit)) ⌝ }
 {
-    if !accepts(kind, number) {
-        return Printed::Refused(10);
+    match Value::from_parts(kind, number) {
+        Parts::Unformed => Printed::Refused(10),
+        Parts::Formed(v) => {
+            if scratch.len() < 20 {
+                return Printed::Refused(15);
+            }
+            Printed::Length(put_value(v, scratch))
+        }
     }
-    if scratch.len() < 20 {
-        return Printed::Refused(15);
-    }
-    Printed::Length(put_value(kind, number, scratch))
 }
 
 // The printer: writes a value at the front of the scratch bytes, and hands back the written part. Turned back, the part
