@@ -14,7 +14,7 @@ use Rattle.circuit.specs.Table.{Table, Cell, held, unk, unmarked, notice
 use Rattle.circuit.specs.Machine.{gather, workOut, lookFor, lookUp, work, storePosting, keepFigure, dropFigure, tellChild, tellBelow, tell, clearMark, stepItem, lowestMarked, catchUpIn, catchUp}
 use Rattle.circuit.specs.Calls.{Call, post, keep, drop, step, ask, Outcome, perform, run, tests, firstCause, effect, postedValue}
 
--- entry 0, figure 1 = sum of item 0, figure 2 = sum of item 1; keep and spread 0
+-- an entry, a figure that sums it, and a figure that sums the first; neither is kept, both defer
 unfoldable pub chain : Sheet
 chain = entry ∷ figure sum false defer (0 ∷ []) ∷ figure sum false defer (1 ∷ []) ∷ []
 
@@ -46,7 +46,8 @@ pub kept-cleared : run keptChain (openBare keptChain) keptCalls 1 ≡ held (num 
 unfolding keptChain keptCalls run perform tests firstCause effect postedValue keepFigure dropFigure storePosting stepItem tell tellBelow tellChild clearMark lookUp lookFor work workOut gather apply numbers total anyOut inRange limit member
 kept-cleared = refl
 
--- Figure 1 holds NULL with refresh when figure 2 is kept, and NULL is what figure 2 then reads, as the entry is NULL again.
+-- Figure 2 is kept while figure 1 holds NULL. Working that stored NULL out again would store 5 in figure 2, and 5 would be read
+-- at the end.
 unfoldable pub nullCalls : List Call
 nullCalls = post 0 3 (pos 5) ∷ step 0 ∷ drop 2 ∷ keep 2 ∷ post 0 1 (pos 0) ∷ step 0 ∷ step 1 ∷ []
 

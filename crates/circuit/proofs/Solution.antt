@@ -1,4 +1,4 @@
--- Every circuit has a solution, and only one; the fresh office gives the solution of its sheet. Assumes nothing.
+-- Every circuit has a solution, and only one; the fresh office gives the solution of its sheet. Assumes that the sheet is ordered, where it says so.
 use Prim.Native.Nat.{ℕ, zero, suc, _<_}
 use mathlib.Core.Path.{_≡_, refl, sym, ap, ap₂, _∙_}
 use mathlib.Core.Logic.{inl, inr}

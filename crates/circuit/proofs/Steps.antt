@@ -1,5 +1,5 @@
 -- Steps end: on a sheet of n items any sequence of accepted steps is shorter than 3^n. Each item has a digit, the lowest
--- item the most significant; a step of i lowers the digit of i and raises none below it. Assumes nothing.
+-- item the most significant; a step of i lowers the digit of i and raises none below it. Assumes that the sheet is ordered, where it says so.
 use Prim.Native.Nat.{ℕ, zero, suc, _+_, _*_, _^_, _<_, _≤_}
 use mathlib.Core.Path.{_≡_, refl, ap}
 use mathlib.Core.Bool.{Bool, true, false, cond}

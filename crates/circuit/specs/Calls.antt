@@ -109,7 +109,7 @@ abbrev pub postingOf : ℕ → Option Value → List Posting
 postingOf i none = []
 postingOf i (some v) = record { entry = i; value = v } ∷ []
 
--- The postings that a call makes: 01's "accepted" post makes one, the other calls and a refused post none.
+-- the posting of a post's arguments; the other calls make none
 abbrev pub madeBy : Call → List Posting
 madeBy (post i kind z) = postingOf i (postedValue kind z)
 madeBy (keep i) = []
@@ -121,6 +121,7 @@ abbrev pub ifAccepted : ℕ → List Posting → List Posting
 ifAccepted zero ps = ps
 ifAccepted (suc k) ps = []
 
+-- The postings that a call makes: one for a post that is accepted, that is, gives number 0.
 unfoldable pub made : Sheet → Table → Call → List Posting
 made S T c = ifAccepted (perform S T c .number) (madeBy c)
 

@@ -12,7 +12,7 @@ Listed a (b ∷ bs) = (a ≡ b) ⊎ Listed a bs
 
 -- Items, each with its parents in their listed order and a function of the parents' values. An item without parents is
 -- an input, and its function gives the input's value. A rank that rises from each parent to its child shows that the
--- circuit is acyclic: in a finite acyclic circuit the longest way down to an input is one.
+-- circuit is acyclic: in a finite acyclic circuit the length of the longest chain of parents is one.
 pub record Circuit (I A : Type 0) : Type 0 where
   pub parents : I → List I
   pub rule : I → List A → A

@@ -53,8 +53,8 @@ storeIf false i r = r
 abbrev pub flagged : Bool → Looked → Looked
 flagged f r = looked (r .table) (r .value) (r .flag || f)
 
--- Looking up an item, by its cell. A stored item gives its value, flagged if its mark is notice. An UNK figure is worked
--- out, and flagged too if its own mark is notice; where it is kept, the result is stored.
+-- Looking up, by the item's cell: what is stored is given, with the flag of a notice; an UNK figure is worked out, its own
+-- notice flags it too, and the result is stored where the figure is kept.
 abbrev pub lookCell : (Table → ℕ → Looked) → Sheet → Table → ℕ → Cell → Looked
 lookCell look S T i (held v m) = looked T v (isNotice m)
 lookCell look S T i (unk f) = storeIf (keptOf (itemAt S i)) i (flagged f (workOut look S T i))
@@ -89,7 +89,7 @@ keepCell S T i (held v m) = T
 unfoldable pub keepFigure : Sheet → Table → ℕ → Table
 keepFigure S T i = keepCell S T i (T i)
 
--- Drop: UNK; mark refresh becomes notice, other marks remain.
+-- Drop: nothing stays stored, and a refresh turns into a notice.
 abbrev pub droppedMark : Mark → Bool
 droppedMark unmarked = false
 droppedMark refresh = true
@@ -102,8 +102,8 @@ dropCell (held v m) = unk (droppedMark m)
 unfoldable pub dropFigure : Table → ℕ → Table
 dropFigure T i = upd T i (dropCell (T i))
 
--- A figure that holds v, with mark m, is worked out anew. If the result differs it is stored with mark notice; if it is
--- equal, v stays with mark m.
+-- A figure that holds v was worked out anew: an equal result leaves v, with mark m, and a different one is stored with
+-- notice.
 abbrev pub renewed : ℕ → Value → Mark → Looked → Table
 renewed i v m r = upd (r .table) i (cond (same v (r .value)) (held v m) (held (r .value) notice))
 
@@ -116,7 +116,7 @@ refreshCleared notice = notice
 abbrev pub renewChild : Sheet → Table → ℕ → Value → Mark → Table
 renewChild S T c v m = renewed c v (refreshCleared m) (work S T c)
 
--- a stored child that defers: refresh is set, unless its mark is notice, when it acts as renew
+-- a stored child that defers: a refresh, or, where a notice stands, the same as renew
 abbrev pub deferChild : Sheet → Table → ℕ → Value → Mark → Table
 deferChild S T c v unmarked = upd T c (held v refresh)
 deferChild S T c v refresh = upd T c (held v refresh)

@@ -97,7 +97,7 @@ differenceOf a b = cond (isNull a && isNull b) null (ranged (orZero a -ℤ orZer
 abbrev pub ofBoth : (ℤ → ℤ → Value) → Value → Value → Value
 ofBoth f a b = cond (isNull a || isNull b) null (f (orZero a) (orZero b))
 
--- the quotient by d, rounded down: -(n + 1) / d lies in the step below -(n / d)
+-- the quotient by d, rounded down: that of -(n + 1) is one less than -(n / d)
 abbrev pub floorDiv : ℤ → ℕ → ℤ
 floorDiv (pos n) d = pos (n / d)
 floorDiv (negsuc n) d = negsuc (n / d)
@@ -113,6 +113,7 @@ shareOf x y =
 abbrev pub atLeastOf : ℤ → ℤ → Value
 atLeastOf x y = ranged (cond (leZ y x) (pos 1) (pos 0))
 
+-- a parent's value as it is, so within the range where the parents' are
 abbrev pub choiceOf : Value → Value → Value → Value
 choiceOf a b c = cond (isNull a) null (cond (ltZ (pos 0) (orZero a)) b c)
 

@@ -32,7 +32,7 @@ Holds S T E = (i : ℕ) → i < size S → isFigure (itemAt S i) ≡ false → v
 abbrev pub Bare : Sheet → Table → Type 0
 Bare S T = (i : ℕ) → i < size S → isFigure (itemAt S i) ≡ true → isStored (T i) ≡ false
 
--- 01's "leads to": e leads to each figure that lists it as a parent, and to each that lists a figure it leads to
+-- 01's "leads to": from e to its children, and on from child to child
 pub data LeadsTo (S : Sheet) (e : ℕ) : ℕ → Type 0 where
   direct : {k : ℕ} → Listed e (parents S k) → LeadsTo S e k
   further : {j k : ℕ} → LeadsTo S e j → Listed j (parents S k) → LeadsTo S e k

@@ -24,7 +24,7 @@ pub record Lent (s offsets t : List ℕ) : Type 0 where
   pub formed : tableForm (sheetOf s) t ≡ true
 
 -- What a look-up (or working out) leaves, which on the table t gives r by the machine: the value and the flag, the table,
--- and the memo, in which nothing is remembered at or above b that was not.
+-- and the memo; where nothing was remembered at or above b, nothing is.
 pub record Leaves (s t : List ℕ) (tags : List ℕ) (generation b : ℕ) (r : Looked) (f : Found) (t′ : List ℕ) (tags′ : List ℕ) (numbers′ : List ℤ) : Type 0 where
   pub value-is : f .value ≡ r .value
   pub flag-is : f .flag ≡ r .flag

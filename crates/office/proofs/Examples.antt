@@ -1,10 +1,10 @@
 -- For each number from 1 to 14 an input that is given it, and calls that are accepted. By computation. Assumes nothing.
-use Prim.Native.Nat.{ℕ}
+use Prim.Native.Nat.{ℕ, _+_, _-_}
 use mathlib.Core.Path.{_≡_, refl, ap}
 use mathlib.Core.List.{List, [], _∷_, _++_, map}
 use mathlib.Core.Option.{none}
 use lib.IntN.{ℤ, pos, negsuc}
-use Rattle.word.specs.Word.{leAt, leBytes}
+use Rattle.word.specs.Word.{leAt, leBytes, bytes64}
 use Rattle.circuit.specs.Value.{limit, inRange}
 use Rattle.circuit.specs.Calls.{Call, post, keep, drop, step, ask, firstCause, tests, postedValue, effect, Outcome, perform}
 use Rattle.circuit.specs.Rules.{apply, numbers, total, anyOut}
@@ -82,13 +82,13 @@ example-opens = (refl, refl)
 
 -- Tables with one record that breaks its form, or its range.
 abbrev atLimit : List ℕ
-atLimit = 0x00 ∷ 0x10 ∷ 0xA5 ∷ 0xD4 ∷ 0xE8 ∷ 0x00 ∷ 0x00 ∷ 0x00 ∷ []
+atLimit = bytes64 (pos limit)
 
 abbrev aboveLimit : List ℕ
-aboveLimit = 0x01 ∷ 0x10 ∷ 0xA5 ∷ 0xD4 ∷ 0xE8 ∷ 0x00 ∷ 0x00 ∷ 0x00 ∷ []
+aboveLimit = bytes64 (pos (limit + 1))
 
 abbrev belowLimit : List ℕ
-belowLimit = 0xFF ∷ 0xEF ∷ 0x5A ∷ 0x2B ∷ 0x17 ∷ 0xFF ∷ 0xFF ∷ 0xFF ∷ []
+belowLimit = bytes64 (negsuc limit)
 
 abbrev firstIs : List ℕ → List ℕ
 firstIs r = r ++ nullRecord ++ nullRecord ++ unkRecord ++ unkRecord
@@ -138,14 +138,14 @@ examples =
     ∷ lendTable (post 2 0 (pos 0)) bareTable 13
     ∷ lendTable (post 2 2 (pos 0)) bareTable 13
     ∷ lendTable (post 2 1 (pos 1)) bareTable 13
-    ∷ lendTable (post 2 3 (pos 1_000_000_000_001)) bareTable 13
-    ∷ lendTable (post 2 3 (negsuc 1_000_000_000_000)) bareTable 13
+    ∷ lendTable (post 2 3 (pos (limit + 1))) bareTable 13
+    ∷ lendTable (post 2 3 (negsuc limit)) bareTable 13
     ∷ lendTable (step 0) bareTable 14
     ∷ lendTable (step 4) (lastIs (2 ∷ 0 ∷ zeros8)) 14
     ∷ lend (opening bare) exampleIndex bareTable 0
     ∷ lendTable (post 2 1 (pos 0)) bareTable 0
-    ∷ lendTable (post 2 3 (pos 1_000_000_000_000)) bareTable 0
-    ∷ lendTable (post 2 3 (negsuc 999_999_999_999)) bareTable 0
+    ∷ lendTable (post 2 3 (pos limit)) bareTable 0
+    ∷ lendTable (post 2 3 (negsuc (limit - 1))) bareTable 0
     ∷ lendTable (keep 3) bareTable 0
     ∷ lendTable (drop 4) (lastIs (3 ∷ 1 ∷ atLimit)) 0
     ∷ lendTable (step 4) (lastIs (3 ∷ 1 ∷ atLimit)) 0

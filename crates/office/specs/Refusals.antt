@@ -46,11 +46,11 @@ BeyondRange z = limit < natAbs z
 pub data RecordBroken (figure : Bool) (k m : ℕ) (z : ℤ) : Type 0 where
   kindUnknown : 3 < k → RecordBroken figure k m z
   markUnknown : 2 < m → RecordBroken figure k m z
-  -- entries never have kind 0 or 2, nor mark 1
+  -- an entry that is UNK, or OUT, or to be refreshed
   entryUnk : figure ≡ false → k ≡ 0 → RecordBroken figure k m z
   entryOut : figure ≡ false → k ≡ 2 → RecordBroken figure k m z
   entryRefresh : figure ≡ false → m ≡ 1 → RecordBroken figure k m z
-  -- a figure of kind 0 never has mark 1
+  -- an UNK figure that is to be refreshed
   unkRefresh : figure ≡ true → k ≡ 0 → m ≡ 1 → RecordBroken figure k m z
   -- the number is 0 unless the kind is 3
   numberNotZero : ¬ (k ≡ 3) → ¬ (z ≡ pos 0) → RecordBroken figure k m z
@@ -183,8 +183,8 @@ pub record OfficeAccepted (s : List ℕ) (office : Given) (cs : List Call) : Typ
   pub accepted : AcceptedLent s (office .index) (tableAfter s office cs)
   pub numbers : (c : Call) → let g : Given = callOn s (office .index) (tableAfter s office cs) c in (g .number ≡ 0) ⊎ (11 ≤ g .number)
 
--- The words above on the bytes of a sheet without a fault: n is the item count of the first field, item i is a figure exactly if
--- its field has tag 3, and the index holds 4 bytes an item, the offset of its field.
+-- What the words above come to on the bytes of a sheet without a fault: n by the first field, figures by their tags, and the
+-- offsets in the index.
 pub record SheetWords (s : List ℕ) : Type 0 where
   pub count-is : size (sheetOf s) ≡ itemCount s
   pub figure-is : (i : ℕ) → i < itemCount s → (isFigure (itemAt (sheetOf s) i) ≡ true) ↔ (tagOf s (item i) ≡ 3)

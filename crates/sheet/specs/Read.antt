@@ -62,7 +62,7 @@ pub record Placed : Type 0 where
 abbrev pub placed : ℕ → LayoutItem → ℕ → Placed
 placed at it level = record { offset = at; item = it; level = level }
 
--- An entry has level 0, a figure one more than its highest parent.
+-- the level of an earlier item, by its number
 abbrev pub levelOf : List Placed → ℕ → ℕ
 levelOf ps p = getD ps p (placed 0 (entryField []) 0) .level
 
@@ -113,7 +113,7 @@ itemTests edition ps tag content =
 unfoldable pub lastTests : ℕ → List ℕ → List Test
 lastTests tag content = test 2 (not (eqb tag lastTag)) ∷ test 3 (not (eqb (length content) 0)) ∷ []
 
--- A field judged: the number of its lowest cause, or the field with number 0. A field that is absent or runs past the end has
+-- A field judged: the number of its lowest cause, or 0. A field that is absent or runs past the end has
 -- cause 1, and nothing else of it is looked at.
 abbrev pub judge : (ℕ → List ℕ → List Test) → List ℕ → Cut → ℕ
 judge tests s Absent = 1

@@ -49,8 +49,8 @@ encodeCell (held v m) = recordOf (kindOf v) (markCode m) (numberOf v)
 unfoldable pub decodeCell : List ℕ → Cell
 decodeCell r = cellCoded (kindIn r) (markIn r) (numberIn r)
 
--- The kinds and marks that a record may have. An entry never has kind 0 or 2, nor mark 1; a figure of kind 0 never has
--- mark 1. The first argument says whether the item is a figure.
+-- The kinds and marks that a record may have: an entry is neither UNK nor OUT nor to be refreshed, and an UNK figure not to
+-- be refreshed. The first argument says whether the item is a figure.
 abbrev pub allowed : Bool → ℕ → ℕ → Bool
 allowed false k m = not (eqb k 0) && not (eqb k 2) && not (eqb m 1)
 allowed true k m = not (eqb k 0 && eqb m 1)

@@ -28,7 +28,7 @@ fn read_u64(s: &[u8], at: usize) -> u64
         + wide(s[at + 7]) * 0x100_0000_0000_0000
 }
 
-// The signed number of which x is the bits. (Both branches are compiled to nothing.)
+// The signed number of which x is the bits.
 fn signed(x: u64) -> i64
     ensures { λ r. ⌜ r ≡ toZ w64 x ⌝ }
 {
