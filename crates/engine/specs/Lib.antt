@@ -1,2 +1,5 @@
+pub mod Answers
+pub mod Entry
 pub mod Memo
 pub mod Pass
+pub mod Stepping

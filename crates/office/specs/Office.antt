@@ -1,8 +1,8 @@
 -- The openings and the five calls on lent bytes, with all their refusals: what each gives, and what index and table hold
 -- afterwards. The exported functions and the day program cite these definitions. Assumes nothing.
 use Prim.Native.Nat.{ℕ, zero, suc, _*_}
-use mathlib.Core.Bool.{Bool, cond, not, _&&_}
-use mathlib.Core.List.{List, [], _∷_, _++_}
+use mathlib.Core.Bool.{Bool, not, _&&_}
+use mathlib.Core.List.{List, [], _∷_}
 use mathlib.Core.Option.{Option, none, some}
 use lib.Dec.{eqb}
 use lib.IntN.{ℤ, pos}
@@ -45,9 +45,11 @@ abbrev pub accepted : Option Value → List ℕ → List ℕ → Given
 accepted v x t = record { number = 0; offset = 0; kind = kindRead v; value = numberRead v; index = x; table = t }
 
 -- 8: index not 4n bytes, or table not 10n
+abbrev pub lengthsOff : ℕ → ℕ → ℕ → Bool
+lengthsOff n index table = not (eqb index (indexWidth * n) && eqb table (width * n))
+
 abbrev pub lengthsWrong : List Placed → List ℕ → List ℕ → Bool
-lengthsWrong ps x t =
-    not (eqb (length x) (indexWidth * length ps) && eqb (length t) (width * length ps))
+lengthsWrong ps x t = lengthsOff (length ps) (length x) (length t)
 
 -- 9: index not as opening writes it
 abbrev pub indexWrong : List Placed → List ℕ → Bool

@@ -1,0 +1,272 @@
+-- The calls on what was entered: their own tests, and what they store. Assumes nothing.
+use Prim.Native.Nat.{ℕ, zero, suc, _+_, _*_, _≤_, _<_}
+use native.Mathlib.Omega.{arith}
+use native.Mathlib.Numerals.{add-one}
+use mathlib.Core.Path.{_≡_, refl, sym, ap, ap₂, subst, _∙_}
+use mathlib.Core.Bool.{Bool, true, false, cond, not, _&&_}
+use mathlib.Core.List.{List, [], _∷_}
+use mathlib.Core.Option.{Option, none, some}
+use lib.Dec.{eqb, leb}
+use lib.IntN.{ℤ}
+use lib.ListN.{length, getD, take}
+use borrow.Author.Tests.{eq-eqb, ne-eqb, le-leb, lt-leb, leb-false, eqb-true}
+use Rattle.circuit.specs.Value.{Value, null, num, same}
+use Rattle.circuit.specs.Sheet.{Sheet, Item, entry, figure, size, itemAt, isFigure}
+use Rattle.circuit.specs.Table.{Table, Cell, unk, held, unmarked, upd, bareCell, openBare, openFull}
+use Rattle.circuit.specs.Machine.{storePosting, postCell, dropFigure, dropCell}
+use Rattle.circuit.specs.Calls.{Call, post, keep, drop, Test, test, firstCause, tests, effect, noItem, notEntry, notFigure, notPostable, isNone, postedValue, postIt}
+use Rattle.circuit.specs.Offices.{Opening, bare, full, opened}
+use Rattle.circuit.proofs.RuleLaws.{and-true}
+use Rattle.sheet.specs.Opened.{itemsOf, placedFrom, sheetFrom, sheetRead, sheetOf, Located}
+use Rattle.sheet.specs.Read.{SheetRead, opens, refused, readSheet}
+use Rattle.sheet.specs.Check.{checkedOf}
+use Rattle.sheet.specs.Index.{indexWidth}
+use Rattle.sheet.specs.declared.Checked.the-variants.{Opens, Refused as Faulty}
+use Rattle.sheet.proofs.Located as checked
+use Rattle.item.specs.Item.{fieldItem}
+use Rattle.item.proofs.Located.{located-item}
+use Rattle.item.specs.Offsets.{sameBytes, offsetBytes}
+use Rattle.item.proofs.Offsets.{located-index}
+use Rattle.value.specs.Meaning.{partsOf}
+use Rattle.word.specs.Word.{Bytes}
+use Rattle.table.specs.Rows.{row, setRow, allBelow, rowsBelow}
+use Rattle.table.specs.Record.{width, encodeCell, decodeCell, recordForm}
+use Rattle.table.specs.Bytes.{encodeTable, encodeRecord, decodeTable, tableForm, tableLength, recordInForm}
+use Rattle.table.proofs.Rows.{below-true, rows-ext, rows-row, row-setRow, row-setRow-other, row-before}
+use Rattle.table.proofs.Records.{length-encodeCell}
+use Rattle.table.proofs.Tables.{encode-decodeTable, encode-upd}
+use Rattle.office.specs.Office.{Given, refusal, lengthsOff, indexWrong, tableWrong, unlessRefused, callOn}
+use Rattle.engine.specs.Pass.{Lent}
+use Rattle.engine.specs.Entry.{entryBy, measuredBy, measuredOf, entryOf, callLent}
+use Rattle.engine.proofs.Entering.{measured, entered, refused-call}
+use Rattle.engine.specs.Answers.{Answered, wrongItem, openingBy, firstCell}
+use Rattle.engine.specs.declared.calls.Answer.{Answer}
+use Rattle.engine.specs.declared.enter.Entry.{Entry}
+use Rattle.engine.specs.declared.enter.Entry.the-variants.{Items, Refused}
+
+-- ---- the check's answer and the lengths
+
+module _ (s : List ℕ) (a b : ℕ) where
+  pub measured-refused : (k at : ℕ) → Faulty k at ≡ checkedOf (readSheet s) → Refused k at ≡ measuredOf s a b
+  unfolding measuredOf
+  measured-refused k at e = rw (checked.refusal s k at e)
+
+  module _ (edition count : ℕ) (e : Opens edition count ≡ checkedOf (readSheet s)) where
+    pub count-most : count ≤ 1024
+    count-most = omega (arith, checked.opening s edition count e .count-is, Rattle.item.proofs.Located.size-most s)
+
+    measured-opens : (w : Bool) → lengthsOff count a b ≡ w → entryBy (firstCause (test 8 w ∷ [])) count ≡ measuredOf s a b
+    unfolding measuredOf
+    measured-opens w h =
+        let o = checked.opening s edition count e in
+        rw (o .reads, ← o .items-count, h)
+
+    pub measured-index : (a ≡ 4 * count → ⊥) → Refused 8 0 ≡ measuredOf s a b
+    unfolding firstCause indexWidth
+    measured-index h = measured-opens true (rw (ne-eqb a (4 * count) h))
+
+    pub measured-table : a ≡ 4 * count → (b ≡ width * count → ⊥) → Refused 8 0 ≡ measuredOf s a b
+    unfolding firstCause indexWidth
+    measured-table f h = measured-opens true (rw (eq-eqb a (4 * count) f, ne-eqb b (width * count) h))
+
+    pub measured-items : a ≡ 4 * count → b ≡ width * count → Items count ≡ measuredOf s a b
+    unfolding firstCause indexWidth
+    measured-items f h = measured-opens false (rw (eq-eqb a (4 * count) f, eq-eqb b (width * count) h))
+
+-- ---- the form of the table, record by record
+
+module _ (s offsets t : List ℕ) (located : Located s offsets) (k : ℕ) (low : k < size (sheetOf s)) (b r : Bool)
+    (figure-is : b ≡ isFigure (fieldItem s (getD offsets k 0))) (record-is : r ≡ recordForm b (row width t k)) where
+  record-here : r ≡ recordInForm (sheetOf s) t k
+  record-here =
+      record-is ∙ ap (λ f. recordForm f (row width t k)) (figure-is ∙ ap isFigure (located-item s offsets located k low))
+
+  pub unformed-record : r ≡ false → false ≡ tableForm (sheetOf s) t
+  unfolding tableForm
+  unformed-record e = go (allBelow (recordInForm (sheetOf s) t) (size (sheetOf s))) refl
+    where
+      go : (w : Bool) → allBelow (recordInForm (sheetOf s) t) (size (sheetOf s)) ≡ w → false ≡ w
+      go false q = refl
+      go true q = sym e ∙ record-here ∙ below-true (recordInForm (sheetOf s) t) (size (sheetOf s)) q k low
+
+  pub formed-record : r ≡ true → allBelow (recordInForm (sheetOf s) t) k ≡ true → allBelow (recordInForm (sheetOf s) t) (k + 1) ≡ true
+  unfolding allBelow
+  formed-record e h =
+      ap (allBelow (recordInForm (sheetOf s) t)) (add-one k) ∙ and-true _ _ h (sym record-here ∙ e)
+
+pub formed-done : (S : Sheet) (t : List ℕ) (k : ℕ) → k ≡ size S → allBelow (recordInForm S t) k ≡ true → true ≡ tableForm S t
+unfolding tableForm
+formed-done S t k e h = sym (subst (λ m. allBelow (recordInForm S t) m ≡ true) e h)
+
+-- ---- the tests of an item
+
+abbrev causeAt : Bool → Bool → ℕ
+causeAt true true = 0
+causeAt true false = 12
+causeAt false true = 12
+causeAt false false = 0
+
+module _ (S : Sheet) (n item : ℕ) (figures : Bool) (count-is : n ≡ size S) where
+  pub cause-beyond : n ≤ item → 11 ≡ firstCause (test 11 (noItem S item) ∷ test 12 (wrongItem figures S item) ∷ [])
+  unfolding firstCause
+  cause-beyond h = rw (le-leb (size S) item (omega arith))
+
+  pub cause-within : (b fv bv : Bool) → item < n → b ≡ isFigure (itemAt S item) → figures ≡ fv → b ≡ bv
+      → causeAt fv bv ≡ firstCause (test 11 (noItem S item) ∷ test 12 (wrongItem figures S item) ∷ [])
+  unfolding firstCause
+  cause-within b fv bv h e f g =
+      rw (lt-leb (size S) item (omega arith)) (go fv bv (sym e ∙ g) ∙ ap (λ w. cond (wrongItem w S item) 12 0) (sym f))
+    where
+      go : (fv bv : Bool) → isFigure (itemAt S item) ≡ bv → causeAt fv bv ≡ cond (wrongItem fv S item) 12 0
+      go true true q = rw q
+      go true false q = rw q
+      go false true q = rw q
+      go false false q = rw q
+
+-- the first two tests of a call
+pub first-two : (a b : Bool) (ts : List Test) (k : ℕ) → k ≡ firstCause (test 11 a ∷ test 12 b ∷ []) → (k ≡ 0 → ⊥) → firstCause (test 11 a ∷ test 12 b ∷ ts) ≡ k
+unfolding firstCause
+first-two true b ts k e h = sym e
+first-two false true ts k e h = sym e
+first-two false false ts k e h = absurd (h e)
+
+pub past-two : (a b : Bool) (ts : List Test) (k : ℕ) → k ≡ firstCause (test 11 a ∷ test 12 b ∷ []) → k ≡ 0 → (a ≡ false) × (firstCause (test 11 a ∷ test 12 b ∷ ts) ≡ firstCause ts)
+unfolding firstCause
+past-two true b ts k e h = absurd (omega arith)
+past-two false true ts k e h = absurd (omega arith)
+past-two false false ts k e h = (refl, refl)
+
+-- ---- the answer of a call
+
+pub refused-answer : (S : Sheet) (x t : List ℕ) (c : Call) (r : Answer) (k : ℕ) → firstCause (tests S (decodeTable t) c) ≡ k → (k ≡ 0 → ⊥)
+    → r .number ≡ k → r .offset ≡ 0 → Answered (callLent S x t c) r t
+refused-answer S x t c r zero e h n o = absurd (h refl)
+refused-answer S x t c r (suc k) e h n o =
+    rw e (record { number-is = n; offset-is = o; table-is = refl })
+
+pub accepted-answer : (S : Sheet) (x t t′ : List ℕ) (c : Call) (r : Answer) → firstCause (tests S (decodeTable t) c) ≡ 0
+    → r .number ≡ 0 → r .offset ≡ 0 → t′ ≡ encodeTable S (effect S (decodeTable t) c .table) → Answered (callLent S x t c) r t′
+accepted-answer S x t t′ c r e n o h = rw e (record { number-is = n; offset-is = o; table-is = h })
+
+-- what a store leaves
+pub stored-encoded : {s offsets t : List ℕ} → Lent s offsets t → Bytes t → (i : ℕ) (c : Cell) → i < size (sheetOf s)
+    → setRow width t i (encodeCell c) ≡ encodeTable (sheetOf s) (upd (decodeTable t) i c)
+stored-encoded {s} {offsets} {t} lent bytes i c low =
+    sym (encode-upd (sheetOf s) (decodeTable t) i c low
+    ∙ ap (λ l. setRow width l i (encodeCell c)) (encode-decodeTable (sheetOf s) t bytes (lent .length-is) (lent .formed)))
+
+-- ---- post
+
+pub posted-other : (kind : ℕ) (z : ℤ) (r : Option Value) → (kind ≡ 2 → ⊥) → r ≡ partsOf kind z → r ≡ postedValue kind z
+unfolding partsOf postedValue
+posted-other kind z r h e = e ∙ rw (ne-eqb kind 2 h)
+
+module _ {s offsets t : List ℕ} (lent : Lent s offsets t) (bytes : Bytes t) (x : List ℕ) (item kind : ℕ) (z : ℤ) (cause : ℕ)
+    (cause-is : cause ≡ firstCause (test 11 (noItem (sheetOf s) item) ∷ test 12 (wrongItem false (sheetOf s) item) ∷ [])) (r : Answer) (offset-is : r .offset ≡ 0) where
+  pub post-item : (cause ≡ 0 → ⊥) → r .number ≡ cause → Answered (callLent (sheetOf s) x t (post item kind z)) r t
+  unfolding tests
+  post-item h n = refused-answer (sheetOf s) x t (post item kind z) r cause (first-two _ _ _ cause cause-is h) h n offset-is
+
+  pub post-value : cause ≡ 0 → none ≡ postedValue kind z → r .number ≡ 13 → Answered (callLent (sheetOf s) x t (post item kind z)) r t
+  unfolding tests firstCause
+  post-value h e n =
+      refused-answer (sheetOf s) x t (post item kind z) r 13
+      (past-two (noItem (sheetOf s) item) (wrongItem false (sheetOf s) item) (test 13 (notPostable kind z) ∷ []) cause cause-is h .1 ∙ ap (λ o. cond (isNone o) 13 0) (sym e)) (λ q. omega arith) n offset-is
+
+  pub post-stored : cause ≡ 0 → (v : Value) → some v ≡ postedValue kind z → (t′ : List ℕ) (c : Cell)
+      → c ≡ postCell (decodeCell (row width t item)) v → t′ ≡ setRow width t item (encodeCell c) → r .number ≡ 0
+      → Answered (callLent (sheetOf s) x t (post item kind z)) r t′
+  unfolding tests firstCause effect storePosting
+  post-stored h v e t′ c f g n =
+      let p = past-two (noItem (sheetOf s) item) (wrongItem false (sheetOf s) item) (test 13 (notPostable kind z) ∷ []) cause cause-is h in
+      let low : item < size (sheetOf s) = leb-false (size (sheetOf s)) item (p .0) in
+      accepted-answer (sheetOf s) x t t′ (post item kind z) r (p .1 ∙ ap (λ o. cond (isNone o) 13 0) (sym e)) n offset-is
+      (g ∙ ap (λ d. setRow width t item (encodeCell d)) f ∙ stored-encoded lent bytes item _ low
+      ∙ ap (λ o. encodeTable (sheetOf s) (postIt (decodeTable t) item o)) e)
+
+pub cause-fits : (s t : List ℕ) (item cause : ℕ) (figures : Bool) → length t ≡ tableLength (sheetOf s)
+    → cause ≡ firstCause (test 11 (noItem (sheetOf s) item) ∷ test 12 (wrongItem figures (sheetOf s) item) ∷ []) → cause ≡ 0 → width * item + width ≤ length t
+cause-fits s t item cause figures l e h =
+    let p = past-two (noItem (sheetOf s) item) (wrongItem figures (sheetOf s) item) [] cause e h in
+    let low : item < size (sheetOf s) = leb-false (size (sheetOf s)) item (p .0) in
+    omega arith
+
+-- ---- drop
+
+module _ {s offsets t : List ℕ} (lent : Lent s offsets t) (bytes : Bytes t) (x : List ℕ) (item : ℕ) (cause : ℕ)
+    (cause-is : cause ≡ firstCause (test 11 (noItem (sheetOf s) item) ∷ test 12 (wrongItem true (sheetOf s) item) ∷ [])) (r : Answer) (offset-is : r .offset ≡ 0) where
+  pub drop-item : (cause ≡ 0 → ⊥) → r .number ≡ cause → Answered (callLent (sheetOf s) x t (drop item)) r t
+  unfolding tests
+  drop-item h n = refused-answer (sheetOf s) x t (drop item) r cause (first-two _ _ _ cause cause-is h) h n offset-is
+
+  pub drop-stored : cause ≡ 0 → (t′ : List ℕ) (c : Cell)
+      → c ≡ dropCell (decodeCell (row width t item)) → t′ ≡ setRow width t item (encodeCell c) → r .number ≡ 0
+      → Answered (callLent (sheetOf s) x t (drop item)) r t′
+  unfolding tests firstCause effect dropFigure
+  drop-stored h t′ c f g n =
+      let p = past-two (noItem (sheetOf s) item) (wrongItem true (sheetOf s) item) [] cause cause-is h in
+      let low : item < size (sheetOf s) = leb-false (size (sheetOf s)) item (p .0) in
+      accepted-answer (sheetOf s) x t t′ (drop item) r (p .1) n offset-is
+      (g ∙ ap (λ d. setRow width t item (encodeCell d)) f ∙ stored-encoded lent bytes item _ low)
+
+-- ---- entering
+
+module _ (s x t offsets : List ℕ) (n : ℕ) (e : Items n ≡ measuredOf s (length x) (length t)) (located : Located s offsets) where
+  index-is : (m : Bool) → m ≡ sameBytes x (offsetBytes (take n offsets)) → indexWrong (itemsOf s) x ≡ not m
+  index-is m h =
+      let g = measured s x t n e in
+      ap not (sym (h ∙ ap (sameBytes x) (ap (λ k. offsetBytes (take k offsets)) (g .items-count) ∙ located-index s offsets located)))
+
+  entry-by : (a b : Bool) → indexWrong (itemsOf s) x ≡ a → tableWrong (sheetOf s) t ≡ b
+      → entryBy (firstCause (test 8 false ∷ test 9 a ∷ test 10 b ∷ [])) n ≡ entryOf s x t
+  unfolding entryOf measuredOf itemsOf sheetOf firstCause
+  entry-by a b f g = go (readSheet s) refl e
+    where
+      by : (w : Bool) (m : ℕ) → Items n ≡ entryBy (firstCause (test 8 w ∷ [])) m → (w ≡ false) × (n ≡ m)
+      by true m q = let z : _≡_ {A = ℕ} 0 1 = cc in absurd (omega arith)
+      by false m q = (refl, cc)
+
+      go : (r : SheetRead) → readSheet s ≡ r → Items n ≡ measuredBy r (length x) (length t) → entryBy (firstCause (test 8 false ∷ test 9 a ∷ test 10 b ∷ [])) n ≡ entryOf s x t
+      go (refused j o) q y = let z : _≡_ {A = ℕ} 0 1 = cc in absurd (omega arith)
+      go (opens edition ps) q y =
+          let w = by (lengthsOff (length ps) (length x) (length t)) (length ps) y in
+          let fa : indexWrong ps x ≡ a = ap (λ r. indexWrong (placedFrom r) x) (sym q) ∙ f in
+          let gb : tableWrong (sheetRead edition ps) t ≡ b = ap (λ r. tableWrong (sheetFrom r) t) (sym q) ∙ g in
+          rw (q, w .0, fa, gb, w .1)
+
+  pub entry-index : (m : Bool) → m ≡ sameBytes x (offsetBytes (take n offsets)) → m ≡ false → Refused 9 0 ≡ entryOf s x t
+  unfolding firstCause
+  entry-index m h q = entry-by true (tableWrong (sheetOf s) t) (index-is m h ∙ ap not q) refl
+
+  pub entry-table : (m : Bool) → m ≡ sameBytes x (offsetBytes (take n offsets)) → m ≡ true → (f : Bool) → f ≡ tableForm (sheetOf s) t → f ≡ false → Refused 10 0 ≡ entryOf s x t
+  unfolding firstCause
+  entry-table m h q f g p = entry-by false true (index-is m h ∙ ap not q) (ap not (sym g ∙ p))
+
+  pub entry-items : (m : Bool) → m ≡ sameBytes x (offsetBytes (take n offsets)) → m ≡ true → (f : Bool) → f ≡ tableForm (sheetOf s) t → f ≡ true → Items n ≡ entryOf s x t
+  unfolding firstCause
+  entry-items m h q f g p = entry-by false false (index-is m h ∙ ap not q) (ap not (sym g ∙ p))
+
+pub entry-refused : (s x t : List ℕ) (k at : ℕ) → Refused k at ≡ measuredOf s (length x) (length t) → Refused k at ≡ entryOf s x t
+unfolding entryOf measuredOf firstCause
+entry-refused s x t k at e = go (readSheet s) refl e
+  where
+    by : (w a b : Bool) (m : ℕ) → Refused k at ≡ entryBy (firstCause (test 8 w ∷ [])) m → Refused k at ≡ entryBy (firstCause (test 8 w ∷ test 9 a ∷ test 10 b ∷ [])) m
+    by true a b m q = q
+    by false a b m q = let z : _≡_ {A = ℕ} 0 1 = cc in absurd (omega arith)
+
+    go : (r : SheetRead) → readSheet s ≡ r → Refused k at ≡ measuredBy r (length x) (length t) → Refused k at ≡ entryOf s x t
+    go (refused j o) q y = rw q y
+    go (opens edition ps) q y = rw q (by (lengthsOff (length ps) (length x) (length t)) (indexWrong ps x) (tableWrong (sheetRead edition ps) t) (length ps) y)
+
+-- ---- the calls whole
+
+pub refused-whole : (s x t : List ℕ) (c : Call) (k at : ℕ) → Refused k at ≡ entryOf s x t → (r : Answer) → r .number ≡ k → r .offset ≡ at → Answered (callOn s x t c) r t
+refused-whole s x t c k at e r n o = rw (refused-call s x t c k at e) (record { number-is = n; offset-is = o; table-is = refl })
+
+pub entered-whole : (s x t t′ : List ℕ) (c : Call) (n : ℕ) → Items n ≡ entryOf s x t → (r : Answer) → Answered (callLent (sheetOf s) x t c) r t′ → Answered (callOn s x t c) r t′
+entered-whole s x t t′ c n e r h = rw (entered s x t n e .call c) h
+
+pub post-whole : (s x t t′ : List ℕ) (item kind : ℕ) (w z : ℤ) (n : ℕ) → Items n ≡ entryOf s x t → (r : Answer) → w ≡ z
+    → Answered (callLent (sheetOf s) x t (post item kind w)) r t′ → Answered (callOn s x t (post item kind z)) r t′
+post-whole s x t t′ item kind w z n e r q h =
+    entered-whole s x t t′ (post item kind z) n e r (subst (λ v. Answered (callLent (sheetOf s) x t (post item kind v)) r t′) q h)

@@ -1,0 +1,25 @@
+use borrow.Author.Needs.{needs}
+use Rattle.engine.proofs.calls.open_bare.Statement.{statement}
+use Rattle.engine.proofs.calls.open_bare.Tie as tie
+use Rattle.engine.proofs.calls.open_bare.Reads as reads
+use Rattle.engine.proofs.calls.open_bare.Lts as lts
+use Rattle.engine.proofs.calls.open_by.Reads as open-by-reads
+
+-- src/calls.rt:106:5
+open-by-requires : tie.Need-open-by-requires
+open-by-requires c κs = search needs
+
+-- src/calls.rt:103:1
+same-length : tie.Need-same-length
+same-length c = search needs
+
+-- src/calls.rt:103:1
+same-length-2 : tie.Need-same-length-2
+same-length-2 c = search needs
+
+-- src/calls.rt:103:1
+returns : tie.Need-returns
+returns c = search needs
+
+pub open-bare-spec : {M : Type 1} → statement M
+open-bare-spec = tie.close (tie.spec open-by-requires same-length same-length-2 returns)

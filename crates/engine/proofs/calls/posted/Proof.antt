@@ -1,0 +1,27 @@
+use Rattle.value.specs.Meaning.{partsOf}
+use Rattle.value.proofs.Signed.{back}
+use Rattle.engine.proofs.Calling.{posted-other}
+use Rattle.circuit.specs.Calls.{postedValue}
+use mathlib.Core.Path.{_≡_, refl, sym, ap, _∙_}
+use borrow.Author.Needs.{needs}
+use Rattle.engine.proofs.calls.posted.Statement.{statement}
+use Rattle.engine.proofs.calls.posted.Tie as tie
+use Rattle.engine.proofs.calls.posted.Reads as reads
+use Rattle.engine.proofs.calls.posted.Lts as lts
+use Rattle.value.proofs.Value.from_parts.Reads as from-parts-reads
+
+-- src/calls.rt:76:9
+from-parts-requires : tie.Need-from-parts-requires
+from-parts-requires c κs = search needs
+
+-- src/calls.rt:70:1
+returns : tie.Need-returns
+unfolding postedValue
+returns c = rw (c .if1 .taken)
+
+-- src/calls.rt:70:1
+returns-2 : tie.Need-returns-2
+returns-2 c = let s = c .before .before in posted-other (s .args .kind) (s .args .number) _ (c .before .if1 .left) (c .from-parts .ensures ∙ ap (partsOf (s .args .kind)) (back (s .args .number) (s .fits .number)))
+
+pub posted-spec : {M : Type 1} → statement M
+posted-spec = tie.close (tie.spec from-parts-requires returns returns-2)

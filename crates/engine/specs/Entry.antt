@@ -1,0 +1,51 @@
+-- The tests of what is lent, by which a call is entered with the count of the sheet's items or refused: of the sheet and of
+-- the lengths (1 to 8), which are all the tests of an opening, and of the index and the table (9 and 10). Assumes nothing.
+use Prim.Native.Nat.{ℕ, zero, suc, _≤_}
+use mathlib.Core.Path.{_≡_}
+use mathlib.Core.Bool.{Bool}
+use mathlib.Core.List.{List, [], _∷_}
+use lib.ListN.{length}
+use Rattle.circuit.specs.Sheet.{Sheet, size}
+use Rattle.circuit.specs.Calls.{Call, Test, test, firstCause, tests, effect}
+use Rattle.sheet.specs.Read.{Placed, SheetRead, opens, refused, readSheet}
+use Rattle.sheet.specs.Opened.{sheetRead, sheetOf, Located}
+use Rattle.table.specs.Bytes.{decodeTable}
+use Rattle.office.specs.Office.{Given, unlessRefused, effectOn, lengthsOff, indexWrong, tableWrong}
+use Rattle.engine.specs.declared.enter.Entry.{Entry}
+use Rattle.engine.specs.declared.enter.Entry.the-variants.{Items, Refused}
+
+-- n items, unless a cause holds
+abbrev pub entryBy : ℕ → ℕ → Entry
+entryBy zero n = Items n
+entryBy (suc k) n = Refused (suc k) 0
+
+-- 1 to 8, by the lengths of index and table
+abbrev pub measuredBy : SheetRead → ℕ → ℕ → Entry
+measuredBy (refused k at) a b = Refused k at
+measuredBy (opens edition ps) a b = entryBy (firstCause (test 8 (lengthsOff (length ps) a b) ∷ [])) (length ps)
+
+unfoldable pub measuredOf : List ℕ → ℕ → ℕ → Entry
+measuredOf s a b = measuredBy (readSheet s) a b
+
+-- 1 to 10
+abbrev pub lentTests : Sheet → List Placed → List ℕ → List ℕ → List Test
+lentTests S ps x t =
+    test 8 (lengthsOff (length ps) (length x) (length t)) ∷ test 9 (indexWrong ps x) ∷ test 10 (tableWrong S t) ∷ []
+
+abbrev pub enteredBy : SheetRead → List ℕ → List ℕ → Entry
+enteredBy (refused k at) x t = Refused k at
+enteredBy (opens edition ps) x t = entryBy (firstCause (lentTests (sheetRead edition ps) ps x t)) (length ps)
+
+unfoldable pub entryOf : List ℕ → List ℕ → List ℕ → Entry
+entryOf s x t = enteredBy (readSheet s) x t
+
+-- a call on what was entered: refused by its own tests only
+abbrev pub callLent : Sheet → List ℕ → List ℕ → Call → Given
+callLent S x t c =
+    unlessRefused (firstCause (tests S (decodeTable t) c)) x t (effectOn S x (effect S (decodeTable t) c))
+
+-- the sheet's items with their offsets in an array that has room for them, n by count
+pub record Placing (s offsets : List ℕ) (n : ℕ) : Type 0 where
+  pub count-is : n ≡ size (sheetOf s)
+  pub located : Located s offsets
+  pub room : n ≤ length offsets

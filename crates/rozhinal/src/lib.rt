@@ -1,0 +1,72 @@
+// The functions that a C program calls: the openings, the five calls and the printer, with numbers and byte slices. A slice is a
+// pointer and a length in C; include/rozhinal.h declares them. Each is one call of the function that does the work.
+ghost use Rattle.circuit.specs.Calls as calls;
+ghost use Rattle.circuit.specs.Offices.{bare, full};
+ghost use Rattle.office.specs.Office.{openOn, callOn};
+ghost use Rattle.engine.specs.Answers.{Answered, Opened, Read};
+ghost use Rattle.printer.specs.Contract.{PrintsCode};
+
+use engine::calls::{Answer, Reading};
+
+#[no_mangle]
+pub extern "C" fn rozhinal_open_bare(sheet: &[u8], index: &mut [u8], table: &mut [u8]) -> Answer
+    ensures { λ r. ⌜ Opened (openOn bare (now (sheet .entry)) (now (index .entry)) (now (table .entry))) r (now (index .exit)) (now (table .exit)) ⌝ }
+{
+    engine::calls::open_bare(sheet, index, table)
+}
+
+#[no_mangle]
+pub extern "C" fn rozhinal_open_full(sheet: &[u8], index: &mut [u8], table: &mut [u8]) -> Answer
+    ensures { λ r. ⌜ Opened (openOn full (now (sheet .entry)) (now (index .entry)) (now (table .entry))) r (now (index .exit)) (now (table .exit)) ⌝ }
+{
+    engine::calls::open_full(sheet, index, table)
+}
+
+#[no_mangle]
+pub extern "C" fn rozhinal_post(
+    sheet: &[u8],
+    index: &[u8],
+    table: &mut [u8],
+    item: u64,
+    kind: u64,
+    number: i64,
+) -> Answer
+    ensures { λ r. ⌜ Answered (callOn (now (sheet .entry)) (now (index .entry)) (now (table .entry)) (calls.post item kind number)) r (now (table .exit)) ⌝ }
+{
+    engine::calls::post(sheet, index, table, item, kind, number)
+}
+
+#[no_mangle]
+pub extern "C" fn rozhinal_keep(sheet: &[u8], index: &[u8], table: &mut [u8], item: u64) -> Answer
+    ensures { λ r. ⌜ Answered (callOn (now (sheet .entry)) (now (index .entry)) (now (table .entry)) (calls.keep item)) r (now (table .exit)) ⌝ }
+{
+    engine::calls::keep(sheet, index, table, item)
+}
+
+#[no_mangle]
+pub extern "C" fn rozhinal_drop(sheet: &[u8], index: &[u8], table: &mut [u8], item: u64) -> Answer
+    ensures { λ r. ⌜ Answered (callOn (now (sheet .entry)) (now (index .entry)) (now (table .entry)) (calls.drop item)) r (now (table .exit)) ⌝ }
+{
+    engine::calls::drop_figure(sheet, index, table, item)
+}
+
+#[no_mangle]
+pub extern "C" fn rozhinal_step(sheet: &[u8], index: &[u8], table: &mut [u8], item: u64) -> Answer
+    ensures { λ r. ⌜ Answered (callOn (now (sheet .entry)) (now (index .entry)) (now (table .entry)) (calls.step item)) r (now (table .exit)) ⌝ }
+{
+    engine::calls::step(sheet, index, table, item)
+}
+
+#[no_mangle]
+pub extern "C" fn rozhinal_ask(sheet: &[u8], index: &[u8], table: &mut [u8], item: u64) -> Reading
+    ensures { λ r. ⌜ Read (callOn (now (sheet .entry)) (now (index .entry)) (now (table .entry)) (calls.ask item)) r (now (table .exit)) ⌝ }
+{
+    engine::calls::ask(sheet, index, table, item)
+}
+
+#[no_mangle]
+pub extern "C" fn rozhinal_print(kind: u64, number: i64, scratch: &mut [u8]) -> i64
+    ensures { λ r. ⌜ PrintsCode kind number (now (scratch .entry)) r (now (scratch .exit)) ⌝ }
+{
+    printer::print_code(kind, number, scratch)
+}
