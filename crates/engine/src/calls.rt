@@ -6,6 +6,7 @@ ghost use Prim.Native.Nat.{ℕ, _+_, _*_, _<_, _≤_};
 ghost use lib.ListN.{length};
 ghost use Rattle.circuit.specs.Sheet.{size, itemAt, isFigure};
 ghost use lib.Dec.{leb};
+ghost use lib.IntN.{pos};
 ghost use Rattle.circuit.specs.Table as circuit_table;
 ghost use Rattle.circuit.specs.Machine as machine;
 ghost use Rattle.circuit.specs.Calls as machine_calls;
@@ -17,7 +18,7 @@ ghost use Rattle.table.specs.Record.{width};
 ghost use Rattle.table.specs.Bytes.{encodeTable, decodeTable};
 ghost use Rattle.table.specs.Meaning.{markMeaning, cellMeaning};
 ghost use Rattle.office.specs.Office.{openOn, callOn};
-ghost use Rattle.engine.specs.Answers.{Answered, Opened, Left, wrongItem, openingBy, firstCell};
+ghost use Rattle.engine.specs.Answers.{Answered, Opened, Read, Reads, Left, LookedUp, wrongItem, openingBy, firstCell};
 ghost use Rattle.engine.specs.Entry.{Placing, callLent};
 ghost use Rattle.engine.specs.Pass.{Lent};
 use crate::enter;
@@ -352,5 +353,71 @@ pub fn step(sheet: &[u8], index: &[u8], table: &mut [u8], item: u64) -> Answer
     match enter::enter(sheet, index, table, &mut offsets, &mut levels) {
         Entry::Refused { number, offset } => give(number, offset),
         Entry::Items(n) => step_lent(sheet, &offsets, table, n, item),
+    }
+}
+
+// Steps until no item is marked.
+fn catch_up(sheet: &[u8], offsets: &[usize], table: &mut [u8], n: usize)
+    requires { ⌜ Lent (now sheet) (now offsets) (now table) ⌝ ∗ ⌜ n ≡ size (sheetOf (now sheet)) ⌝ }
+    ensures { λ _. ⌜ Left (now (sheet .entry)) (machine.catchUp (sheetOf (now (sheet .entry))) (decodeTable (now (table .entry)))) (now (table .exit)) ⌝ }
+{
+    let mut tags = [0u64; sheet::limits::ITEM_LIMIT];
+    let mut numbers = [0i64; sheet::limits::ITEM_LIMIT];
+    crate::step::catch_up(sheet, offsets, table, &mut tags, &mut numbers, n);
+}
+
+// Looks an item up, with a memo in which nothing is remembered.
+fn look_once(sheet: &[u8], offsets: &[usize], table: &mut [u8], i: usize) -> Value
+    requires { ⌜ Lent (now sheet) (now offsets) (now table) ⌝ ∗ ⌜ i < size (sheetOf (now sheet)) ⌝ }
+    ensures { λ r. ⌜ LookedUp (now (sheet .entry)) (machine.lookUp (sheetOf (now (sheet .entry))) (decodeTable (now (table .entry))) i) (meaning r) (now (table .exit)) ⌝ }
+{
+    let mut tags = [0u64; sheet::limits::ITEM_LIMIT];
+    let mut numbers = [0i64; sheet::limits::ITEM_LIMIT];
+    let seen = look::look_up(sheet, offsets, table, &mut tags, &mut numbers, 1, i);
+    seen.value
+}
+
+fn read_value(value: Value) -> Reading
+    ensures { λ r. ⌜ Reads (meaning value) r ⌝ }
+{
+    Reading {
+        number: 0,
+        offset: 0,
+        kind: value.kind() as u64,
+        value: value.number_or_zero(),
+    }
+}
+
+// The reading of a refused ask.
+fn refuse(number: u64, offset: usize) -> Reading
+    ensures { λ r. ⌜ (r .number ≡ number) × (r .offset ≡ offset) × (r .kind ≡ 0) × (r .value ≡ pos 0) ⌝ }
+{
+    Reading {
+        number,
+        offset: offset as u64,
+        kind: 0,
+        value: 0,
+    }
+}
+
+fn ask_lent(sheet: &[u8], offsets: &[usize], table: &mut [u8], n: usize, item: u64) -> Reading
+    requires { ⌜ Placing (now sheet) (now offsets) n ⌝ ∗ ⌜ Lent (now sheet) (now offsets) (now table) ⌝ }
+    ensures { λ r. ⌜ ((x : List ℕ) → Read (callLent (sheetOf (now (sheet .entry))) x (now (table .entry)) (machine_calls.ask item)) r (now (table .exit))) ⌝ }
+{
+    if item >= n as u64 {
+        return refuse(11, 0);
+    }
+    catch_up(sheet, offsets, table, n);
+    read_value(look_once(sheet, offsets, table, item as usize))
+}
+
+pub fn ask(sheet: &[u8], index: &[u8], table: &mut [u8], item: u64) -> Reading
+    ensures { λ r. ⌜ Read (callOn (now (sheet .entry)) (now (index .entry)) (now (table .entry)) (machine_calls.ask item)) r (now (table .exit)) ⌝ }
+{
+    let mut offsets = [0usize; sheet::limits::ITEM_LIMIT];
+    let mut levels = [0u8; sheet::limits::ITEM_LIMIT];
+    match enter::enter(sheet, index, table, &mut offsets, &mut levels) {
+        Entry::Refused { number, offset } => refuse(number, offset),
+        Entry::Items(n) => ask_lent(sheet, &offsets, table, n, item),
     }
 }

@@ -1,0 +1,55 @@
+-- `day_main::show_day` meets its contract: what is written is within the output bytes. Assumes nothing.
+use mathlib.Core.Path.{sym}
+use lib.Seq.{length-take-le}
+use borrow.Author.Needs.{needs}
+use Rattle.day_main.proofs.show_day.Statement.{statement}
+use Rattle.day_main.proofs.show_day.Tie as tie
+use Rattle.day_main.proofs.show_day.Reads as reads
+use Rattle.day_main.proofs.show_day.Lts as lts
+use Rattle.day.proofs.run.run_day.Reads as run-day-reads
+use Rattle.io.proofs.write_all.Reads as write-all-reads
+
+-- src/main.rt:21:9
+run-day-requires : tie.Need-run-day-requires
+run-day-requires c κs = search needs
+
+-- src/main.rt:22:34
+slice-reshare-prefix-write-all : tie.Need-slice-reshare-prefix-write-all
+slice-reshare-prefix-write-all c = search needs
+
+-- src/main.rt:22:34
+slice-aggregate-write-all : tie.Need-slice-aggregate-write-all
+slice-aggregate-write-all c = sym (length-take-le _ _ (slice-reshare-prefix-write-all (c .before)))
+
+-- src/main.rt:22:5
+write-all-requires : tie.Need-write-all-requires
+write-all-requires c κs = search needs
+
+-- src/main.rt:20:1
+same-length : tie.Need-same-length
+same-length c = search needs
+
+-- src/main.rt:20:1
+same-length-2 : tie.Need-same-length-2
+same-length-2 c = search needs
+
+-- src/main.rt:20:1
+same-length-3 : tie.Need-same-length-3
+same-length-3 c = search needs
+
+-- src/main.rt:20:1
+returns : tie.Need-returns
+returns c = search needs
+
+pub show-day-spec : {M : Type 1} → statement M
+show-day-spec =
+    tie.close
+    (tie.spec
+    run-day-requires
+    slice-reshare-prefix-write-all
+    slice-aggregate-write-all
+    write-all-requires
+    same-length
+    same-length-2
+    same-length-3
+    returns)
