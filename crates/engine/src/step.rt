@@ -16,10 +16,10 @@ ghost use Rattle.table.specs.Meaning.{markMeaning, cellMeaning};
 ghost use Rattle.engine.specs.Memo.{Memo, NoneFrom};
 ghost use Rattle.engine.specs.Pass.{Lent};
 ghost use Rattle.engine.specs.Stepping.{Moves, Ready, Renewable, Steps, toldBy};
-
 use crate::look;
 use item::Spread;
-use table::{Cell, Mark};
+use table::Cell;
+use table::Mark;
 use value::Value;
 
 // What a stored child does when it is told: it forgets its value, is to be refreshed, or is worked out anew.
@@ -105,7 +105,17 @@ fn tell_child(
                     table::store_cell(table, c, Cell::Held(value, Mark::Refresh));
                 }
                 Told::Renews => {
-                    renew(sheet, offsets, table, tags, numbers, generation, c, value, refresh_cleared(mark));
+                    renew(
+                        sheet,
+                        offsets,
+                        table,
+                        tags,
+                        numbers,
+                        generation,
+                        c,
+                        value,
+                        refresh_cleared(mark),
+                    );
                 }
             }
         }
@@ -207,7 +217,17 @@ pub fn step_item(
         Cell::Held(value, mark) => match mark {
             Mark::Unmarked => {}
             Mark::Refresh => {
-                renew(sheet, offsets, table, tags, numbers, generation, i, value, Mark::Unmarked);
+                renew(
+                    sheet,
+                    offsets,
+                    table,
+                    tags,
+                    numbers,
+                    generation,
+                    i,
+                    value,
+                    Mark::Unmarked,
+                );
             }
             Mark::Notice => {
                 tell_and_clear(sheet, offsets, table, tags, numbers, generation, n, i);

@@ -5,8 +5,8 @@ ghost use Rattle.circuit.specs.Offices.{bare, full};
 ghost use Rattle.office.specs.Office.{openOn, callOn};
 ghost use Rattle.engine.specs.Answers.{Answered, Opened, Read};
 ghost use Rattle.printer.specs.Contract.{PrintsCode};
-
-use engine::calls::{Answer, Reading};
+use engine::calls::Answer;
+use engine::calls::Reading;
 
 #[no_mangle]
 pub extern "C" fn rozhinal_open_bare(sheet: &[u8], index: &mut [u8], table: &mut [u8]) -> Answer

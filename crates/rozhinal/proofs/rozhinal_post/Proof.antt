@@ -1,0 +1,24 @@
+-- `rozhinal_post` gives what `post` gives: a signed number is passed on as its bits, and read back. Assumes nothing.
+use mathlib.Core.Path.{subst}
+use borrow.Author.Needs.{needs}
+use Rattle.circuit.specs.Calls.{post}
+use Rattle.value.proofs.Signed.{back}
+use Rattle.office.specs.Office.{callOn}
+use Rattle.engine.specs.Answers.{Answered}
+use Rattle.rozhinal.proofs.rozhinal_post.Statement.{statement}
+use Rattle.rozhinal.proofs.rozhinal_post.Tie as tie
+
+post-requires : tie.Need-post-requires
+post-requires c κs = search needs
+
+same-length : tie.Need-same-length
+same-length c = search needs
+
+returns : tie.Need-returns
+returns c =
+    let a = c .before .before .before .before .before .before .before .args in
+    subst (λ z. Answered (callOn (a .sheet .now) (a .index .now) (a .table .now) (post (a .item) (a .kind) z)) (c .before .before .post .result) (c .before .before .post .last .1 .1 .0))
+    (back (a .number) (search needs)) (c .before .before .post .ensures)
+
+pub rozhinal-post-spec : {M : Type 1} → statement M
+rozhinal-post-spec = tie.close (tie.spec post-requires same-length returns)
