@@ -19,10 +19,6 @@ EXAMPLE_HEADERS := include/rozhinal.h examples/sheet.h examples/book.h
 .PHONY: lib install examples
 
 define PROVE_LIBRARY
-@test -d crates/rozhinal || { \
-    echo "The library's crate, crates/rozhinal, does not exist yet: there is no proved archive to make." >&2; \
-    echo "ROZHINAL_LIB_DIR names the folder of another librozhinal.a (tests/gate makes one in target/tests/lib)." >&2; \
-    exit 1; }
 rt staticlib rozhinal
 endef
 
