@@ -11,7 +11,7 @@ use lib.ListN.{length, getD}
 use borrow.Author.Tests.{le-leb, lt-leb, leb-false}
 use Rattle.circuit.specs.Value.{Value}
 use Rattle.circuit.specs.Sheet.{Sheet, size}
-use Rattle.circuit.specs.Table.{Table, Cell, unk, isMarked}
+use Rattle.circuit.specs.Table.{Table, Cell, isMarked}
 use Rattle.circuit.specs.Machine.{lookUp, stepItem, catchUp}
 use Rattle.circuit.specs.Calls.{Call, step, ask, Test, test, firstCause, tests, effect, noItem, noMark}
 use Rattle.sheet.specs.Opened.{sheetOf}
@@ -111,10 +111,6 @@ refused-read s x t c k at e r a b d v =
 
 pub entered-read : (s x t t′ : List ℕ) (c : Call) (n : ℕ) → Items n ≡ entryOf s x t → (r : Reading) → Read (callLent (sheetOf s) x t c) r t′ → Read (callOn s x t c) r t′
 entered-read s x t t′ c n e r h = rw (entered s x t n e .call c) h
-
-pub marked-unk : (b : Bool) → b ≡ isMarked (unk b)
-marked-unk true = refl
-marked-unk false = refl
 
 -- arrays in which nothing is remembered
 pub fresh-ready : (s tags : List ℕ) (numbers : List ℤ) → length tags ≡ 1024 → length numbers ≡ 1024 → ((j : ℕ) → getD tags j 0 ≡ 0) → Ready s tags numbers 1

@@ -7,7 +7,6 @@ ghost use lib.ListN.{length};
 ghost use Rattle.circuit.specs.Sheet.{size, itemAt, isFigure};
 ghost use lib.Dec.{leb};
 ghost use lib.IntN.{pos};
-ghost use Rattle.circuit.specs.Table as circuit_table;
 ghost use Rattle.circuit.specs.Machine as machine;
 ghost use Rattle.circuit.specs.Calls as machine_calls;
 ghost use Rattle.circuit.specs.Calls.{firstCause, test, noItem};
@@ -24,6 +23,7 @@ ghost use Rattle.engine.specs.Pass.{Lent};
 use crate::enter;
 use crate::enter::Entry;
 use crate::look;
+use crate::step;
 use table::Cell;
 use table::Mark;
 use value::Parts;
@@ -289,25 +289,6 @@ pub fn keep(sheet: &[u8], index: &[u8], table: &mut [u8], item: u64) -> Answer
     }
 }
 
-fn marked(mark: Mark) -> bool
-    ensures { λ r. ⌜ r ≡ circuit_table.isMark (markMeaning mark) ⌝ }
-{
-    match mark {
-        Mark::Unmarked => false,
-        Mark::Refresh => true,
-        Mark::Notice => true,
-    }
-}
-
-fn is_marked(cell: Cell) -> bool
-    ensures { λ r. ⌜ r ≡ circuit_table.isMarked (cellMeaning cell) ⌝ }
-{
-    match cell {
-        Cell::Unk(noticed) => noticed,
-        Cell::Held(_, mark) => marked(mark),
-    }
-}
-
 // 11 where there is no such item, 14 where it has no mark; 0 otherwise.
 fn mark_cause(table: &[u8], n: usize, item: u64) -> u64
     requires { ⌜ length (now table) ≡ width * n ⌝ }
@@ -316,7 +297,7 @@ fn mark_cause(table: &[u8], n: usize, item: u64) -> u64
     if item >= n as u64 {
         return 11;
     }
-    if is_marked(table::read_cell(table, item as usize)) {
+    if step::is_marked(table::read_cell(table, item as usize)) {
         0
     } else {
         14
@@ -330,7 +311,7 @@ fn step_once(sheet: &[u8], offsets: &[usize], table: &mut [u8], n: usize, i: usi
 {
     let mut tags = [0u64; sheet::limits::ITEM_LIMIT];
     let mut numbers = [0i64; sheet::limits::ITEM_LIMIT];
-    crate::step::step_item(sheet, offsets, table, &mut tags, &mut numbers, 1, n, i);
+    step::step_item(sheet, offsets, table, &mut tags, &mut numbers, 1, n, i);
 }
 
 fn step_lent(sheet: &[u8], offsets: &[usize], table: &mut [u8], n: usize, item: u64) -> Answer
@@ -363,7 +344,7 @@ fn catch_up(sheet: &[u8], offsets: &[usize], table: &mut [u8], n: usize)
 {
     let mut tags = [0u64; sheet::limits::ITEM_LIMIT];
     let mut numbers = [0i64; sheet::limits::ITEM_LIMIT];
-    crate::step::catch_up(sheet, offsets, table, &mut tags, &mut numbers, n);
+    step::catch_up(sheet, offsets, table, &mut tags, &mut numbers, n);
 }
 
 // Looks an item up, with a memo in which nothing is remembered.

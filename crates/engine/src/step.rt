@@ -236,7 +236,8 @@ pub fn step_item(
     }
 }
 
-fn is_marked(cell: Cell) -> bool
+// Whether a cell carries notice or a refresh.
+pub fn is_marked(cell: Cell) -> bool
     ensures { λ r. ⌜ r ≡ isMarked (cellMeaning cell) ⌝ }
 {
     match cell {

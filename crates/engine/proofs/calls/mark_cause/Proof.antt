@@ -8,7 +8,7 @@ use Rattle.engine.proofs.calls.mark_cause.Statement.{statement}
 use Rattle.engine.proofs.calls.mark_cause.Tie as tie
 use Rattle.engine.proofs.calls.mark_cause.Reads as reads
 use Rattle.engine.proofs.calls.mark_cause.Lts as lts
-use Rattle.engine.proofs.calls.is_marked.Reads as is-marked-reads
+use Rattle.engine.proofs.step.is_marked.Reads as is-marked-reads
 use Rattle.table.proofs.read_cell.Reads as read-cell-reads
 
 -- src/calls.rt:317:9
