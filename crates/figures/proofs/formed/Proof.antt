@@ -4,11 +4,9 @@ use Rattle.figures.proofs.ThreeValues.{exact-formed}
 use Rattle.figures.proofs.formed.Statement.{statement}
 use Rattle.figures.proofs.formed.Tie as tie
 
--- /work/h-value/target/rlib/value.rlib/lang/src/lib.rt:23:43
 enum-told : tie.Need-enum-told
 enum-told c = search needs
 
--- /work/h-value/target/rlib/value.rlib/lang/src/lib.rt:24:42
 enum-told-2 : tie.Need-enum-told-2
 enum-told-2 c = search needs
 
