@@ -9,35 +9,27 @@ use Rattle.day_main.proofs.show_day.Lts as lts
 use Rattle.day.proofs.run.run_day.Reads as run-day-reads
 use Rattle.io.proofs.write_all.Reads as write-all-reads
 
--- src/main.rt:21:9
 run-day-requires : tie.Need-run-day-requires
 run-day-requires c κs = search needs
 
--- src/main.rt:22:34
 slice-reshare-prefix-write-all : tie.Need-slice-reshare-prefix-write-all
 slice-reshare-prefix-write-all c = search needs
 
--- src/main.rt:22:34
 slice-aggregate-write-all : tie.Need-slice-aggregate-write-all
 slice-aggregate-write-all c = sym (length-take-le _ _ (slice-reshare-prefix-write-all (c .before)))
 
--- src/main.rt:22:5
 write-all-requires : tie.Need-write-all-requires
 write-all-requires c κs = search needs
 
--- src/main.rt:20:1
 same-length : tie.Need-same-length
 same-length c = search needs
 
--- src/main.rt:20:1
 same-length-2 : tie.Need-same-length-2
 same-length-2 c = search needs
 
--- src/main.rt:20:1
 same-length-3 : tie.Need-same-length-3
 same-length-3 c = search needs
 
--- src/main.rt:20:1
 returns : tie.Need-returns
 returns c = search needs
 

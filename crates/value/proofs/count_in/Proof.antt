@@ -8,31 +8,25 @@ use Rattle.value.proofs.greater.Reads as greater-reads
 use Rattle.value.proofs.lesser.Reads as lesser-reads
 use Rattle.value.proofs.plus.Reads as plus-reads
 
--- src/lib.rt:305:9
 returns : tie.Need-returns
 returns c =
     let s = c .before .before .before .before in
     count-first (s .args .t) (s .args .n) (s .fits .n) (c .if1 .taken)
 
--- src/lib.rt:313:9
 plus-requires : tie.Need-plus-requires
 plus-requires c κs =
     let s = c .before .before .before .before in
     next-fits (s .args .t) (s .args .n) (s .pre .0) (s .pre .1) (search needs) (s .fits .n)
 
--- src/lib.rt:314:9
 lesser-requires : tie.Need-lesser-requires
 lesser-requires c κs = search needs
 
--- src/lib.rt:315:9
 greater-requires : tie.Need-greater-requires
 greater-requires c κs = search needs
 
--- src/lib.rt:318:16
 add-t12 : tie.Need-add-t12
 add-t12 c = search needs
 
--- src/lib.rt:295:1
 returns-2 : tie.Need-returns-2
 returns-2 c =
     let s = c .before .before .before .before .before .before .before in

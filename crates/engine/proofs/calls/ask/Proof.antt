@@ -13,52 +13,40 @@ use Rattle.engine.proofs.calls.ask_lent.Reads as ask-lent-reads
 use Rattle.engine.proofs.calls.refuse.Reads as refuse-reads
 use Rattle.engine.proofs.enter.enter.Reads as enter-reads
 
--- src/calls.rt:415:45
 slice-aggregate-enter : tie.Need-slice-aggregate-enter
 slice-aggregate-enter c = search needs
 
--- src/calls.rt:415:59
 slice-aggregate-enter-2 : tie.Need-slice-aggregate-enter-2
 slice-aggregate-enter-2 c = search needs
 
--- src/calls.rt:415:11
 enter-requires : tie.Need-enter-requires
 unfolding mostItems
 enter-requires c κs = search needs
 
--- src/calls.rt:416:26
 enum-known-number : tie.Need-enum-known-number
 enum-known-number c = search needs
 
--- src/calls.rt:416:46
 refuse-requires : tie.Need-refuse-requires
 refuse-requires c κs = search needs
 
--- src/calls.rt:417:22
 enum-known-n : tie.Need-enum-known-n
 enum-known-n c = search needs
 
--- src/calls.rt:417:44
 slice-aggregate-ask-lent : tie.Need-slice-aggregate-ask-lent
 slice-aggregate-ask-lent c = search needs
 
--- src/calls.rt:417:28
 ask-lent-requires : tie.Need-ask-lent-requires
 ask-lent-requires c κs = let a = c .before .before .before .before .before .before .before .before .before .before .before .before .before .before .args in let m = c .before .before .before .before .before .before .before .enter in let w = c .before .before .before .n .given in let e = sym (w .1) ∙ m .ensures .0 in let room = m .kept .1 .1 .1 .0 in (entered-placing (a .sheet .now) _ (w .0 .0) (entered (a .sheet .now) (a .index .now) (a .table .now) (w .0 .0) e .count-is) (m .ensures .1) (omega (arith, room)), entered-lent (a .sheet .now) (a .index .now) (a .table .now) _ (w .0 .0) e (m .ensures .1) (omega (arith, room)))
 
--- src/calls.rt:410:1
 same-length : tie.Need-same-length
 same-length c = search needs
 
--- src/calls.rt:410:1
 returns : tie.Need-returns
 returns c = let a = c .before .before .before .before .before .before .before .before .before .before .before .before .before .args in let m = c .before .before .before .before .before .before .enter in let w = c .before .before .number .given in let r = c .refuse in refused-read (a .sheet .now) (a .index .now) (a .table .now) (ask (a .item)) (w .0 .0) (w .0 .1 .0) (sym (w .1) ∙ m .ensures .0) (r .result) (r .ensures .0) (r .ensures .1) (r .ensures .2) (r .ensures .3)
 
--- src/calls.rt:410:1
 same-length-2 : tie.Need-same-length-2
 same-length-2 c = search needs
 
--- src/calls.rt:410:1
 returns-2 : tie.Need-returns-2
 returns-2 c = let a = c .before .before .before .before .before .before .before .before .before .before .before .before .before .before .before .before .before .args in let m = c .before .before .before .before .before .before .before .before .before .before .enter in let w = c .before .before .before .before .before .before .n .given in let e = sym (w .1) ∙ m .ensures .0 in entered-read (a .sheet .now) (a .index .now) (a .table .now) _ (ask (a .item)) (w .0 .0) e (c .before .before .ask-lent .result) (c .before .before .ask-lent .ensures (a .index .now))
 

@@ -11,31 +11,24 @@ use Rattle.engine.proofs.calls.look_once.Reads as look-once-reads
 use Rattle.engine.proofs.calls.read_value.Reads as read-value-reads
 use Rattle.engine.proofs.calls.refuse.Reads as refuse-reads
 
--- src/calls.rt:404:9
 refuse-requires : tie.Need-refuse-requires
 refuse-requires c κs = search needs
 
--- src/calls.rt:404:9
 returns : tie.Need-returns
 returns c = λ x. let a = c .before .before .before .before .before .args in let p = c .before .before .before .before .before .pre in let r = c .refuse in ask-refused (p .1) x (a .n) (a .item) (p .0 .count-is) (r .result) (c .before .if1 .taken) (r .ensures .0) (r .ensures .1) (r .ensures .2) (r .ensures .3)
 
--- src/calls.rt:406:5
 catch-up-requires : tie.Need-catch-up-requires
 catch-up-requires c κs = search needs
 
--- src/calls.rt:407:16
 look-once-requires : tie.Need-look-once-requires
 look-once-requires c κs = let a = c .before .before .before .before .before .before .before .before .before .args in let p = c .before .before .before .before .before .before .before .before .before .pre in let u = c .before .before .before .catch-up in (caught-lent (p .1) _ _ (u .kept .1 .1 .0) (u .ensures), omega (arith, p .0 .count-is, c .before .before .before .before .before .if1 .left))
 
--- src/calls.rt:407:5
 read-value-requires : tie.Need-read-value-requires
 read-value-requires c κs = search needs
 
--- src/calls.rt:399:1
 same-length : tie.Need-same-length
 same-length c = search needs
 
--- src/calls.rt:399:1
 returns-2 : tie.Need-returns-2
 returns-2 c = λ x. let a = c .before .before .before .before .before .before .before .before .before .before .before .before .before .args in let p = c .before .before .before .before .before .before .before .before .before .before .before .before .before .pre in let u = c .before .before .before .before .before .before .before .catch-up in let l = c .before .before .before .look-once in ask-done (p .1) x (a .n) (a .item) (p .0 .count-is) (c .read-value .result) (c .before .before .before .before .before .before .before .before .before .if1 .left) _ _ _ (λ j. c .before .slice-known3 .given j .fits) (l .kept .1 .1 .0 ∙ u .kept .1 .1 .0) (u .ensures) (l .ensures) (c .read-value .ensures)
 

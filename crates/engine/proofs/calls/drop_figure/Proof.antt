@@ -14,52 +14,40 @@ use Rattle.engine.proofs.calls.drop_lent.Reads as drop-lent-reads
 use Rattle.engine.proofs.calls.give.Reads as give-reads
 use Rattle.engine.proofs.enter.enter.Reads as enter-reads
 
--- src/calls.rt:181:45
 slice-aggregate-enter : tie.Need-slice-aggregate-enter
 slice-aggregate-enter c = search needs
 
--- src/calls.rt:181:59
 slice-aggregate-enter-2 : tie.Need-slice-aggregate-enter-2
 slice-aggregate-enter-2 c = search needs
 
--- src/calls.rt:181:11
 enter-requires : tie.Need-enter-requires
 unfolding mostItems
 enter-requires c κs = search needs
 
--- src/calls.rt:182:26
 enum-known-number : tie.Need-enum-known-number
 enum-known-number c = search needs
 
--- src/calls.rt:182:46
 give-requires : tie.Need-give-requires
 give-requires c κs = search needs
 
--- src/calls.rt:183:22
 enum-known-n : tie.Need-enum-known-n
 enum-known-n c = search needs
 
--- src/calls.rt:183:45
 slice-aggregate-drop-lent : tie.Need-slice-aggregate-drop-lent
 slice-aggregate-drop-lent c = search needs
 
--- src/calls.rt:183:28
 drop-lent-requires : tie.Need-drop-lent-requires
 drop-lent-requires c κs = let a = c .before .before .before .before .before .before .before .before .before .before .before .before .before .before .args in let m = c .before .before .before .before .before .before .before .enter in let w = c .before .before .before .n .given in let e = sym (w .1) ∙ m .ensures .0 in let room = m .kept .1 .1 .1 .0 in (entered-placing (a .sheet .now) _ (w .0 .0) (entered (a .sheet .now) (a .index .now) (a .table .now) (w .0 .0) e .count-is) (m .ensures .1) (omega (arith, room)), entered-lent (a .sheet .now) (a .index .now) (a .table .now) _ (w .0 .0) e (m .ensures .1) (omega (arith, room)))
 
--- src/calls.rt:176:1
 same-length : tie.Need-same-length
 same-length c = search needs
 
--- src/calls.rt:176:1
 returns : tie.Need-returns
 returns c = let a = c .before .before .before .before .before .before .before .before .before .before .before .before .before .args in let m = c .before .before .before .before .before .before .enter in let w = c .before .before .number .given in refused-whole (a .sheet .now) (a .index .now) (a .table .now) (drop (a .item)) (w .0 .0) (w .0 .1 .0) (sym (w .1) ∙ m .ensures .0) (c .give .result) (c .give .ensures .0) (c .give .ensures .1)
 
--- src/calls.rt:176:1
 same-length-2 : tie.Need-same-length-2
 same-length-2 c = search needs
 
--- src/calls.rt:176:1
 returns-2 : tie.Need-returns-2
 returns-2 c = let a = c .before .before .before .before .before .before .before .before .before .before .before .before .before .before .before .before .before .args in let m = c .before .before .before .before .before .before .before .before .before .before .enter in let w = c .before .before .before .before .before .before .n .given in let e = sym (w .1) ∙ m .ensures .0 in entered-whole (a .sheet .now) (a .index .now) (a .table .now) _ (drop (a .item)) (w .0 .0) e (c .before .before .drop-lent .result) (c .before .before .drop-lent .ensures (a .index .now))
 

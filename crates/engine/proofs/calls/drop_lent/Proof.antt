@@ -14,39 +14,30 @@ use Rattle.engine.proofs.calls.item_cause.Reads as item-cause-reads
 use Rattle.table.proofs.read_cell.Reads as read-cell-reads
 use Rattle.table.proofs.store_cell.Reads as store-cell-reads
 
--- src/calls.rt:159:9
 item-cause-requires : tie.Need-item-cause-requires
 item-cause-requires c κs = search needs
 
--- src/calls.rt:161:9
 give-requires : tie.Need-give-requires
 give-requires c κs = search needs
 
--- src/calls.rt:161:9
 returns : tie.Need-returns
 returns c = λ x. let a = c .before .before .before .before .before .before .args in let p = c .before .before .before .before .before .before .pre in let i = c .before .before .item-cause in drop-item (p .1) (slice-bytes (a .table .now) (c .before .before .before .slice-known .given)) x (a .item) (i .result) (i .ensures) (c .give .result) (c .give .ensures .1) (c .before .if1 .taken) (c .give .ensures .0)
 
--- src/calls.rt:164:29
 read-cell-requires : tie.Need-read-cell-requires
 read-cell-requires c κs = let a = c .before .before .before .before .before .before .args in let p = c .before .before .before .before .before .before .pre in let i = c .before .before .item-cause in cause-fits (a .sheet .now) (a .table .now) (a .item) (i .result) true (p .1 .length-is) (i .ensures) (c .before .if1 .left)
 
--- src/calls.rt:164:9
 dropped-cell-requires : tie.Need-dropped-cell-requires
 dropped-cell-requires c κs = search needs
 
--- src/calls.rt:165:5
 store-cell-requires : tie.Need-store-cell-requires
 store-cell-requires c κs = let a = c .before .before .before .before .before .before .before .before .before .args in let p = c .before .before .before .before .before .before .before .before .before .pre in let i = c .before .before .before .before .before .item-cause in cause-fits (a .sheet .now) (a .table .now) (a .item) (i .result) true (p .1 .length-is) (i .ensures) (c .before .before .before .before .if1 .left)
 
--- src/calls.rt:166:5
 give-requires-2 : tie.Need-give-requires-2
 give-requires-2 c κs = search needs
 
--- src/calls.rt:155:1
 same-length : tie.Need-same-length
 same-length c = search needs
 
--- src/calls.rt:155:1
 returns-2 : tie.Need-returns-2
 returns-2 c = λ x. let a = c .before .before .before .before .before .before .before .before .before .before .before .before .before .args in let p = c .before .before .before .before .before .before .before .before .before .before .before .before .before .pre in let i = c .before .before .before .before .before .before .before .before .before .item-cause in drop-stored (p .1) (slice-bytes (a .table .now) (c .before .before .before .before .before .before .before .before .before .before .slice-known .given)) x (a .item) (i .result) (i .ensures) (c .give2 .result) (c .give2 .ensures .1) (c .before .before .before .before .before .before .before .before .if1 .left) _ _ (c .before .before .before .before .before .dropped-cell .ensures ∙ ap Rattle.circuit.specs.Machine.dropCell (c .before .before .before .before .before .before .read-cell .ensures)) (c .before .before .before .store-cell .ensures) (c .give2 .ensures .0)
 

@@ -9,23 +9,18 @@ use Rattle.engine.proofs.calls.dropped_cell.Reads as reads
 use Rattle.engine.proofs.calls.dropped_cell.Lts as lts
 use Rattle.engine.proofs.calls.dropped_mark.Reads as dropped-mark-reads
 
--- src/calls.rt:112:19
 enum-known-cell : tie.Need-enum-known-cell
 enum-known-cell c = search needs
 
--- src/calls.rt:113:23
 enum-known-cell-2 : tie.Need-enum-known-cell-2
 enum-known-cell-2 c = search needs
 
--- src/calls.rt:113:42
 dropped-mark-requires : tie.Need-dropped-mark-requires
 dropped-mark-requires c κs = search needs
 
--- src/calls.rt:108:1
 returns : tie.Need-returns
 returns c = sym (ap (λ q. dropCell (cellMeaning q)) (c .before .cell .given .1))
 
--- src/calls.rt:108:1
 returns-2 : tie.Need-returns-2
 returns-2 c = ap unk (c .dropped-mark .ensures) ∙ sym (ap (λ q. dropCell (cellMeaning q)) (c .before .before .cell2 .given .1))
 

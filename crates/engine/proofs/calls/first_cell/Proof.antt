@@ -4,15 +4,12 @@ use Rattle.engine.proofs.calls.first_cell.Tie as tie
 use Rattle.engine.proofs.calls.first_cell.Reads as reads
 use Rattle.engine.proofs.calls.first_cell.Lts as lts
 
--- src/calls.rt:59:9
 returns : tie.Need-returns
 returns c = rw (c .if1 .taken)
 
--- src/calls.rt:55:1
 returns-2 : tie.Need-returns-2
 returns-2 c = search needs
 
--- src/calls.rt:55:1
 returns-3 : tie.Need-returns-3
 returns-3 c = rw (c .before .if1 .left, c .if2 .left)
 

@@ -11,35 +11,27 @@ use Rattle.engine.proofs.calls.item_cause.Reads as reads
 use Rattle.engine.proofs.calls.item_cause.Lts as lts
 use Rattle.item.proofs.is_figure.Reads as is-figure-reads
 
--- src/calls.rt:59:9
 returns : tie.Need-returns
 returns c = let a = c .before .before .before .args in cause-beyond (sheetOf (a .sheet .now)) (a .n) (a .item) (a .figures) (c .before .before .before .pre .count-is) (c .if1 .taken)
 
--- src/calls.rt:61:41
 mul-is-figure : tie.Need-mul-is-figure
 mul-is-figure c = search needs
 
--- src/calls.rt:61:41
 shared-slice-read-is-figure : tie.Need-shared-slice-read-is-figure
 shared-slice-read-is-figure c = search needs
 
--- src/calls.rt:61:9
 is-figure-requires : tie.Need-is-figure-requires
 is-figure-requires c κs = let a = c .before .before .before .before .args in let p = c .before .before .before .before .pre in located-field (a .sheet .now) (a .offsets .now) (p .located) (a .item) (omega (arith, p .count-is, c .before .if1 .left))
 
--- src/calls.rt:54:1
 returns-2 : tie.Need-returns-2
 returns-2 c = let a = c .before .before .before .before .before .before .before .args in let p = c .before .before .before .before .before .before .before .pre in let i = c .before .before .is-figure in let low = c .before .before .before .before .if1 .left in cause-within (sheetOf (a .sheet .now)) (a .n) (a .item) (a .figures) (p .count-is) (i .result) true true low (i .ensures ∙ ap Rattle.circuit.specs.Sheet.isFigure (located-item (a .sheet .now) (a .offsets .now) (p .located) (a .item) (omega (arith, p .count-is, low)))) (c .before .if2 .taken) (c .if3 .taken)
 
--- src/calls.rt:54:1
 returns-3 : tie.Need-returns-3
 returns-3 c = let a = c .before .before .before .before .before .before .before .args in let p = c .before .before .before .before .before .before .before .pre in let i = c .before .before .is-figure in let low = c .before .before .before .before .if1 .left in cause-within (sheetOf (a .sheet .now)) (a .n) (a .item) (a .figures) (p .count-is) (i .result) true false low (i .ensures ∙ ap Rattle.circuit.specs.Sheet.isFigure (located-item (a .sheet .now) (a .offsets .now) (p .located) (a .item) (omega (arith, p .count-is, low)))) (c .before .if2 .taken) (c .if3 .left)
 
--- src/calls.rt:54:1
 returns-4 : tie.Need-returns-4
 returns-4 c = let a = c .before .before .before .before .before .before .before .args in let p = c .before .before .before .before .before .before .before .pre in let i = c .before .before .is-figure in let low = c .before .before .before .before .if1 .left in cause-within (sheetOf (a .sheet .now)) (a .n) (a .item) (a .figures) (p .count-is) (i .result) false true low (i .ensures ∙ ap Rattle.circuit.specs.Sheet.isFigure (located-item (a .sheet .now) (a .offsets .now) (p .located) (a .item) (omega (arith, p .count-is, low)))) (c .before .if2 .left) (c .if4 .taken)
 
--- src/calls.rt:54:1
 returns-5 : tie.Need-returns-5
 returns-5 c = let a = c .before .before .before .before .before .before .before .args in let p = c .before .before .before .before .before .before .before .pre in let i = c .before .before .is-figure in let low = c .before .before .before .before .if1 .left in cause-within (sheetOf (a .sheet .now)) (a .n) (a .item) (a .figures) (p .count-is) (i .result) false false low (i .ensures ∙ ap Rattle.circuit.specs.Sheet.isFigure (located-item (a .sheet .now) (a .offsets .now) (p .located) (a .item) (omega (arith, p .count-is, low)))) (c .before .if2 .left) (c .if4 .left)
 

@@ -10,34 +10,27 @@ use Rattle.engine.proofs.calls.keep_cell.Lts as lts
 use Rattle.engine.proofs.calls.keep_new.Reads as keep-new-reads
 use Rattle.table.proofs.read_cell.Reads as read-cell-reads
 
--- src/calls.rt:266:11
 read-cell-requires : tie.Need-read-cell-requires
 read-cell-requires c κs = search needs
 
 enum-told : tie.Need-enum-told
 enum-told c = search needs
 
--- src/calls.rt:268:50
 enum-told-2 : tie.Need-enum-told-2
 enum-told-2 c = search needs
 
--- src/calls.rt:268:25
 keep-new-requires : tie.Need-keep-new-requires
 keep-new-requires c κs = search needs
 
--- src/calls.rt:262:1
 same-length : tie.Need-same-length
 same-length c = search needs
 
--- src/calls.rt:262:1
 returns : tie.Need-returns
 returns c = let a = c .before .before .before .before .before .before .before .args in let p = c .before .before .before .before .before .before .before .pre in kept-held (p .0) (a .i) (p .1 .0) _ _ (sym (c .before .before .read-cell .ensures) ∙ ap cellMeaning (c .enum-told .given .1))
 
--- src/calls.rt:262:1
 same-length-2 : tie.Need-same-length-2
 same-length-2 c = search needs
 
--- src/calls.rt:262:1
 returns-2 : tie.Need-returns-2
 returns-2 c = let a = c .before .before .before .before .before .before .before .before .before .before .before .args in let p = c .before .before .before .before .before .before .before .before .before .before .before .pre in kept-unk (p .0) (a .i) (p .1 .0) _ _ (sym (c .before .before .before .before .before .before .read-cell .ensures) ∙ ap cellMeaning (c .before .before .before .before .enum-told2 .given .1)) (c .before .before .keep-new .ensures)
 

@@ -11,31 +11,24 @@ use Rattle.engine.proofs.calls.give.Reads as give-reads
 use Rattle.engine.proofs.calls.item_cause.Reads as item-cause-reads
 use Rattle.engine.proofs.calls.keep_cell.Reads as keep-cell-reads
 
--- src/calls.rt:276:9
 item-cause-requires : tie.Need-item-cause-requires
 item-cause-requires c κs = search needs
 
--- src/calls.rt:278:9
 give-requires : tie.Need-give-requires
 give-requires c κs = search needs
 
--- src/calls.rt:278:9
 returns : tie.Need-returns
 returns c = λ x. let a = c .before .before .before .before .before .before .args in let p = c .before .before .before .before .before .before .pre in let i = c .before .before .item-cause in keep-item (p .1) x (a .item) (i .result) (i .ensures) (c .give .result) (c .give .ensures .1) (c .before .if1 .taken) (c .give .ensures .0)
 
--- src/calls.rt:280:5
 keep-cell-requires : tie.Need-keep-cell-requires
 keep-cell-requires c κs = let a = c .before .before .before .before .before .before .args in let p = c .before .before .before .before .before .before .pre in let i = c .before .before .item-cause in let q = cause-figure (sheetOf (a .sheet .now)) (a .item) (i .result) (i .ensures) (c .before .if1 .left) in (p .1, (q .0, q .1))
 
--- src/calls.rt:281:5
 give-requires-2 : tie.Need-give-requires-2
 give-requires-2 c κs = search needs
 
--- src/calls.rt:272:1
 same-length : tie.Need-same-length
 same-length c = search needs
 
--- src/calls.rt:272:1
 returns-2 : tie.Need-returns-2
 returns-2 c = λ x. let a = c .before .before .before .before .before .before .before .before .before .before .args in let p = c .before .before .before .before .before .before .before .before .before .before .pre in let i = c .before .before .before .before .before .before .item-cause in keep-done (p .1) x (a .item) (i .result) (i .ensures) (c .give2 .result) (c .give2 .ensures .1) (c .before .before .before .before .before .if1 .left) _ (λ j. c .before .slice-known2 .given j .fits) (c .before .before .before .keep-cell .kept .1 .1 .0) (c .before .before .before .keep-cell .ensures) (c .give2 .ensures .0)
 

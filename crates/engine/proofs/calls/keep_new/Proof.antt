@@ -16,31 +16,24 @@ use Rattle.engine.proofs.look.look_up.Reads as look-up-reads
 use Rattle.engine.proofs.look.notice_if.Reads as notice-if-reads
 use Rattle.table.proofs.store_cell.Reads as store-cell-reads
 
--- src/calls.rt:257:53
 slice-aggregate-look-up : tie.Need-slice-aggregate-look-up
 slice-aggregate-look-up c = search needs
 
--- src/calls.rt:257:64
 slice-aggregate-look-up-2 : tie.Need-slice-aggregate-look-up-2
 slice-aggregate-look-up-2 c = search needs
 
--- src/calls.rt:257:9
 look-up-requires : tie.Need-look-up-requires
 look-up-requires c κs = let a = c .before .before .before .before .before .before .args in let p = c .before .before .before .before .before .before .pre in (p .0, (fresh-memo (sheetOf (a .sheet .now)) (decodeTable (a .table .now)) _ _ (size-most (a .sheet .now)) refl refl (same-all 0 1024), p .1 .0))
 
--- src/calls.rt:259:51
 notice-if-requires : tie.Need-notice-if-requires
 notice-if-requires c κs = search needs
 
--- src/calls.rt:259:5
 store-cell-requires : tie.Need-store-cell-requires
 store-cell-requires c κs = search needs
 
--- src/calls.rt:251:1
 same-length : tie.Need-same-length
 same-length c = search needs
 
--- src/calls.rt:251:1
 returns : tie.Need-returns
 returns c = let a = c .before .before .before .before .before .before .before .before .before .before .before .before .before .before .before .before .before .args in let p = c .before .before .before .before .before .before .before .before .before .before .before .before .before .before .before .before .before .pre in let l = c .before .before .before .before .before .before .before .before .before .before .look-up in kept-stored (p .0) (a .i) (p .1 .0) (p .1 .1) (seenMeaning (l .result)) _ _ (l .ensures (a .i + 1) (omega arith)) (l .kept .1 .1 .0) (markMeaning (c .before .before .before .notice-if .result)) (c .before .before .before .notice-if .ensures) (c .before .before .store-cell .ensures)
 

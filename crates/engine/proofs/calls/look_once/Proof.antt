@@ -12,23 +12,18 @@ use Rattle.engine.proofs.calls.look_once.Reads as reads
 use Rattle.engine.proofs.calls.look_once.Lts as lts
 use Rattle.engine.proofs.look.look_up.Reads as look-up-reads
 
--- src/calls.rt:372:53
 slice-aggregate-look-up : tie.Need-slice-aggregate-look-up
 slice-aggregate-look-up c = search needs
 
--- src/calls.rt:372:64
 slice-aggregate-look-up-2 : tie.Need-slice-aggregate-look-up-2
 slice-aggregate-look-up-2 c = search needs
 
--- src/calls.rt:372:9
 look-up-requires : tie.Need-look-up-requires
 look-up-requires c κs = let a = c .before .before .before .before .before .before .args in let p = c .before .before .before .before .before .before .pre in (p .0, (fresh-memo (sheetOf (a .sheet .now)) (decodeTable (a .table .now)) _ _ (size-most (a .sheet .now)) refl refl (same-all 0 1024), p .1))
 
--- src/calls.rt:366:1
 same-length : tie.Need-same-length
 same-length c = search needs
 
--- src/calls.rt:366:1
 returns : tie.Need-returns
 returns c = let a = c .before .before .before .before .before .before .before .before .before .before .before .before .args in let l = c .before .before .before .before .before .look-up .ensures (a .i + 1) (omega arith) in record { value-is = l .value-is; table-is = l .table-is; formed = l .formed }
 

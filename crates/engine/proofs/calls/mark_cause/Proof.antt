@@ -11,23 +11,18 @@ use Rattle.engine.proofs.calls.mark_cause.Lts as lts
 use Rattle.engine.proofs.step.is_marked.Reads as is-marked-reads
 use Rattle.table.proofs.read_cell.Reads as read-cell-reads
 
--- src/calls.rt:317:9
 returns : tie.Need-returns
 returns c = let a = c .before .before .args in mark-beyond (decodeTable (a .table .now)) (a .n) (a .item) (c .if1 .taken)
 
--- src/calls.rt:319:18
 read-cell-requires : tie.Need-read-cell-requires
 read-cell-requires c κs = search needs
 
--- src/calls.rt:319:8
 is-marked-requires : tie.Need-is-marked-requires
 is-marked-requires c κs = search needs
 
--- src/calls.rt:312:1
 returns-2 : tie.Need-returns-2
 returns-2 c = let a = c .before .before .before .before .before .args in let m = c .before .is-marked in mark-within (decodeTable (a .table .now)) (a .n) (a .item) (m .result) true (c .before .before .before .if1 .left) (m .ensures ∙ ap isMarked (c .before .before .read-cell .ensures)) (c .if2 .taken)
 
--- src/calls.rt:312:1
 returns-3 : tie.Need-returns-3
 returns-3 c = let a = c .before .before .before .before .before .args in let m = c .before .is-marked in mark-within (decodeTable (a .table .now)) (a .n) (a .item) (m .result) false (c .before .before .before .if1 .left) (m .ensures ∙ ap isMarked (c .before .before .read-cell .ensures)) (c .if2 .left)
 

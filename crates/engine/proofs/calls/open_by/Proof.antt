@@ -14,64 +14,49 @@ use Rattle.engine.proofs.calls.write_table.Reads as write-table-reads
 use Rattle.engine.proofs.enter.measure.Reads as measure-reads
 use Rattle.item.proofs.write_index.Reads as write-index-reads
 
--- src/calls.rt:90:9
 slice-aggregate-measure : tie.Need-slice-aggregate-measure
 slice-aggregate-measure c = search needs
 
--- src/calls.rt:91:9
 slice-aggregate-measure-2 : tie.Need-slice-aggregate-measure-2
 slice-aggregate-measure-2 c = search needs
 
--- src/calls.rt:86:11
 measure-requires : tie.Need-measure-requires
 unfolding mostItems
 measure-requires c κs = search needs
 
--- src/calls.rt:93:26
 enum-known-number : tie.Need-enum-known-number
 enum-known-number c = search needs
 
--- src/calls.rt:93:46
 give-requires : tie.Need-give-requires
 give-requires c κs = search needs
 
--- src/calls.rt:94:22
 enum-known-n : tie.Need-enum-known-n
 enum-known-n c = search needs
 
--- src/calls.rt:95:31
 slice-aggregate-write-index : tie.Need-slice-aggregate-write-index
 slice-aggregate-write-index c = search needs
 
--- src/calls.rt:95:13
 write-index-requires : tie.Need-write-index-requires
 write-index-requires c κs = let a = c .before .before .before .before .before .before .before .before .before .before .before .before .before .args in let m = c .before .before .before .before .before .before .before .measure in let w = c .before .before .before .n .given in let e = sym (w .1) ∙ m .ensures .0 in let g = measured (a .sheet .now) (a .index .now) (a .table .now) (w .0 .0) e in (omega (arith, g .count-is, size-most (a .sheet .now), m .kept .1 .1 .1 .0), g .index-length)
 
--- src/calls.rt:96:32
 slice-aggregate-write-table : tie.Need-slice-aggregate-write-table
 slice-aggregate-write-table c = search needs
 
--- src/calls.rt:96:13
 write-table-requires : tie.Need-write-table-requires
 write-table-requires c κs = let a = c .before .before .before .before .before .before .before .before .before .before .before .before .before .before .before .before .before .before .args in let m = c .before .before .before .before .before .before .before .before .before .before .before .before .measure in let w = c .before .before .before .before .before .before .before .before .n .given in let e = sym (w .1) ∙ m .ensures .0 in let g = measured (a .sheet .now) (a .index .now) (a .table .now) (w .0 .0) e in (entered-placing (a .sheet .now) _ (w .0 .0) (g .count-is) (m .ensures .1) (omega (arith, m .kept .1 .1 .1 .0)), g .table-length)
 
--- src/calls.rt:97:13
 give-requires-2 : tie.Need-give-requires-2
 give-requires-2 c κs = search needs
 
--- src/calls.rt:81:1
 returns : tie.Need-returns
 returns c = let a = c .before .before .before .before .before .before .before .before .before .before .before .before .args in let m = c .before .before .before .before .before .before .measure in let w = c .before .before .number .given in opened-refused (a .filled) (a .sheet .now) (a .index .now) (a .table .now) (w .0 .0) (w .0 .1 .0) (sym (w .1) ∙ m .ensures .0) (c .give .result) (c .give .ensures .0) (c .give .ensures .1)
 
--- src/calls.rt:81:1
 same-length : tie.Need-same-length
 same-length c = search needs
 
--- src/calls.rt:81:1
 same-length-2 : tie.Need-same-length-2
 same-length-2 c = search needs
 
--- src/calls.rt:81:1
 returns-2 : tie.Need-returns-2
 returns-2 c = let a = c .before .before .before .before .before .before .before .before .before .before .before .before .before .before .before .before .before .before .before .before .before .before .args in let m = c .before .before .before .before .before .before .before .before .before .before .before .before .before .before .before .before .measure in let w = c .before .before .before .before .before .before .before .before .before .before .before .before .n .given in let e = sym (w .1) ∙ m .ensures .0 in opened-written (a .filled) (a .sheet .now) (a .index .now) (a .table .now) _ _ _ (w .0 .0) e (m .ensures .1) (c .before .before .before .before .before .before .before .before .write-index .ensures) (c .before .before .before .write-table .ensures) (c .give2 .result) (c .give2 .ensures .0) (c .give2 .ensures .1)
 

@@ -10,16 +10,13 @@ use Rattle.engine.proofs.calls.posted.Reads as reads
 use Rattle.engine.proofs.calls.posted.Lts as lts
 use Rattle.value.proofs.Value.from_parts.Reads as from-parts-reads
 
--- src/calls.rt:76:9
 from-parts-requires : tie.Need-from-parts-requires
 from-parts-requires c κs = search needs
 
--- src/calls.rt:70:1
 returns : tie.Need-returns
 unfolding postedValue
 returns c = rw (c .if1 .taken)
 
--- src/calls.rt:70:1
 returns-2 : tie.Need-returns-2
 returns-2 c = let s = c .before .before in posted-other (s .args .kind) (s .args .number) _ (c .before .if1 .left) (c .from-parts .ensures ∙ ap (partsOf (s .args .kind)) (back (s .args .number) (s .fits .number)))
 

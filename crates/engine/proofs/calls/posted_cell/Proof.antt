@@ -9,27 +9,21 @@ use Rattle.engine.proofs.calls.posted_cell.Reads as reads
 use Rattle.engine.proofs.calls.posted_cell.Lts as lts
 use Rattle.value.proofs.Value.same.Reads as same-reads
 
--- src/calls.rt:85:43
 enum-told : tie.Need-enum-told
 enum-told c = search needs
 
--- src/calls.rt:86:20
 enum-known-cell : tie.Need-enum-known-cell
 enum-known-cell c = search needs
 
--- src/calls.rt:87:16
 same-requires : tie.Need-same-requires
 same-requires c κs = search needs
 
--- src/calls.rt:81:1
 returns : tie.Need-returns
 returns c = let a = c .before .before .args in sym (ap (λ q. postCell (cellMeaning q) (meaning (a .value))) (c .enum-told .given .1))
 
--- src/calls.rt:81:1
 returns-2 : tie.Need-returns-2
 returns-2 c = let a = c .before .before .before .before .before .args in let e = c .before .before .before .cell .given in sym (ap (λ q. postCell (cellMeaning q) (meaning (a .value))) (e .1) ∙ rw (sym (c .before .same .ensures) ∙ c .if1 .taken))
 
--- src/calls.rt:81:1
 returns-3 : tie.Need-returns-3
 returns-3 c = let a = c .before .before .before .before .before .args in let e = c .before .before .before .cell .given in sym (ap (λ q. postCell (cellMeaning q) (meaning (a .value))) (e .1) ∙ rw (sym (c .before .same .ensures) ∙ c .if1 .left))
 

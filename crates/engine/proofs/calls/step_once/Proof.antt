@@ -8,23 +8,18 @@ use Rattle.engine.proofs.calls.step_once.Reads as reads
 use Rattle.engine.proofs.calls.step_once.Lts as lts
 use Rattle.engine.proofs.step.step_item.Reads as step-item-reads
 
--- src/calls.rt:333:51
 slice-aggregate-step-item : tie.Need-slice-aggregate-step-item
 slice-aggregate-step-item c = search needs
 
--- src/calls.rt:333:62
 slice-aggregate-step-item-2 : tie.Need-slice-aggregate-step-item-2
 slice-aggregate-step-item-2 c = search needs
 
--- src/calls.rt:333:5
 step-item-requires : tie.Need-step-item-requires
 step-item-requires c κs = let a = c .before .before .before .before .before .before .args in let p = c .before .before .before .before .before .before .pre in (p .0, (fresh-ready (a .sheet .now) _ _ refl refl (same-all 0 1024), (p .1 .0, p .1 .1)))
 
--- src/calls.rt:327:1
 same-length : tie.Need-same-length
 same-length c = search needs
 
--- src/calls.rt:327:1
 returns : tie.Need-returns
 returns c = search needs
 

@@ -22,47 +22,36 @@ Inv-loop sheet offsets n table₀ filled k₀ table k = (k ≤ n) × (length tab
 abbrev μ-loop : tie.MeasureT-loop
 μ-loop sheet offsets n table₀ filled k₀ table k = n - k
 
--- src/calls.rt:74:5
 loop-holds : tie.Need-loop-holds Inv-loop μ-loop
 loop-holds c = (omega arith, c .before .before .before .pre .1, λ i h. absurd (omega arith))
 
--- src/calls.rt:75:45
 mul-is-figure : tie.Need-mul-is-figure Inv-loop μ-loop
 mul-is-figure c = search needs
 
--- src/calls.rt:75:45
 shared-slice-read-is-figure : tie.Need-shared-slice-read-is-figure Inv-loop μ-loop
 shared-slice-read-is-figure c = search needs
 
--- src/calls.rt:75:13
 is-figure-requires : tie.Need-is-figure-requires Inv-loop μ-loop
 is-figure-requires c κs = let a = c .before .before .before .before .before .before .args in let p = c .before .before .before .before .before .before .pre .0 in located-field (a .sheet .now) (a .offsets .now) (p .located) (c .before .before .loop .k) (omega (arith, p .count-is, c .before .loop-test .taken))
 
--- src/calls.rt:76:37
 first-cell-requires : tie.Need-first-cell-requires Inv-loop μ-loop
 first-cell-requires c κs = search needs
 
--- src/calls.rt:76:9
 store-cell-requires : tie.Need-store-cell-requires Inv-loop μ-loop
 store-cell-requires c κs = omega (arith, c .before .before .before .before .before .loop .inv .1)
 
--- src/calls.rt:77:9
 add-k : tie.Need-add-k Inv-loop μ-loop
 add-k c = search needs
 
--- src/calls.rt:74:5
 loop-less : tie.Need-loop-less Inv-loop μ-loop
 loop-less c = omega arith
 
--- src/calls.rt:74:5
 loop-again : tie.Need-loop-again Inv-loop μ-loop
 loop-again c = let a = c .before .before .before .before .before .before .before .before .before .before .before .before .args in let p = c .before .before .before .before .before .before .before .before .before .before .before .before .pre .0 in let l = c .before .before .before .before .before .before .before .before .loop in let low = c .before .before .before .before .before .before .before .loop-test .taken in (omega arith, omega (arith, l .inv .1, c .before .before .store-cell .kept .0), written-next (a .sheet .now) (a .offsets .now) (l .table) _ (p .located) (l .k) (omega (arith, p .count-is, low)) (a .filled) (c .before .before .before .before .before .is-figure .result) _ (c .before .before .before .before .before .is-figure .ensures) (c .before .before .before .first-cell .ensures) (c .before .before .store-cell .ensures) (omega (arith, l .inv .1, low)) (l .inv .2))
 
--- src/calls.rt:69:1
 same-length : tie.Need-same-length Inv-loop μ-loop
 same-length c = search needs
 
--- src/calls.rt:69:1
 returns : tie.Need-returns Inv-loop μ-loop
 returns c = let a = c .before .before .before .before .before .args in let p = c .before .before .before .before .before .pre .0 in let l = c .before .loop in written-done (a .sheet .now) (l .table) (a .filled) (a .n) (l .k) (p .count-is) (l .inv .1) (c .loop-test .left) (l .inv .2)
 

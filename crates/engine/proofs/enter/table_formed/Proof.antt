@@ -22,44 +22,34 @@ Inv-loop sheet offsets n table k₀ k = (k ≤ n) × (allBelow (recordInForm (sh
 abbrev μ-loop : tie.MeasureT-loop
 μ-loop sheet offsets n table k₀ k = n - k
 
--- src/enter.rt:57:5
 loop-holds : tie.Need-loop-holds Inv-loop μ-loop
 unfolding allBelow
 loop-holds c = (omega arith, refl)
 
--- src/enter.rt:58:45
 mul-is-figure : tie.Need-mul-is-figure Inv-loop μ-loop
 mul-is-figure c = search needs
 
--- src/enter.rt:58:45
 shared-slice-read-is-figure : tie.Need-shared-slice-read-is-figure Inv-loop μ-loop
 shared-slice-read-is-figure c = search needs
 
--- src/enter.rt:58:13
 is-figure-requires : tie.Need-is-figure-requires Inv-loop μ-loop
 is-figure-requires c κs = let a = c .before .before .before .before .before .before .args in let p = c .before .before .before .before .before .before .pre .0 in located-field (a .sheet .now) (a .offsets .now) (p .located) (c .before .before .loop .k) (omega (arith, p .count-is, c .before .loop-test .taken))
 
--- src/enter.rt:59:13
 record-formed-requires : tie.Need-record-formed-requires Inv-loop μ-loop
 record-formed-requires c κs = omega arith
 
--- src/enter.rt:60:13
 returns : tie.Need-returns Inv-loop μ-loop
 returns c = let a = c .before .before .before .before .before .before .before .before .before .args in let p = c .before .before .before .before .before .before .before .before .before .pre .0 in let l = c .before .before .before .before .before .loop in unformed-record (a .sheet .now) (a .offsets .now) (a .table .now) (p .located) (l .k) (omega (arith, p .count-is, c .before .before .before .before .loop-test .taken)) (c .before .before .is-figure .result) (c .before .record-formed .result) (c .before .before .is-figure .ensures) (c .before .record-formed .ensures) (not-true _ (c .if1 .taken))
 
--- src/enter.rt:62:9
 add-k : tie.Need-add-k Inv-loop μ-loop
 add-k c = search needs
 
--- src/enter.rt:57:5
 loop-less : tie.Need-loop-less Inv-loop μ-loop
 loop-less c = omega arith
 
--- src/enter.rt:57:5
 loop-again : tie.Need-loop-again Inv-loop μ-loop
 loop-again c = let a = c .before .before .before .before .before .before .before .before .before .args in let p = c .before .before .before .before .before .before .before .before .before .pre .0 in let l = c .before .before .before .before .before .loop in (omega arith, formed-record (a .sheet .now) (a .offsets .now) (a .table .now) (p .located) (l .k) (omega (arith, p .count-is, c .before .before .before .before .loop-test .taken)) (c .before .before .is-figure .result) (c .before .record-formed .result) (c .before .before .is-figure .ensures) (c .before .record-formed .ensures) (not-false _ (c .if1 .left)) (l .inv .1))
 
--- src/enter.rt:52:1
 returns-2 : tie.Need-returns-2 Inv-loop μ-loop
 returns-2 c = let a = c .before .before .before .before .before .args in let p = c .before .before .before .before .before .pre .0 in let l = c .before .loop in formed-done (sheetOf (a .sheet .now)) (a .table .now) (l .k) (omega (arith, p .count-is, l .inv .0, c .loop-test .left)) (l .inv .1)
 

@@ -49,7 +49,6 @@ abbrev work-out-below : ℕ → In 5 work-out-kinds.ps
 work-out-below t =
     and 5 work-out-kinds.ps (falls 5 work-out-kinds.ps _<_ μ-work-out t) work-out.Pre
 
--- src/look.rt:82:11
 look-up-read-cell-requires : (t : ℕ) → look-up-lts.Need-read-cell-requires (
   read-cell-reads.Asked,
   read-cell-reads.Learnt,
@@ -66,7 +65,6 @@ look-up-read-cell-requires : (t : ℕ) → look-up-lts.Need-read-cell-requires (
 ) (look-up-at t) look-up.Post
 look-up-read-cell-requires t c κs = search needs
 
--- src/look.rt:83:20
 look-up-enum-known-value : (t : ℕ) → look-up-lts.Need-enum-known-value (
   read-cell-reads.Asked,
   read-cell-reads.Learnt,
@@ -83,7 +81,6 @@ look-up-enum-known-value : (t : ℕ) → look-up-lts.Need-enum-known-value (
 ) (look-up-at t) look-up.Post
 look-up-enum-known-value t c = search needs
 
--- src/look.rt:85:19
 look-up-is-notice-requires : (t : ℕ) → look-up-lts.Need-is-notice-requires (
   read-cell-reads.Asked,
   read-cell-reads.Learnt,
@@ -100,7 +97,6 @@ look-up-is-notice-requires : (t : ℕ) → look-up-lts.Need-is-notice-requires (
 ) (look-up-at t) look-up.Post
 look-up-is-notice-requires t c κs = search needs
 
--- src/look.rt:87:19
 look-up-enum-known-noticed : (t : ℕ) → look-up-lts.Need-enum-known-noticed (
   read-cell-reads.Asked,
   read-cell-reads.Learnt,
@@ -117,7 +113,6 @@ look-up-enum-known-noticed : (t : ℕ) → look-up-lts.Need-enum-known-noticed (
 ) (look-up-at t) look-up.Post
 look-up-enum-known-noticed t c = search needs
 
--- src/look.rt:87:37
 look-up-recalled-requires : (t : ℕ) → look-up-lts.Need-recalled-requires (
   read-cell-reads.Asked,
   read-cell-reads.Learnt,
@@ -134,7 +129,6 @@ look-up-recalled-requires : (t : ℕ) → look-up-lts.Need-recalled-requires (
 ) (look-up-at t) look-up.Post
 look-up-recalled-requires t c κs = search needs
 
--- src/look.rt:88:27
 look-up-enum-known-seen : (t : ℕ) → look-up-lts.Need-enum-known-seen (
   read-cell-reads.Asked,
   read-cell-reads.Learnt,
@@ -151,7 +145,6 @@ look-up-enum-known-seen : (t : ℕ) → look-up-lts.Need-enum-known-seen (
 ) (look-up-at t) look-up.Post
 look-up-enum-known-seen t c = search needs
 
--- src/look.rt:90:49
 look-up-enum-told : (t : ℕ) → look-up-lts.Need-enum-told (
   read-cell-reads.Asked,
   read-cell-reads.Learnt,
@@ -168,7 +161,6 @@ look-up-enum-told : (t : ℕ) → look-up-lts.Need-enum-told (
 ) (look-up-at t) look-up.Post
 look-up-enum-told t c = search needs
 
--- src/look.rt:90:49
 look-up-mul-is-kept : (t : ℕ) → look-up-lts.Need-mul-is-kept (
   read-cell-reads.Asked,
   read-cell-reads.Learnt,
@@ -185,7 +177,6 @@ look-up-mul-is-kept : (t : ℕ) → look-up-lts.Need-mul-is-kept (
 ) (look-up-at t) look-up.Post
 look-up-mul-is-kept t c = let q = c .before .before .before .before .before .before .before .before .before .before .before .before .before .before .pre .1 in let a = c .before .before .before .before .before .before .before .before .before .before .before .before .before .before .args in record { fits = omega (arith, size-most (a .sheet .now), q .1 .1) }
 
--- src/look.rt:90:49
 look-up-shared-slice-read-is-kept : (t : ℕ) → look-up-lts.Need-shared-slice-read-is-kept (
   read-cell-reads.Asked,
   read-cell-reads.Learnt,
@@ -202,7 +193,6 @@ look-up-shared-slice-read-is-kept : (t : ℕ) → look-up-lts.Need-shared-slice-
 ) (look-up-at t) look-up.Post
 look-up-shared-slice-read-is-kept t c = let q = c .before .before .before .before .before .before .before .before .before .before .before .before .before .before .before .pre .1 in let a = c .before .before .before .before .before .before .before .before .before .before .before .before .before .before .before .args in omega (arith, q .0 .room, q .1 .1)
 
--- src/look.rt:90:21
 look-up-is-kept-requires : (t : ℕ) → look-up-lts.Need-is-kept-requires (
   read-cell-reads.Asked,
   read-cell-reads.Learnt,
@@ -219,7 +209,6 @@ look-up-is-kept-requires : (t : ℕ) → look-up-lts.Need-is-kept-requires (
 ) (look-up-at t) look-up.Post
 look-up-is-kept-requires t c κs = let q = c .before .before .before .before .before .before .before .before .before .before .before .before .before .before .before .pre .1 in let a = c .before .before .before .before .before .before .before .before .before .before .before .before .before .before .before .args in located-field (a .sheet .now) (a .offsets .now) (q .0 .located) (a .i) (q .1 .1)
 
--- src/look.rt:91:21
 look-up-work-out-requires : (t : ℕ) → look-up-lts.Need-work-out-requires (
   read-cell-reads.Asked,
   read-cell-reads.Learnt,
@@ -236,7 +225,6 @@ look-up-work-out-requires : (t : ℕ) → look-up-lts.Need-work-out-requires (
 ) (look-up-at t) look-up.Post
 look-up-work-out-requires t c κs = let q = c .before .before .before .before .before .before .before .before .before .before .before .before .before .before .before .before .before .before .before .pre .1 in let a = c .before .before .before .before .before .before .before .before .before .before .before .before .before .before .before .before .before .before .before .args in (omega (arith, c .before .before .before .before .before .before .before .before .before .before .before .before .before .before .before .before .before .before .before .pre .0), (q .0, (q .1 .0, (q .1 .1, worked-figure (q .0) (q .1 .1) (q .1 .0) _ (c .before .before .before .before .before .before .before .before .before .before .before .before .before .read-cell .ensures) _ (c .before .before .before .before .before .before .before .before .before .before .before .noticed .given .1)))))
 
--- src/look.rt:92:17
 look-up-settle-requires : (t : ℕ) → look-up-lts.Need-settle-requires (
   read-cell-reads.Asked,
   read-cell-reads.Learnt,
@@ -253,7 +241,6 @@ look-up-settle-requires : (t : ℕ) → look-up-lts.Need-settle-requires (
 ) (look-up-at t) look-up.Post
 look-up-settle-requires t c κs = let q = c .before .before .before .before .before .before .before .before .before .before .before .before .before .before .before .before .before .before .before .before .before .before .before .before .before .before .before .before .pre .1 in let a = c .before .before .before .before .before .before .before .before .before .before .before .before .before .before .before .before .before .before .before .before .before .before .before .before .before .before .before .before .args in let w = c .before .before .before .before .before .before .before .before .work-out in let m = w .ensures (a .i) (omega arith) .memo in (omega (arith, lent-fits (q .0) (a .i) (q .1 .1), w .kept .1 .1 .0), (omega (arith, m .tag-room, q .1 .1), (omega (arith, m .number-room, q .1 .1), q .1 .0 .generations)))
 
--- src/look.rt:70:1
 look-up-same-length : (t : ℕ) → look-up-lts.Need-same-length (
   read-cell-reads.Asked,
   read-cell-reads.Learnt,
@@ -270,7 +257,6 @@ look-up-same-length : (t : ℕ) → look-up-lts.Need-same-length (
 ) (look-up-at t) look-up.Post
 look-up-same-length t c = search needs
 
--- src/look.rt:70:1
 look-up-returns : (t : ℕ) → look-up-lts.Need-returns (
   read-cell-reads.Asked,
   read-cell-reads.Learnt,
@@ -287,7 +273,6 @@ look-up-returns : (t : ℕ) → look-up-lts.Need-returns (
 ) (look-up-at t) look-up.Post
 look-up-returns t c = let q = c .before .before .before .before .before .before .before .before .before .before .pre .1 in let a = c .before .before .before .before .before .before .before .before .before .before .args in let g = c .before .before .value .given in stored-returns (q .0) (q .1 .1) (q .1 .0) _ (c .before .before .before .before .read-cell .ensures) _ _ (g .1) _ (c .is-notice .ensures)
 
--- src/look.rt:70:1
 look-up-same-length-2 : (t : ℕ) → look-up-lts.Need-same-length-2 (
   read-cell-reads.Asked,
   read-cell-reads.Learnt,
@@ -304,7 +289,6 @@ look-up-same-length-2 : (t : ℕ) → look-up-lts.Need-same-length-2 (
 ) (look-up-at t) look-up.Post
 look-up-same-length-2 t c = search needs
 
--- src/look.rt:70:1
 look-up-same-length-3 : (t : ℕ) → look-up-lts.Need-same-length-3 (
   read-cell-reads.Asked,
   read-cell-reads.Learnt,
@@ -321,7 +305,6 @@ look-up-same-length-3 : (t : ℕ) → look-up-lts.Need-same-length-3 (
 ) (look-up-at t) look-up.Post
 look-up-same-length-3 t c = search needs
 
--- src/look.rt:70:1
 look-up-same-length-4 : (t : ℕ) → look-up-lts.Need-same-length-4 (
   read-cell-reads.Asked,
   read-cell-reads.Learnt,
@@ -338,7 +321,6 @@ look-up-same-length-4 : (t : ℕ) → look-up-lts.Need-same-length-4 (
 ) (look-up-at t) look-up.Post
 look-up-same-length-4 t c = search needs
 
--- src/look.rt:70:1
 look-up-returns-2 : (t : ℕ) → look-up-lts.Need-returns-2 (
   read-cell-reads.Asked,
   read-cell-reads.Learnt,
@@ -355,7 +337,6 @@ look-up-returns-2 : (t : ℕ) → look-up-lts.Need-returns-2 (
 ) (look-up-at t) look-up.Post
 look-up-returns-2 t c = let q = c .before .before .before .before .before .before .before .before .before .before .before .before .before .before .before .pre .1 in let a = c .before .before .before .before .before .before .before .before .before .before .before .before .before .before .before .args in recalled-returns (q .0) (q .1 .1) (q .1 .0) (c .before .before .before .before .before .before .before .before .before .read-cell .result) (c .before .before .before .before .before .before .before .before .before .read-cell .ensures) _ (c .before .before .before .recalled .ensures) _ (c .before .seen .given .1)
 
--- src/look.rt:70:1
 look-up-same-length-5 : (t : ℕ) → look-up-lts.Need-same-length-5 (
   read-cell-reads.Asked,
   read-cell-reads.Learnt,
@@ -372,7 +353,6 @@ look-up-same-length-5 : (t : ℕ) → look-up-lts.Need-same-length-5 (
 ) (look-up-at t) look-up.Post
 look-up-same-length-5 t c = search needs
 
--- src/look.rt:70:1
 look-up-same-length-6 : (t : ℕ) → look-up-lts.Need-same-length-6 (
   read-cell-reads.Asked,
   read-cell-reads.Learnt,
@@ -389,7 +369,6 @@ look-up-same-length-6 : (t : ℕ) → look-up-lts.Need-same-length-6 (
 ) (look-up-at t) look-up.Post
 look-up-same-length-6 t c = search needs
 
--- src/look.rt:70:1
 look-up-same-length-7 : (t : ℕ) → look-up-lts.Need-same-length-7 (
   read-cell-reads.Asked,
   read-cell-reads.Learnt,
@@ -406,7 +385,6 @@ look-up-same-length-7 : (t : ℕ) → look-up-lts.Need-same-length-7 (
 ) (look-up-at t) look-up.Post
 look-up-same-length-7 t c = search needs
 
--- src/look.rt:70:1
 look-up-returns-3 : (t : ℕ) → look-up-lts.Need-returns-3 (
   read-cell-reads.Asked,
   read-cell-reads.Learnt,
@@ -431,7 +409,6 @@ abbrev work-out-μ-loop : work-out-lts.MeasureT-loop
 work-out-μ-loop sheet offsets table₀ tags₀ numbers₀ generation i at count kinds₀ amounts₀ flag₀ k₀ table tags numbers kinds amounts flag k =
     count - k
 
--- src/look.rt:111:14
 work-out-mul-at : (t : ℕ) → work-out-lts.Need-mul-at (
   parent-count-reads.Asked,
   parent-count-reads.Learnt,
@@ -452,7 +429,6 @@ work-out-mul-at : (t : ℕ) → work-out-lts.Need-mul-at (
 ) (work-out-at t) work-out.Post work-out-Inv-loop work-out-μ-loop
 work-out-mul-at t c = search needs
 
--- src/look.rt:111:14
 work-out-shared-slice-read-at : (t : ℕ) → work-out-lts.Need-shared-slice-read-at (
   parent-count-reads.Asked,
   parent-count-reads.Learnt,
@@ -473,7 +449,6 @@ work-out-shared-slice-read-at : (t : ℕ) → work-out-lts.Need-shared-slice-rea
 ) (work-out-at t) work-out.Post work-out-Inv-loop work-out-μ-loop
 work-out-shared-slice-read-at t c = search needs
 
--- src/look.rt:112:9
 work-out-parent-count-requires : (t : ℕ) → work-out-lts.Need-parent-count-requires (
   parent-count-reads.Asked,
   parent-count-reads.Learnt,
@@ -494,7 +469,6 @@ work-out-parent-count-requires : (t : ℕ) → work-out-lts.Need-parent-count-re
 ) (work-out-at t) work-out.Post work-out-Inv-loop work-out-μ-loop
 work-out-parent-count-requires t c κs = let q = c .before .before .before .before .before .pre .1 in let a = c .before .before .before .before .before .args in located-field (a .sheet .now) (a .offsets .now) (q .0 .located) (a .i) (q .1 .1 .0)
 
--- src/look.rt:117:5
 work-out-loop-holds : (t : ℕ) → work-out-lts.Need-loop-holds (
   parent-count-reads.Asked,
   parent-count-reads.Learnt,
@@ -515,7 +489,6 @@ work-out-loop-holds : (t : ℕ) → work-out-lts.Need-loop-holds (
 ) (work-out-at t) work-out.Post work-out-Inv-loop work-out-μ-loop
 work-out-loop-holds t c = let q = c .before .before .before .before .before .before .pre .1 in let a = c .before .before .before .before .before .before .args in going-start (q .0) (q .1 .0) (q .1 .1 .0) (q .1 .1 .1) _ (c .parent-count .ensures) _ _ refl refl
 
--- src/look.rt:118:13
 work-out-parent-requires : (t : ℕ) → work-out-lts.Need-parent-requires (
   parent-count-reads.Asked,
   parent-count-reads.Learnt,
@@ -536,7 +509,6 @@ work-out-parent-requires : (t : ℕ) → work-out-lts.Need-parent-requires (
 ) (work-out-at t) work-out.Post work-out-Inv-loop work-out-μ-loop
 work-out-parent-requires t c κs = let inv = c .before .loop .inv in (going-field inv, going-more inv (search needs))
 
--- src/look.rt:119:13
 work-out-look-up-requires : (t : ℕ) → work-out-lts.Need-look-up-requires (
   parent-count-reads.Asked,
   parent-count-reads.Learnt,
@@ -557,7 +529,6 @@ work-out-look-up-requires : (t : ℕ) → work-out-lts.Need-look-up-requires (
 ) (work-out-at t) work-out.Post work-out-Inv-loop work-out-μ-loop
 work-out-look-up-requires t c κs = let inv = c .before .before .before .before .before .loop .inv in let p = c .before .before .before .parent in let low = going-below inv (p .result) (p .ensures) (c .before .before .before .before .loop-test .taken) in (omega (arith, low, c .before .before .before .before .before .before .before .before .before .before .before .before .pre .0), (going-lent inv, (gathering-memo (inv .gathering), omega (arith, low, inv .low))))
 
--- src/look.rt:121:20
 work-out-kind-requires : (t : ℕ) → work-out-lts.Need-kind-requires (
   parent-count-reads.Asked,
   parent-count-reads.Learnt,
@@ -578,7 +549,6 @@ work-out-kind-requires : (t : ℕ) → work-out-lts.Need-kind-requires (
 ) (work-out-at t) work-out.Post work-out-Inv-loop work-out-μ-loop
 work-out-kind-requires t c κs = search needs
 
--- src/look.rt:121:9
 work-out-array-write-kinds : (t : ℕ) → work-out-lts.Need-array-write-kinds (
   parent-count-reads.Asked,
   parent-count-reads.Learnt,
@@ -599,7 +569,6 @@ work-out-array-write-kinds : (t : ℕ) → work-out-lts.Need-array-write-kinds (
 ) (work-out-at t) work-out.Post work-out-Inv-loop work-out-μ-loop
 work-out-array-write-kinds t c = search needs
 
--- src/look.rt:122:22
 work-out-number-or-zero-requires : (t : ℕ) → work-out-lts.Need-number-or-zero-requires (
   parent-count-reads.Asked,
   parent-count-reads.Learnt,
@@ -620,7 +589,6 @@ work-out-number-or-zero-requires : (t : ℕ) → work-out-lts.Need-number-or-zer
 ) (work-out-at t) work-out.Post work-out-Inv-loop work-out-μ-loop
 work-out-number-or-zero-requires t c κs = search needs
 
--- src/look.rt:122:9
 work-out-mul-amounts : (t : ℕ) → work-out-lts.Need-mul-amounts (
   parent-count-reads.Asked,
   parent-count-reads.Learnt,
@@ -641,7 +609,6 @@ work-out-mul-amounts : (t : ℕ) → work-out-lts.Need-mul-amounts (
 ) (work-out-at t) work-out.Post work-out-Inv-loop work-out-μ-loop
 work-out-mul-amounts t c = search needs
 
--- src/look.rt:122:9
 work-out-array-set-from-amounts : (t : ℕ) → work-out-lts.Need-array-set-from-amounts (
   parent-count-reads.Asked,
   parent-count-reads.Learnt,
@@ -662,7 +629,6 @@ work-out-array-set-from-amounts : (t : ℕ) → work-out-lts.Need-array-set-from
 ) (work-out-at t) work-out.Post work-out-Inv-loop work-out-μ-loop
 work-out-array-set-from-amounts t c = search needs
 
--- src/look.rt:123:9
 work-out-either-requires : (t : ℕ) → work-out-lts.Need-either-requires (
   parent-count-reads.Asked,
   parent-count-reads.Learnt,
@@ -683,7 +649,6 @@ work-out-either-requires : (t : ℕ) → work-out-lts.Need-either-requires (
 ) (work-out-at t) work-out.Post work-out-Inv-loop work-out-μ-loop
 work-out-either-requires t c κs = search needs
 
--- src/look.rt:124:9
 work-out-add-k : (t : ℕ) → work-out-lts.Need-add-k (
   parent-count-reads.Asked,
   parent-count-reads.Learnt,
@@ -704,7 +669,6 @@ work-out-add-k : (t : ℕ) → work-out-lts.Need-add-k (
 ) (work-out-at t) work-out.Post work-out-Inv-loop work-out-μ-loop
 work-out-add-k t c = search needs
 
--- src/look.rt:117:5
 work-out-loop-less : (t : ℕ) → work-out-lts.Need-loop-less (
   parent-count-reads.Asked,
   parent-count-reads.Learnt,
@@ -725,7 +689,6 @@ work-out-loop-less : (t : ℕ) → work-out-lts.Need-loop-less (
 ) (work-out-at t) work-out.Post work-out-Inv-loop work-out-μ-loop
 work-out-loop-less t c = search needs
 
--- src/look.rt:117:5
 work-out-loop-again : (t : ℕ) → work-out-lts.Need-loop-again (
   parent-count-reads.Asked,
   parent-count-reads.Learnt,
@@ -746,7 +709,6 @@ work-out-loop-again : (t : ℕ) → work-out-lts.Need-loop-again (
 ) (work-out-at t) work-out.Post work-out-Inv-loop work-out-μ-loop
 work-out-loop-again t c = let inv = c .before .before .before .before .before .before .before .before .before .before .before .before .before .before .before .loop .inv in let p = c .before .before .before .before .before .before .before .before .before .before .before .before .before .parent in let l = c .before .before .before .before .before .before .before .before .before .look-up in going-next inv (p .result) (p .ensures) (c .before .before .before .before .before .before .before .before .before .before .before .before .before .before .loop-test .taken) (seenMeaning (l .result)) _ _ _ (l .kept .1 .1 .0) (l .kept .1 .1 .1 .0) (l .kept .1 .1 .1 .1 .0) (l .ensures) _ (c .either .ensures) _ (c .before .before .kind .ensures) _ (back _ (search needs) ∙ c .before .number-or-zero .ensures)
 
--- src/look.rt:126:9
 work-out-operation-requires : (t : ℕ) → work-out-lts.Need-operation-requires (
   parent-count-reads.Asked,
   parent-count-reads.Learnt,
@@ -767,7 +729,6 @@ work-out-operation-requires : (t : ℕ) → work-out-lts.Need-operation-requires
 ) (work-out-at t) work-out.Post work-out-Inv-loop work-out-μ-loop
 work-out-operation-requires t c κs = let inv = c .before .loop .inv in (going-field inv, going-figure inv)
 
--- src/look.rt:128:16
 work-out-apply-requires : (t : ℕ) → work-out-lts.Need-apply-requires (
   parent-count-reads.Asked,
   parent-count-reads.Learnt,
@@ -788,7 +749,6 @@ work-out-apply-requires : (t : ℕ) → work-out-lts.Need-apply-requires (
 ) (work-out-at t) work-out.Post work-out-Inv-loop work-out-μ-loop
 work-out-apply-requires t c κs = let inv = c .before .before .before .before .loop .inv in (going-takes inv _ (c .before .before .operation .ensures), going-formed inv (c .before .before .before .loop-test .left))
 
--- src/look.rt:99:1
 work-out-same-length : (t : ℕ) → work-out-lts.Need-same-length (
   parent-count-reads.Asked,
   parent-count-reads.Learnt,
@@ -809,7 +769,6 @@ work-out-same-length : (t : ℕ) → work-out-lts.Need-same-length (
 ) (work-out-at t) work-out.Post work-out-Inv-loop work-out-μ-loop
 work-out-same-length t c = search needs
 
--- src/look.rt:99:1
 work-out-same-length-2 : (t : ℕ) → work-out-lts.Need-same-length-2 (
   parent-count-reads.Asked,
   parent-count-reads.Learnt,
@@ -830,7 +789,6 @@ work-out-same-length-2 : (t : ℕ) → work-out-lts.Need-same-length-2 (
 ) (work-out-at t) work-out.Post work-out-Inv-loop work-out-μ-loop
 work-out-same-length-2 t c = c .before .before .before .before .before .loop .inv .tags-length
 
--- src/look.rt:99:1
 work-out-same-length-3 : (t : ℕ) → work-out-lts.Need-same-length-3 (
   parent-count-reads.Asked,
   parent-count-reads.Learnt,
@@ -851,7 +809,6 @@ work-out-same-length-3 : (t : ℕ) → work-out-lts.Need-same-length-3 (
 ) (work-out-at t) work-out.Post work-out-Inv-loop work-out-μ-loop
 work-out-same-length-3 t c = c .before .before .before .before .before .loop .inv .numbers-length
 
--- src/look.rt:99:1
 work-out-returns : (t : ℕ) → work-out-lts.Need-returns (
   parent-count-reads.Asked,
   parent-count-reads.Learnt,

@@ -10,41 +10,32 @@ use Rattle.engine.proofs.look.notice_if.Reads as notice-if-reads
 use Rattle.engine.proofs.memo.remember.Reads as remember-reads
 use Rattle.table.proofs.store_cell.Reads as store-cell-reads
 
--- src/look.rt:60:9
 either-requires : tie.Need-either-requires
 either-requires c κs = search needs
 
--- src/look.rt:63:55
 notice-if-requires : tie.Need-notice-if-requires
 notice-if-requires c κs = search needs
 
--- src/look.rt:63:9
 store-cell-requires : tie.Need-store-cell-requires
 store-cell-requires c κs = search needs
 
--- src/look.rt:65:9
 remember-requires : tie.Need-remember-requires
 remember-requires c κs = search needs
 
--- src/look.rt:46:1
 same-length : tie.Need-same-length
 same-length c = search needs
 
--- src/look.rt:46:1
 returns : tie.Need-returns
 returns c =
     let a = c .before .before .before .before .before .before .before .before .before .before .args in
     settled-kept (a .i) (a .generation) (a .kept) (a .noticed) (seenMeaning (a .worked)) (a .table .now) (a .tags .now) (a .numbers .now) _ (c .before .before .before .before .before .before .either .ensures) (c .before .before .before .before .before .if1 .taken) _ (c .before .before .before .notice-if .ensures) _ (c .before .before .store-cell .ensures)
 
--- src/look.rt:46:1
 same-length-2 : tie.Need-same-length-2
 same-length-2 c = search needs
 
--- src/look.rt:46:1
 same-length-3 : tie.Need-same-length-3
 same-length-3 c = search needs
 
--- src/look.rt:46:1
 returns-2 : tie.Need-returns-2
 returns-2 c =
     let a = c .before .before .before .before .before .before .before .before .before .before .before .args in

@@ -7,31 +7,24 @@ use Rattle.engine.proofs.memo.recalled.Reads as reads
 use Rattle.engine.proofs.memo.recalled.Lts as lts
 use Rattle.engine.proofs.memo.value_of.Reads as value-of-reads
 
--- src/memo.rt:39:15
 mul-tag : tie.Need-mul-tag
 mul-tag c = search needs
 
--- src/memo.rt:39:15
 shared-slice-read-tag : tie.Need-shared-slice-read-tag
 shared-slice-read-tag c = search needs
 
--- src/memo.rt:41:9
 returns : tie.Need-returns
 returns c = let a = c .before .before .before .args in sym (forgotten (a .tags .now) (a .numbers .now) (a .generation) (a .i) (c .if1 .taken))
 
--- src/memo.rt:44:18
 mul-number : tie.Need-mul-number
 mul-number c = search needs
 
--- src/memo.rt:44:18
 shared-slice-copy-out-number : tie.Need-shared-slice-copy-out-number
 shared-slice-copy-out-number c = search needs
 
--- src/memo.rt:46:16
 value-of-requires : tie.Need-value-of-requires
 value-of-requires c κs = search needs
 
--- src/memo.rt:35:1
 returns-2 : tie.Need-returns-2
 returns-2 c = let a = c .before .before .before .before .before .args in recalls (a .tags .now) (a .numbers .now) (a .generation) (a .i) _ (c .before .before .if1 .left) (search needs) (c .value-of .ensures)
 

@@ -9,39 +9,30 @@ use Rattle.engine.proofs.memo.remember.Lts as lts
 use Rattle.engine.proofs.memo.tag_of.Reads as tag-of-reads
 use Rattle.value.proofs.Value.number_or_zero.Reads as number-or-zero-reads
 
--- src/memo.rt:72:15
 tag-of-requires : tie.Need-tag-of-requires
 tag-of-requires c κs = search needs
 
--- src/memo.rt:72:5
 mul-tags : tie.Need-mul-tags
 mul-tags c = search needs
 
--- src/memo.rt:72:5
 slice-write-tags : tie.Need-slice-write-tags
 slice-write-tags c = search needs
 
--- src/memo.rt:74:18
 number-or-zero-requires : tie.Need-number-or-zero-requires
 number-or-zero-requires c κs = search needs
 
--- src/memo.rt:74:5
 mul-t8 : tie.Need-mul-t8
 mul-t8 c = search needs
 
--- src/memo.rt:74:5
 slice-set-from-numbers : tie.Need-slice-set-from-numbers
 slice-set-from-numbers c = search needs
 
--- src/memo.rt:67:1
 same-length : tie.Need-same-length
 same-length c = search needs
 
--- src/memo.rt:67:1
 same-length-2 : tie.Need-same-length-2
 same-length-2 c = search needs
 
--- src/memo.rt:67:1
 returns : tie.Need-returns
 returns c = let a = c .before .before .before .before .args in (ap (λ x. set (a .tags .now) (a .i) x) (c .before .before .tag-of .ensures), ap (λ z. set (a .numbers .now) (a .i) z) (back _ (search needs) ∙ c .number-or-zero .ensures))
 

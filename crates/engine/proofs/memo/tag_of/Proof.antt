@@ -9,35 +9,27 @@ use Rattle.engine.proofs.memo.tag_of.Lts as lts
 use Rattle.engine.proofs.memo.wide.Reads as wide-reads
 use Rattle.value.proofs.Value.kind.Reads as kind-reads
 
--- src/memo.rt:62:16
 mul-code : tie.Need-mul-code
 mul-code c = search needs
 
--- src/memo.rt:62:42
 kind-requires : tie.Need-kind-requires
 kind-requires c κs = search needs
 
--- src/memo.rt:62:37
 wide-requires : tie.Need-wide-requires
 wide-requires c κs = search needs
 
--- src/memo.rt:62:33
 mul-code-2 : tie.Need-mul-code-2
 mul-code-2 c = search needs
 
--- src/memo.rt:62:16
 add-code : tie.Need-add-code
 add-code c = search needs
 
--- src/memo.rt:63:20
 add-result : tie.Need-add-result
 add-result c = search needs
 
--- src/memo.rt:57:1
 returns : tie.Need-returns
 returns c = let a = c .before .before .before .before .args in tagged (a .generation) _ _ (meaning (a .seen .value)) (a .seen .flag) (c .if1 .taken) (c .before .wide .ensures .0) (c .before .before .kind .ensures)
 
--- src/memo.rt:57:1
 returns-2 : tie.Need-returns-2
 returns-2 c = let a = c .before .before .before .before .args in untagged (a .generation) _ _ (meaning (a .seen .value)) (a .seen .flag) (c .if1 .left) (c .before .wide .ensures .0) (c .before .before .kind .ensures)
 

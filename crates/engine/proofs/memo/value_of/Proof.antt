@@ -7,19 +7,15 @@ use Rattle.engine.proofs.memo.value_of.Reads as reads
 use Rattle.engine.proofs.memo.value_of.Lts as lts
 use Rattle.value.proofs.Value.number.Reads as number-reads
 
--- src/memo.rt:30:14
 number-requires : tie.Need-number-requires
 number-requires c κs = search needs
 
--- src/memo.rt:24:1
 returns : tie.Need-returns
 returns c = sym (parts-null (c .before .args .kind) (c .before .args .number) (c .match .keys1))
 
--- src/memo.rt:24:1
 returns-2 : tie.Need-returns-2
 returns-2 c = sym (parts-out (c .before .args .kind) (c .before .args .number) (c .match .keys2))
 
--- src/memo.rt:24:1
 returns-3 : tie.Need-returns-3
 returns-3 c = parts-number (c .before .before .args .kind) (c .before .before .args .number) (c .before .match .rest .0 .1) (c .before .match .rest .1) (search needs) _ (c .number .ensures)
 

@@ -16,55 +16,42 @@ Inv-loop sheet offsets table₀ tags₀ numbers₀ n i₀ table tags numbers i =
 abbrev μ-loop : tie.MeasureT-loop
 μ-loop sheet offsets table₀ tags₀ numbers₀ n i₀ table tags numbers i = n - i
 
--- src/step.rt:264:5
 loop-holds : tie.Need-loop-holds Inv-loop μ-loop
 loop-holds c = let q = c .before .before .before .before .pre in let a = c .before .before .before .before .args in sweeping-start (q .0) (q .1 .0) (q .1 .1)
 
--- src/step.rt:265:27
 mul-generation : tie.Need-mul-generation Inv-loop μ-loop
 mul-generation c = let inv = c .before .loop .inv in record { fits = omega (arith, size-most (c .before .before .before .before .before .before .args .sheet .now), inv .n-is, c .loop-test .taken) }
 
--- src/step.rt:265:27
 add-generation : tie.Need-add-generation Inv-loop μ-loop
 add-generation c = let inv = c .before .loop .inv in record { fits = omega (arith, size-most (c .before .before .before .before .before .before .args .sheet .now), inv .n-is, c .loop-test .taken) }
 
--- src/step.rt:266:9
 step-marked-requires : tie.Need-step-marked-requires Inv-loop μ-loop
 step-marked-requires c κs = let inv = c .before .before .before .before .loop .inv in (inv .lent, (inv .ready, (inv .n-is, c .before .before .before .loop-test .taken)))
 
--- src/step.rt:267:59
 add-step-marked : tie.Need-add-step-marked Inv-loop μ-loop
 add-step-marked c = let inv = c .before .before .before .before .before .before .before .before .before .before .before .before .before .loop .inv in record { fits = omega (arith, size-most (c .before .before .before .before .before .before .before .before .before .before .before .before .before .before .before .before .before .before .args .sheet .now), inv .n-is, c .before .before .before .before .before .before .before .before .before .before .before .before .loop-test .taken) }
 
--- src/step.rt:267:9
 step-marked-requires-2 : tie.Need-step-marked-requires-2 Inv-loop μ-loop
 step-marked-requires-2 c κs = let inv = c .before .before .before .before .before .before .before .before .before .before .before .before .before .loop .inv in let more = c .before .before .before .before .before .before .before .before .before .before .before .before .loop-test .taken in (second-lent inv more _ _ ((c .before .before .before .before .before .before .before .before .step-marked) .last .1 .1 .1 .1 .0) ((c .before .before .before .before .before .before .before .before .step-marked) .kept .1 .1 .0) ((c .before .before .before .before .before .before .before .before .step-marked) .kept .1 .1 .1 .0) ((c .before .before .before .before .before .before .before .before .step-marked) .kept .1 .1 .1 .1 .0) ((c .before .before .before .before .before .before .before .before .step-marked) .ensures), (second-ready inv more _ _ ((c .before .before .before .before .before .before .before .before .step-marked) .last .1 .1 .1 .1 .0) ((c .before .before .before .before .before .before .before .before .step-marked) .kept .1 .1 .0) ((c .before .before .before .before .before .before .before .before .step-marked) .kept .1 .1 .1 .0) ((c .before .before .before .before .before .before .before .before .step-marked) .kept .1 .1 .1 .1 .0) ((c .before .before .before .before .before .before .before .before .step-marked) .ensures), (inv .n-is, more)))
 
--- src/step.rt:268:9
 add-i : tie.Need-add-i Inv-loop μ-loop
 add-i c = let inv = c .before .before .before .before .before .before .before .before .before .before .before .before .before .before .before .before .before .before .before .loop .inv in record { fits = omega (arith, size-most (c .before .before .before .before .before .before .before .before .before .before .before .before .before .before .before .before .before .before .before .before .before .before .before .before .args .sheet .now), inv .n-is, c .before .before .before .before .before .before .before .before .before .before .before .before .before .before .before .before .before .before .loop-test .taken) }
 
--- src/step.rt:264:5
 loop-less : tie.Need-loop-less Inv-loop μ-loop
 loop-less c = omega (arith, c .before .before .before .before .before .before .before .before .before .before .before .before .before .before .before .before .before .before .loop-test .taken)
 
--- src/step.rt:264:5
 loop-again : tie.Need-loop-again Inv-loop μ-loop
 loop-again c = let l = c .before .before .before .before .before .step-marked2 in sweeping-next (c .before .before .before .before .before .before .before .before .before .before .before .before .before .before .before .before .before .before .before .loop .inv) (c .before .before .before .before .before .before .before .before .before .before .before .before .before .before .before .before .before .before .loop-test .taken) _ _ ((c .before .before .before .before .before .before .before .before .before .before .before .before .before .before .step-marked) .last .1 .1 .1 .1 .0) ((c .before .before .before .before .before .before .before .before .before .before .before .before .before .before .step-marked) .kept .1 .1 .0) ((c .before .before .before .before .before .before .before .before .before .before .before .before .before .before .step-marked) .kept .1 .1 .1 .0) ((c .before .before .before .before .before .before .before .before .before .before .before .before .before .before .step-marked) .kept .1 .1 .1 .1 .0) ((c .before .before .before .before .before .before .before .before .before .before .before .before .before .before .step-marked) .ensures) _ _ _ (l .kept .1 .1 .0) (l .kept .1 .1 .1 .0) (l .kept .1 .1 .1 .1 .0) (l .ensures)
 
--- src/step.rt:252:1
 same-length : tie.Need-same-length Inv-loop μ-loop
 same-length c = c .before .loop .inv .t-length
 
--- src/step.rt:252:1
 same-length-2 : tie.Need-same-length-2 Inv-loop μ-loop
 same-length-2 c = c .before .loop .inv .tags-length
 
--- src/step.rt:252:1
 same-length-3 : tie.Need-same-length-3 Inv-loop μ-loop
 same-length-3 c = c .before .loop .inv .numbers-length
 
--- src/step.rt:252:1
 returns : tie.Need-returns Inv-loop μ-loop
 returns c = sweeping-done (c .before .loop .inv) (c .loop-test .left)
 

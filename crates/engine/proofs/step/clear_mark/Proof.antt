@@ -7,39 +7,30 @@ use Rattle.engine.proofs.step.clear_mark.Lts as lts
 use Rattle.table.proofs.read_cell.Reads as read-cell-reads
 use Rattle.table.proofs.store_cell.Reads as store-cell-reads
 
--- src/step.rt:158:11
 read-cell-requires : tie.Need-read-cell-requires
 read-cell-requires c κs = search needs
 
--- src/step.rt:160:31
 enum-told : tie.Need-enum-told
 enum-told c = search needs
 
--- src/step.rt:160:13
 store-cell-requires : tie.Need-store-cell-requires
 store-cell-requires c κs = search needs
 
--- src/step.rt:162:20
 enum-known-value : tie.Need-enum-known-value
 enum-known-value c = search needs
 
--- src/step.rt:163:13
 store-cell-requires-2 : tie.Need-store-cell-requires-2
 store-cell-requires-2 c κs = search needs
 
--- src/step.rt:154:1
 same-length : tie.Need-same-length
 same-length c = search needs
 
--- src/step.rt:154:1
 returns : tie.Need-returns
 returns c = let a = c .before .before .before .before .before .before .before .before .before .args in cleared-unk (a .table .now) (a .i) (c .before .before .before .before .before .before .read-cell .result) (c .before .before .before .before .before .before .read-cell .ensures) _ (c .before .before .before .before .enum-told .given .1) _ (c .before .before .store-cell .ensures)
 
--- src/step.rt:154:1
 same-length-2 : tie.Need-same-length-2
 same-length-2 c = search needs
 
--- src/step.rt:154:1
 returns-2 : tie.Need-returns-2
 returns-2 c = let a = c .before .before .before .before .before .before .before .before .before .before .args in cleared-held (a .table .now) (a .i) (c .before .before .before .before .before .before .before .read-cell .result) (c .before .before .before .before .before .before .before .read-cell .ensures) _ _ (c .before .before .before .before .before .value .given .1) _ (c .before .before .store-cell2 .ensures)
 

@@ -5,39 +5,30 @@ use Rattle.engine.proofs.step.is_marked.Tie as tie
 use Rattle.engine.proofs.step.is_marked.Reads as reads
 use Rattle.engine.proofs.step.is_marked.Lts as lts
 
--- src/step.rt:223:19
 enum-known-cell : tie.Need-enum-known-cell
 enum-known-cell c = search needs
 
--- src/step.rt:224:23
 enum-known-cell-2 : tie.Need-enum-known-cell-2
 enum-known-cell-2 c = search needs
 
--- src/step.rt:225:31
 enum-told : tie.Need-enum-told
 enum-told c = search needs
 
--- src/step.rt:226:30
 enum-told-2 : tie.Need-enum-told-2
 enum-told-2 c = search needs
 
--- src/step.rt:227:29
 enum-told-3 : tie.Need-enum-told-3
 enum-told-3 c = search needs
 
--- src/step.rt:219:1
 returns : tie.Need-returns
 returns c = marked-unk _ _ (c .before .cell .given .1)
 
--- src/step.rt:219:1
 returns-2 : tie.Need-returns-2
 returns-2 c = search needs
 
--- src/step.rt:219:1
 returns-3 : tie.Need-returns-3
 returns-3 c = search needs
 
--- src/step.rt:219:1
 returns-4 : tie.Need-returns-4
 returns-4 c = search needs
 

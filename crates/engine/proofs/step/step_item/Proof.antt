@@ -8,102 +8,78 @@ use Rattle.engine.proofs.step.renew.Reads as renew-reads
 use Rattle.engine.proofs.step.tell_and_clear.Reads as tell-and-clear-reads
 use Rattle.table.proofs.read_cell.Reads as read-cell-reads
 
--- src/step.rt:200:11
 read-cell-requires : tie.Need-read-cell-requires
 read-cell-requires c κs = search needs
 
--- src/step.rt:201:19
 enum-known-noticed : tie.Need-enum-known-noticed
 enum-known-noticed c = search needs
 
--- src/step.rt:203:17
 tell-and-clear-requires : tie.Need-tell-and-clear-requires
 tell-and-clear-requires c κs = search needs
 
--- src/step.rt:206:20
 enum-known-value : tie.Need-enum-known-value
 enum-known-value c = search needs
 
 enum-told : tie.Need-enum-told
 enum-told c = search needs
 
--- src/step.rt:209:39
 enum-told-2 : tie.Need-enum-told-2
 enum-told-2 c = search needs
 
--- src/step.rt:209:17
 renew-requires : tie.Need-renew-requires
 renew-requires c κs = let q = c .before .before .before .before .before .before .before .before .before .before .before .before .before .before .pre in let a = c .before .before .before .before .before .before .before .before .before .before .before .before .before .before .args in (q .0, (ready-memo (q .1 .0) _, (nothing-above (q .1 .0) (a .i), refresh-renewable (q .0) (q .1 .0) (q .1 .1 .0) (q .1 .1 .1) (c .before .before .before .before .before .before .before .before .read-cell .result) (c .before .before .before .before .before .before .before .before .read-cell .ensures) _ _ (c .before .before .before .before .before .before .value .given .1) (c .before .before .before .enum-told2 .given .1))))
 
--- src/step.rt:212:48
 enum-told-3 : tie.Need-enum-told-3
 enum-told-3 c = search needs
 
--- src/step.rt:212:17
 tell-and-clear-requires-2 : tie.Need-tell-and-clear-requires-2
 tell-and-clear-requires-2 c κs = search needs
 
--- src/step.rt:187:1
 same-length : tie.Need-same-length
 same-length c = search needs
 
--- src/step.rt:187:1
 same-length-2 : tie.Need-same-length-2
 same-length-2 c = search needs
 
--- src/step.rt:187:1
 same-length-3 : tie.Need-same-length-3
 same-length-3 c = search needs
 
--- src/step.rt:187:1
 returns : tie.Need-returns
 returns c = let q = c .before .before .before .before .before .before .before .before .before .before .before .before .before .before .before .before .before .before .before .pre in let a = c .before .before .before .before .before .before .before .before .before .before .before .before .before .before .before .before .before .before .before .args in step-noticed (q .0) (q .1 .0) (q .1 .1 .0) (q .1 .1 .1) (c .before .before .before .before .before .before .before .before .before .before .before .before .before .read-cell .result) (c .before .before .before .before .before .before .before .before .before .before .before .before .before .read-cell .ensures) _ (c .before .before .before .before .before .before .before .before .before .before .before .noticed .given .1) (c .before .before .before .before .before .before .before .before .before .if1 .taken) (c .before .before .before .before .before .tell-and-clear .ensures)
 
--- src/step.rt:187:1
 same-length-4 : tie.Need-same-length-4
 same-length-4 c = search needs
 
--- src/step.rt:187:1
 returns-2 : tie.Need-returns-2
 returns-2 c = let q = c .before .before .before .before .before .before .before .before .before .before .pre in let a = c .before .before .before .before .before .before .before .before .before .before .args in step-unnoticed (q .0) (q .1 .0) (q .1 .1 .0) (q .1 .1 .1) (c .before .before .before .before .read-cell .result) (c .before .before .before .before .read-cell .ensures) _ (c .before .before .noticed .given .1) (c .if1 .left)
 
--- src/step.rt:187:1
 same-length-5 : tie.Need-same-length-5
 same-length-5 c = search needs
 
--- src/step.rt:187:1
 returns-3 : tie.Need-returns-3
 returns-3 c = let q = c .before .before .before .before .before .before .before .before .before .before .before .pre in let a = c .before .before .before .before .before .before .before .before .before .before .before .args in step-unmarked (q .0) (q .1 .0) (q .1 .1 .0) (q .1 .1 .1) (c .before .before .before .before .before .read-cell .result) (c .before .before .before .before .before .read-cell .ensures) _ _ (c .before .before .before .value .given .1) (c .enum-told .given .1)
 
--- src/step.rt:187:1
 same-length-6 : tie.Need-same-length-6
 same-length-6 c = search needs
 
--- src/step.rt:187:1
 same-length-7 : tie.Need-same-length-7
 same-length-7 c = search needs
 
--- src/step.rt:187:1
 same-length-8 : tie.Need-same-length-8
 same-length-8 c = search needs
 
--- src/step.rt:187:1
 returns-4 : tie.Need-returns-4
 returns-4 c = let q = c .before .before .before .before .before .before .before .before .before .before .before .before .before .before .before .before .before .before .before .before .pre in let a = c .before .before .before .before .before .before .before .before .before .before .before .before .before .before .before .before .before .before .before .before .args in step-refresh (q .0) (q .1 .0) (q .1 .1 .0) (q .1 .1 .1) (c .before .before .before .before .before .before .before .before .before .before .before .before .before .before .read-cell .result) (c .before .before .before .before .before .before .before .before .before .before .before .before .before .before .read-cell .ensures) _ _ (c .before .before .before .before .before .before .before .before .before .before .before .before .value .given .1) (c .before .before .before .before .before .before .before .before .before .enum-told2 .given .1) (c .before .before .before .before .before .renew .ensures)
 
--- src/step.rt:187:1
 same-length-9 : tie.Need-same-length-9
 same-length-9 c = search needs
 
--- src/step.rt:187:1
 same-length-10 : tie.Need-same-length-10
 same-length-10 c = search needs
 
--- src/step.rt:187:1
 same-length-11 : tie.Need-same-length-11
 same-length-11 c = search needs
 
--- src/step.rt:187:1
 returns-5 : tie.Need-returns-5
 returns-5 c = let q = c .before .before .before .before .before .before .before .before .before .before .before .before .before .before .before .before .before .before .before .before .pre in let a = c .before .before .before .before .before .before .before .before .before .before .before .before .before .before .before .before .before .before .before .before .args in step-notice (q .0) (q .1 .0) (q .1 .1 .0) (q .1 .1 .1) (c .before .before .before .before .before .before .before .before .before .before .before .before .before .before .read-cell .result) (c .before .before .before .before .before .before .before .before .before .before .before .before .before .before .read-cell .ensures) _ _ (c .before .before .before .before .before .before .before .before .before .before .before .before .value .given .1) (c .before .before .before .before .before .before .before .before .before .enum-told3 .given .1) (c .before .before .before .before .before .tell-and-clear2 .ensures)
 

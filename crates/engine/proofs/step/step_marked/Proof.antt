@@ -8,39 +8,30 @@ use Rattle.engine.proofs.step.is_marked.Reads as is-marked-reads
 use Rattle.engine.proofs.step.step_item.Reads as step-item-reads
 use Rattle.table.proofs.read_cell.Reads as read-cell-reads
 
--- src/step.rt:246:18
 read-cell-requires : tie.Need-read-cell-requires
 read-cell-requires c κs = search needs
 
--- src/step.rt:246:8
 is-marked-requires : tie.Need-is-marked-requires
 is-marked-requires c κs = search needs
 
--- src/step.rt:247:9
 step-item-requires : tie.Need-step-item-requires
 step-item-requires c κs = search needs
 
--- src/step.rt:233:1
 same-length : tie.Need-same-length
 same-length c = search needs
 
--- src/step.rt:233:1
 same-length-2 : tie.Need-same-length-2
 same-length-2 c = search needs
 
--- src/step.rt:233:1
 same-length-3 : tie.Need-same-length-3
 same-length-3 c = search needs
 
--- src/step.rt:233:1
 returns : tie.Need-returns
 returns c = let q = c .before .before .before .before .before .before .before .before .before .before .before .before .before .before .before .before .before .pre in let a = c .before .before .before .before .before .before .before .before .before .before .before .before .before .before .before .before .before .args in marked-steps (q .0) (q .1 .0) (a .i) (c .before .before .before .before .before .before .before .before .before .before .before .read-cell .result) (c .before .before .before .before .before .before .before .before .before .before .before .read-cell .ensures) _ (c .before .before .before .before .before .before .before .before .before .before .is-marked .ensures) (c .before .before .before .before .before .before .before .before .before .if1 .taken) (c .before .before .before .before .before .step-item .ensures)
 
--- src/step.rt:233:1
 same-length-4 : tie.Need-same-length-4
 same-length-4 c = search needs
 
--- src/step.rt:233:1
 returns-2 : tie.Need-returns-2
 returns-2 c = let q = c .before .before .before .before .before .before .before .before .pre in let a = c .before .before .before .before .before .before .before .before .args in unmarked-stays (q .0) (q .1 .0) (a .i) (c .before .before .read-cell .result) (c .before .before .read-cell .ensures) _ (c .before .is-marked .ensures) (c .if1 .left)
 

@@ -9,27 +9,21 @@ use Rattle.engine.proofs.step.tell_and_clear.Lts as lts
 use Rattle.engine.proofs.step.clear_mark.Reads as clear-mark-reads
 use Rattle.engine.proofs.step.tell_children.Reads as tell-children-reads
 
--- src/step.rt:182:5
 tell-children-requires : tie.Need-tell-children-requires
 tell-children-requires c κs = let q = c .before .before .before .before .before .before .before .pre in let a = c .before .before .before .before .before .before .before .args in (q .0, (ready-memo (q .1 .0) _, (q .1 .0 .older, (q .1 .1 .0, q .1 .1 .1))))
 
--- src/step.rt:183:5
 clear-mark-requires : tie.Need-clear-mark-requires
 clear-mark-requires c κs = search needs
 
--- src/step.rt:169:1
 same-length : tie.Need-same-length
 same-length c = search needs
 
--- src/step.rt:169:1
 same-length-2 : tie.Need-same-length-2
 same-length-2 c = search needs
 
--- src/step.rt:169:1
 same-length-3 : tie.Need-same-length-3
 same-length-3 c = search needs
 
--- src/step.rt:169:1
 returns : tie.Need-returns
 returns c = let q = c .before .before .before .before .before .before .before .before .before .before .before .before .before .before .before .before .before .pre in let a = c .before .before .before .before .before .before .before .before .before .before .before .before .before .before .before .before .before .args in let l = c .before .before .before .before .before .before .before .before .before .tell-children in clear-steps _ (omega (arith, q .1 .1 .0, q .1 .1 .1)) (l .kept .1 .1 .0 ∙ q .0 .length-is) (l .ensures) _ (c .before .before .clear-mark .ensures)
 

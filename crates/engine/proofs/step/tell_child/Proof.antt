@@ -12,103 +12,78 @@ use Rattle.item.proofs.spread_of.Reads as spread-of-reads
 use Rattle.table.proofs.read_cell.Reads as read-cell-reads
 use Rattle.table.proofs.store_cell.Reads as store-cell-reads
 
--- src/step.rt:92:11
 read-cell-requires : tie.Need-read-cell-requires
 read-cell-requires c κs = search needs
 
--- src/step.rt:94:31
 enum-told : tie.Need-enum-told
 enum-told c = search needs
 
--- src/step.rt:94:13
 store-cell-requires : tie.Need-store-cell-requires
 store-cell-requires c κs = search needs
 
--- src/step.rt:96:20
 enum-known-value : tie.Need-enum-known-value
 enum-known-value c = search needs
 
--- src/step.rt:97:50
 mul-spread-of : tie.Need-mul-spread-of
 mul-spread-of c = search needs
 
--- src/step.rt:97:50
 shared-slice-read-spread-of : tie.Need-shared-slice-read-spread-of
 shared-slice-read-spread-of c = search needs
 
--- src/step.rt:97:27
 spread-of-requires : tie.Need-spread-of-requires
 spread-of-requires c κs = let q = c .before .before .before .before .before .before .before .before .before .before .pre in let a = c .before .before .before .before .before .before .before .before .before .before .args in located-field (a .sheet .now) (a .offsets .now) (q .0 .located) (a .c) (q .1 .1 .1 .0)
 
--- src/step.rt:97:19
 told-by-requires : tie.Need-told-by-requires
 told-by-requires c κs = search needs
 
--- src/step.rt:99:39
 enum-told-2 : tie.Need-enum-told-2
 enum-told-2 c = search needs
 
--- src/step.rt:99:21
 store-cell-requires-2 : tie.Need-store-cell-requires-2
 store-cell-requires-2 c κs = search needs
 
--- src/step.rt:102:39
 enum-told-3 : tie.Need-enum-told-3
 enum-told-3 c = search needs
 
--- src/step.rt:102:21
 store-cell-requires-3 : tie.Need-store-cell-requires-3
 store-cell-requires-3 c κs = search needs
 
--- src/step.rt:105:43
 enum-told-4 : tie.Need-enum-told-4
 enum-told-4 c = search needs
 
--- src/step.rt:105:87
 refresh-cleared-requires : tie.Need-refresh-cleared-requires
 refresh-cleared-requires c κs = search needs
 
--- src/step.rt:105:21
 renew-requires : tie.Need-renew-requires
 renew-requires c κs = let q = c .before .before .before .before .before .before .before .before .before .before .before .before .before .before .before .before .before .before .pre in let a = c .before .before .before .before .before .before .before .before .before .before .before .before .before .before .before .before .before .before .args in (q .0, (q .1 .0, (q .1 .1 .0, told-renewable (q .0) (q .1 .0) (q .1 .1 .0) (q .1 .1 .1 .0) (q .1 .1 .1 .1) (c .before .before .before .before .before .before .before .before .before .before .before .before .read-cell .result) (c .before .before .before .before .before .before .before .before .before .before .before .before .read-cell .ensures) _ _ (c .before .before .before .before .before .before .before .before .before .before .value .given .1))))
 
--- src/step.rt:80:1
 same-length : tie.Need-same-length
 same-length c = search needs
 
--- src/step.rt:80:1
 returns : tie.Need-returns
 returns c = let q = c .before .before .before .before .before .before .before .before .before .before .before .before .pre in let a = c .before .before .before .before .before .before .before .before .before .before .before .before .args in told-unk (q .0) (q .1 .0) (q .1 .1 .0) (q .1 .1 .1 .0) (q .1 .1 .1 .1) (c .before .before .before .before .before .before .read-cell .result) (c .before .before .before .before .before .before .read-cell .ensures) _ (c .before .before .before .before .enum-told .given .1) _ (c .before .before .store-cell .ensures)
 
--- src/step.rt:80:1
 same-length-2 : tie.Need-same-length-2
 same-length-2 c = search needs
 
--- src/step.rt:80:1
 returns-2 : tie.Need-returns-2
 returns-2 c = let q = c .before .before .before .before .before .before .before .before .before .before .before .before .before .before .before .before .before .before .pre in let a = c .before .before .before .before .before .before .before .before .before .before .before .before .before .before .before .before .before .before .args in told-forgets (q .0) (q .1 .0) (q .1 .1 .0) (q .1 .1 .1 .0) (q .1 .1 .1 .1) (c .before .before .before .before .before .before .before .before .before .before .before .before .read-cell .result) (c .before .before .before .before .before .before .before .before .before .before .before .before .read-cell .ensures) _ _ (c .before .before .before .before .before .before .before .before .before .before .value .given .1) (c .before .before .before .before .before .before .before .spread-of .result) (c .before .before .before .before .before .before .before .spread-of .ensures) _ (c .before .before .before .before .before .before .told-by .ensures) (c .before .before .before .before .enum-told2 .given .1) _ (c .before .before .store-cell2 .ensures)
 
--- src/step.rt:80:1
 same-length-3 : tie.Need-same-length-3
 same-length-3 c = search needs
 
--- src/step.rt:80:1
 returns-3 : tie.Need-returns-3
 returns-3 c = let q = c .before .before .before .before .before .before .before .before .before .before .before .before .before .before .before .before .before .before .pre in let a = c .before .before .before .before .before .before .before .before .before .before .before .before .before .before .before .before .before .before .args in told-refreshes (q .0) (q .1 .0) (q .1 .1 .0) (q .1 .1 .1 .0) (q .1 .1 .1 .1) (c .before .before .before .before .before .before .before .before .before .before .before .before .read-cell .result) (c .before .before .before .before .before .before .before .before .before .before .before .before .read-cell .ensures) _ _ (c .before .before .before .before .before .before .before .before .before .before .value .given .1) (c .before .before .before .before .before .before .before .spread-of .result) (c .before .before .before .before .before .before .before .spread-of .ensures) _ (c .before .before .before .before .before .before .told-by .ensures) (c .before .before .before .before .enum-told3 .given .1) _ (c .before .before .store-cell3 .ensures)
 
--- src/step.rt:80:1
 same-length-4 : tie.Need-same-length-4
 same-length-4 c = search needs
 
--- src/step.rt:80:1
 same-length-5 : tie.Need-same-length-5
 same-length-5 c = search needs
 
--- src/step.rt:80:1
 same-length-6 : tie.Need-same-length-6
 same-length-6 c = search needs
 
--- src/step.rt:80:1
 returns-4 : tie.Need-returns-4
 returns-4 c = let q = c .before .before .before .before .before .before .before .before .before .before .before .before .before .before .before .before .before .before .before .before .before .before .before .before .pre in let a = c .before .before .before .before .before .before .before .before .before .before .before .before .before .before .before .before .before .before .before .before .before .before .before .before .args in told-renews (q .0) (q .1 .0) (q .1 .1 .0) (q .1 .1 .1 .0) (q .1 .1 .1 .1) (c .before .before .before .before .before .before .before .before .before .before .before .before .before .before .before .before .before .before .read-cell .result) (c .before .before .before .before .before .before .before .before .before .before .before .before .before .before .before .before .before .before .read-cell .ensures) _ _ (c .before .before .before .before .before .before .before .before .before .before .before .before .before .before .before .before .value .given .1) (c .before .before .before .before .before .before .before .before .before .before .before .before .before .spread-of .result) (c .before .before .before .before .before .before .before .before .before .before .before .before .before .spread-of .ensures) _ (c .before .before .before .before .before .before .before .before .before .before .before .before .told-by .ensures) (c .before .before .before .before .before .before .before .before .before .before .enum-told4 .given .1) _ (c .before .before .before .before .before .before .refresh-cleared .ensures) _ _ _ (c .before .before .before .before .before .renew .ensures)
 

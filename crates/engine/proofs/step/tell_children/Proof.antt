@@ -16,43 +16,33 @@ Inv-loop sheet offsets table₀ tags₀ numbers₀ generation n i c₀ table tag
 abbrev μ-loop : tie.MeasureT-loop
 μ-loop sheet offsets table₀ tags₀ numbers₀ generation n i c₀ table tags numbers c = n - c
 
--- src/step.rt:147:17
 add-c : tie.Need-add-c Inv-loop μ-loop
 add-c c = let q = c .before .before .before .before .pre in let a = c .before .before .before .before .args in record { fits = omega (arith, size-most (a .sheet .now), q .1 .1 .1 .0, q .1 .1 .1 .1) }
 
--- src/step.rt:148:5
 loop-holds : tie.Need-loop-holds Inv-loop μ-loop
 loop-holds c = let q = c .before .before .before .before .pre in let a = c .before .before .before .before .args in telling-start (q .0) (q .1 .0) (q .1 .1 .0) (q .1 .1 .1 .0) (q .1 .1 .1 .1)
 
--- src/step.rt:149:9
 tell-if-child-requires : tie.Need-tell-if-child-requires Inv-loop μ-loop
 tell-if-child-requires c κs = let inv = c .before .before .before .before .loop .inv in (inv .lent, (telling-memo inv, (inv .moves .fresh, omega (arith, inv .n-is, c .before .before .before .loop-test .taken))))
 
--- src/step.rt:150:9
 add-c-2 : tie.Need-add-c-2 Inv-loop μ-loop
 add-c-2 c = let inv = c .before .before .before .before .before .before .before .before .before .before .loop .inv in record { fits = omega (arith, size-most (c .before .before .before .before .before .before .before .before .before .before .before .before .before .before .before .args .sheet .now), inv .n-is, c .before .before .before .before .before .before .before .before .before .loop-test .taken) }
 
--- src/step.rt:148:5
 loop-less : tie.Need-loop-less Inv-loop μ-loop
 loop-less c = omega (arith, c .before .before .before .before .before .before .before .before .before .loop-test .taken)
 
--- src/step.rt:148:5
 loop-again : tie.Need-loop-again Inv-loop μ-loop
 loop-again c = let l = c .before .before .before .before .before .tell-if-child in telling-next (c .before .before .before .before .before .before .before .before .before .before .loop .inv) (c .before .before .before .before .before .before .before .before .before .loop-test .taken) _ _ _ (l .kept .1 .1 .0) (l .kept .1 .1 .1 .0) (l .kept .1 .1 .1 .1 .0) (l .ensures)
 
--- src/step.rt:134:1
 same-length : tie.Need-same-length Inv-loop μ-loop
 same-length c = c .before .loop .inv .t-length
 
--- src/step.rt:134:1
 same-length-2 : tie.Need-same-length-2 Inv-loop μ-loop
 same-length-2 c = c .before .loop .inv .tags-length
 
--- src/step.rt:134:1
 same-length-3 : tie.Need-same-length-3 Inv-loop μ-loop
 same-length-3 c = c .before .loop .inv .numbers-length
 
--- src/step.rt:134:1
 returns : tie.Need-returns Inv-loop μ-loop
 returns c = telling-done (c .before .loop .inv) (c .loop-test .left)
 
