@@ -3,6 +3,7 @@
 #   make lib                    prove the library and write target/staticlib/librozhinal.a
 #   make install PREFIX=/usr    header, archive and pkg-config file (DESTDIR is put before it)
 #   make examples               target/examples/lister and target/examples/office
+#   make bench                  instructions of the calls, beside those of plain C
 #
 # ROZHINAL_LIB_DIR is the folder of the archive; name another to build against a library that stands elsewhere.
 
@@ -16,7 +17,7 @@ ROZHINAL_ARCHIVE := $(ROZHINAL_LIB_DIR)/librozhinal.a
 EXAMPLE_FLAGS := -std=c11 -D_POSIX_C_SOURCE=200809L -Wall -Wextra -Werror -Iinclude
 EXAMPLE_HEADERS := include/rozhinal.h examples/sheet.h examples/book.h
 
-.PHONY: lib install examples
+.PHONY: lib install examples bench
 
 define PROVE_LIBRARY
 rt staticlib rozhinal
@@ -46,3 +47,6 @@ $(EXAMPLES_DIR)/lister: examples/lister.c examples/sheet.c $(EXAMPLE_HEADERS) $(
 $(EXAMPLES_DIR)/office: examples/office.c examples/book.c examples/sheet.c $(EXAMPLE_HEADERS) $(ROZHINAL_ARCHIVE)
 	mkdir -p $(EXAMPLES_DIR)
 	$(CC) $(EXAMPLE_FLAGS) $(CFLAGS) -o $@ $(filter %.c,$^) $(ROZHINAL_ARCHIVE)
+
+bench: $(ROZHINAL_ARCHIVE)
+	ROZHINAL_LIB_DIR=$(ROZHINAL_LIB_DIR) bench/run

@@ -1,0 +1,330 @@
+/*
+ * The workloads of the benchmark. Each call is made to the library and to the plain C version, on
+ * the same bytes; the answers and every byte afterwards must agree. The calls that a workload is
+ * about are counted by callgrind, one dump for each of the two: bench/run starts it and reads the
+ * dumps.
+ */
+#include "plain.h"
+#include "rozhinal.h"
+#include "sheets.h"
+
+#include <stdio.h>
+#include <stdlib.h>
+#include <string.h>
+#include <valgrind/callgrind.h>
+
+enum call_kind { OPEN_BARE, OPEN_FULL, POST, KEEP, DROP, STEP, ASK, PRINT };
+
+struct call {
+    enum call_kind kind;
+    uint64_t item;
+    uint64_t posted; /* the kind that is posted or printed, and the number */
+    int64_t number;
+};
+
+/* One of the two, with its own copies of what is lent. */
+struct side {
+    const char *name;
+    rozhinal_answer (*open_bare)(const uint8_t *, size_t, uint8_t *, size_t, uint8_t *, size_t);
+    rozhinal_answer (*open_full)(const uint8_t *, size_t, uint8_t *, size_t, uint8_t *, size_t);
+    rozhinal_answer (*post)(const uint8_t *, size_t, const uint8_t *, size_t, uint8_t *, size_t,
+                            uint64_t, uint64_t, int64_t);
+    rozhinal_answer (*keep)(const uint8_t *, size_t, const uint8_t *, size_t, uint8_t *, size_t,
+                            uint64_t);
+    rozhinal_answer (*drop)(const uint8_t *, size_t, const uint8_t *, size_t, uint8_t *, size_t,
+                            uint64_t);
+    rozhinal_answer (*step)(const uint8_t *, size_t, const uint8_t *, size_t, uint8_t *, size_t,
+                            uint64_t);
+    rozhinal_reading (*ask)(const uint8_t *, size_t, const uint8_t *, size_t, uint8_t *, size_t,
+                            uint64_t);
+    int64_t (*print)(uint64_t, int64_t, uint8_t *, size_t);
+    uint8_t index[ROZHINAL_INDEX_BYTES(ROZHINAL_MAX_ITEMS)];
+    uint8_t table[ROZHINAL_TABLE_BYTES(ROZHINAL_MAX_ITEMS)];
+    uint8_t scratch[ROZHINAL_PRINT_BYTES];
+};
+
+static struct side library = {
+    .name = "library",
+    .open_bare = rozhinal_open_bare,
+    .open_full = rozhinal_open_full,
+    .post = rozhinal_post,
+    .keep = rozhinal_keep,
+    .drop = rozhinal_drop,
+    .step = rozhinal_step,
+    .ask = rozhinal_ask,
+    .print = rozhinal_print,
+};
+
+static struct side plain = {
+    .name = "plain",
+    .open_bare = plain_open_bare,
+    .open_full = plain_open_full,
+    .post = plain_post,
+    .keep = plain_keep,
+    .drop = plain_drop,
+    .step = plain_step,
+    .ask = plain_ask,
+    .print = plain_print,
+};
+
+static struct sheet sheet;
+static const char *workload = "preparing";
+
+/* ---- Calls ----------------------------------------------------------------------------------- */
+
+static void fail(const char *what)
+{
+    fprintf(stderr, "bench: %s, %zu items: %s\n", workload, sheet.count, what);
+    exit(1);
+}
+
+static rozhinal_reading reading_of(rozhinal_answer answer)
+{
+    return (rozhinal_reading){ answer.number, answer.offset, 0, 0 };
+}
+
+/* The call itself, and nothing around it, is counted. */
+#define COUNTED(call)                                                                            \
+    do {                                                                                         \
+        CALLGRIND_TOGGLE_COLLECT;                                                                \
+        call;                                                                                    \
+        CALLGRIND_TOGGLE_COLLECT;                                                                \
+    } while (0)
+
+#define LENT                                                                                     \
+    sheet.bytes, sheet.length, side->index, ROZHINAL_INDEX_BYTES(sheet.count), side->table,      \
+        ROZHINAL_TABLE_BYTES(sheet.count)
+
+static rozhinal_reading make_call(struct side *side, const struct call *call)
+{
+    rozhinal_answer answer = { 0, 0 };
+    rozhinal_reading reading = { 0, 0, 0, 0 };
+    switch (call->kind) {
+    case OPEN_BARE:
+        COUNTED(answer = side->open_bare(LENT));
+        break;
+    case OPEN_FULL:
+        COUNTED(answer = side->open_full(LENT));
+        break;
+    case POST:
+        COUNTED(answer = side->post(LENT, call->item, call->posted, call->number));
+        break;
+    case KEEP:
+        COUNTED(answer = side->keep(LENT, call->item));
+        break;
+    case DROP:
+        COUNTED(answer = side->drop(LENT, call->item));
+        break;
+    case STEP:
+        COUNTED(answer = side->step(LENT, call->item));
+        break;
+    case ASK:
+        COUNTED(reading = side->ask(LENT, call->item));
+        return reading;
+    case PRINT:
+        COUNTED(reading.value = side->print(call->posted, call->number, side->scratch,
+                                            sizeof side->scratch));
+        return reading;
+    }
+    return reading_of(answer);
+}
+
+/* Both sides have given the same, and have the same bytes. */
+static void compare(rozhinal_reading a, rozhinal_reading b)
+{
+    if (a.number != b.number || a.offset != b.offset || a.kind != b.kind || a.value != b.value)
+        fail("another answer");
+    if (a.number != ROZHINAL_ACCEPTED)
+        fail("refused");
+    if (memcmp(library.index, plain.index, sizeof plain.index) != 0)
+        fail("another index");
+    if (memcmp(library.table, plain.table, sizeof plain.table) != 0)
+        fail("another table");
+    if (memcmp(library.scratch, plain.scratch, sizeof plain.scratch) != 0)
+        fail("other scratch bytes");
+}
+
+/* A call that is not counted. */
+static rozhinal_reading prepare(struct call call)
+{
+    rozhinal_reading reading = make_call(&library, &call);
+    compare(reading, make_call(&plain, &call));
+    return reading;
+}
+
+/* Counts calls of one side: a dump with the side, the workload and the items. */
+static rozhinal_reading counted(struct side *side, const struct call *calls, size_t how_many)
+{
+    char label[128];
+    rozhinal_reading reading = { 0, 0, 0, 0 };
+    snprintf(label, sizeof label, "%s|%s|%zu", side->name, workload, sheet.count);
+    CALLGRIND_START_INSTRUMENTATION;
+    for (size_t k = 0; k < how_many; k++)
+        reading = make_call(side, &calls[k]);
+    CALLGRIND_STOP_INSTRUMENTATION;
+    CALLGRIND_DUMP_STATS_AT(label);
+    return reading;
+}
+
+/* A workload: the calls together. */
+static void count_all(const char *name, const struct call *calls, size_t how_many)
+{
+    workload = name;
+    rozhinal_reading reading = counted(&library, calls, how_many);
+    compare(reading, counted(&plain, calls, how_many));
+    workload = "preparing";
+}
+
+static void count(const char *name, struct call call)
+{
+    count_all(name, &call, 1);
+}
+
+/* ---- States ---------------------------------------------------------------------------------- */
+
+static struct call call_of(enum call_kind kind, size_t item)
+{
+    return (struct call){ .kind = kind, .item = item };
+}
+
+static struct call post_of(size_t item, int64_t number)
+{
+    return (struct call){ POST, item, ROZHINAL_NUMBER, number };
+}
+
+/* What is posted to an entry on a day: the same in every group. */
+static int64_t amount(size_t item, size_t day)
+{
+    size_t in_group = item % GROUP_ITEMS;
+    size_t most = in_group == RATE ? ROZHINAL_WHOLE : MOST_POSTED;
+    return (int64_t)((in_group + 1) * (day + 1) * 7919 % most);
+}
+
+static void post_every_entry(size_t day)
+{
+    for (size_t i = 0; i < sheet.count; i++)
+        if (is_entry(&sheet, i))
+            prepare(post_of(i, amount(i, day)));
+}
+
+/* Opens, posts every entry and catches up. */
+static void settle(enum call_kind opening)
+{
+    prepare(call_of(opening, 0));
+    post_every_entry(0);
+    prepare(call_of(ASK, sheet.top));
+}
+
+/* The same half in every group. */
+static void keep_half_the_figures(void)
+{
+    for (size_t i = 0; i < sheet.count; i++)
+        if (!is_entry(&sheet, i) && i % GROUP_ITEMS % 2 == 0)
+            prepare(call_of(KEEP, i));
+}
+
+/* The first item with a mark. */
+static size_t marked(enum rozhinal_mark mark)
+{
+    for (size_t i = 0; i < sheet.count; i++)
+        if (library.table[ROZHINAL_RECORD_BYTES * i + 1] == mark)
+            return i;
+    fail("no such mark");
+    return 0;
+}
+
+/* ---- Workloads ------------------------------------------------------------------------------- */
+
+static void count_openings(size_t groups)
+{
+    make_ledger(&sheet, groups, 1);
+    count("open bare", call_of(OPEN_BARE, 0));
+    count("open full", call_of(OPEN_FULL, 0));
+}
+
+static void count_small_calls(size_t groups)
+{
+    make_ledger(&sheet, groups, 1);
+    settle(OPEN_FULL);
+    count("ask, nothing posted", call_of(ASK, sheet.top));
+    count("post", post_of(0, 4321));
+    count("step of an entry", call_of(STEP, 0));
+    count("step of a figure", call_of(STEP, marked(ROZHINAL_MARK_REFRESH)));
+    count("drop", call_of(DROP, sheet.top));
+    count("keep, its parents stored", call_of(KEEP, sheet.top));
+    make_ledger(&sheet, groups, 0);
+    settle(OPEN_BARE);
+    count("keep, nothing stored", call_of(KEEP, sheet.top));
+}
+
+static void count_asks_after_a_post(size_t groups)
+{
+    make_ledger(&sheet, groups, 1);
+    settle(OPEN_FULL);
+    prepare(post_of(0, 4321));
+    count("ask after one post, all stored", call_of(ASK, sheet.top));
+
+    make_ledger(&sheet, groups, 0);
+    settle(OPEN_BARE);
+    keep_half_the_figures();
+    prepare(post_of(0, 4321));
+    count("ask after one post, half stored", call_of(ASK, sheet.top));
+
+    settle(OPEN_BARE);
+    prepare(post_of(0, 4321));
+    count("ask after one post, none stored", call_of(ASK, sheet.top));
+}
+
+static void count_asks_after_all_posts(size_t groups)
+{
+    make_ledger(&sheet, groups, 1);
+    settle(OPEN_FULL);
+    post_every_entry(1);
+    count("ask after every entry was posted", call_of(ASK, sheet.top));
+}
+
+static void count_chain(void)
+{
+    make_chain(&sheet);
+    settle(OPEN_BARE);
+    prepare(post_of(0, 4321));
+    count("ask, 64 levels of one parent 16 times", call_of(ASK, sheet.top));
+}
+
+static void count_fan(void)
+{
+    make_fan(&sheet, 800);
+    settle(OPEN_FULL);
+    prepare(post_of(0, 4321));
+    count("ask, an entry with 800 children", call_of(ASK, sheet.top));
+}
+
+static void count_printer(void)
+{
+    static const struct call prints[] = {
+        { PRINT, 0, ROZHINAL_NULL, 0 },         { PRINT, 0, ROZHINAL_OUT, 0 },
+        { PRINT, 0, ROZHINAL_NUMBER, 0 },       { PRINT, 0, ROZHINAL_NUMBER, 75 },
+        { PRINT, 0, ROZHINAL_NUMBER, -48250 },  { PRINT, 0, ROZHINAL_NUMBER, 1234567 },
+        { PRINT, 0, ROZHINAL_NUMBER, -ROZHINAL_LIMIT },
+    };
+    enum { PRINTS = sizeof prints / sizeof prints[0] };
+    sheet.count = 0;
+    for (size_t k = 0; k < PRINTS; k++)
+        prepare(prints[k]);
+    count_all("print, seven values", prints, PRINTS);
+}
+
+int main(void)
+{
+    enum { MOST_GROUPS = 8 };
+    count_openings(MOST_GROUPS);
+    count_small_calls(MOST_GROUPS);
+    for (size_t groups = MOST_GROUPS; groups > 0; groups /= 2) {
+        count_asks_after_a_post(groups);
+        count_asks_after_all_posts(groups);
+    }
+    count_chain();
+    count_fan();
+    count_printer();
+    return 0;
+}

@@ -1,0 +1,34 @@
+/* The sheets of the benchmark. They are the same at each run. */
+#ifndef SHEETS_H
+#define SHEETS_H
+
+#include "rozhinal.h"
+
+enum { SHEET_BYTES = 65536, GROUP_ITEMS = 125, COMMON_ENTRIES = 4, RATE = 1, MOST_POSTED = 100000 };
+
+struct sheet {
+    uint8_t bytes[SHEET_BYTES];
+    size_t length;
+    size_t count;
+    size_t top; /* the last item of the highest level */
+};
+
+/*
+ * A fleet's ledger: groups of GROUP_ITEMS items each, a quarter of them entries. The groups are
+ * alike and stand beside each other; all of them also use the first COMMON_ENTRIES entries of the
+ * sheet. So the work of a call grows with the groups and no faster. The entry RATE is the second
+ * parent of every share. No figure is OUT while entries are at most MOST_POSTED. Without keeping,
+ * every keep byte is 0.
+ */
+void make_ledger(struct sheet *sheet, size_t groups, int keeping);
+
+/* One entry, and as many levels above it as a sheet can have: each lists the one below 16 times. */
+void make_chain(struct sheet *sheet);
+
+/* COMMON_ENTRIES entries, and figures that all list the first. */
+void make_fan(struct sheet *sheet, size_t figures);
+
+/* Whether the item is an entry. */
+int is_entry(const struct sheet *sheet, size_t item);
+
+#endif
