@@ -11,6 +11,7 @@
 #include <fcntl.h>
 #include <stdlib.h>
 #include <string.h>
+#include <sys/stat.h>
 #include <unistd.h>
 
 enum { MARK_BYTES = 16, LENGTH_BYTES = 4, SUM_BYTES = 8 };
@@ -126,7 +127,7 @@ static int write_all(int file, const uint8_t *bytes, size_t length)
         ssize_t written = write(file, bytes, length);
         if (written < 0 && errno == EINTR)
             continue;
-        if (written < 0)
+        if (written <= 0)
             return -1;
         bytes += written;
         length -= (size_t)written;
@@ -134,13 +135,23 @@ static int write_all(int file, const uint8_t *bytes, size_t length)
     return 0;
 }
 
-/* Writes a file and sees that its bytes are on the disk. */
-static int write_file(const char *path, const uint8_t *bytes, size_t length)
+/* Who may read and write the file that stands, and so the one that takes its place. */
+static int keep_mode(int file, const char *standing)
+{
+    struct stat old;
+    if (stat(standing, &old) != 0)
+        return errno == ENOENT ? 0 : -1;
+    return fchmod(file, old.st_mode & 0777);
+}
+
+/* Writes a file that is to replace the standing one, and sees that its bytes are on the disk. */
+static int write_file(const char *path, const char *standing, const uint8_t *bytes, size_t length)
 {
     int file = open(path, O_WRONLY | O_CREAT | O_TRUNC | O_CLOEXEC, 0666);
     if (file < 0)
         return -1;
-    int failed = write_all(file, bytes, length) != 0 || fsync(file) != 0;
+    int failed = keep_mode(file, standing) != 0 || write_all(file, bytes, length) != 0
+                 || fsync(file) != 0;
     int cause = errno;
     if (close(file) != 0 && !failed) {
         failed = 1;
@@ -197,7 +208,7 @@ int book_save(const struct book *book)
     int state = -1;
     if (bytes == NULL || path == NULL)
         errno = ENOMEM;
-    else if (write_file(path, bytes, length) == 0 && rename(path, book->path) == 0)
+    else if (write_file(path, book->path, bytes, length) == 0 && rename(path, book->path) == 0)
         state = sync_folder(book->path) == 0 ? 0 : 1;
     int cause = errno;
     free(bytes);

@@ -80,7 +80,7 @@ int main(int argc, char **argv)
     }
     int status = list_sheet(sheet, sheet_len);
     free(sheet);
-    if (fflush(stdout) != 0) {
+    if (fflush(stdout) != 0 || ferror(stdout)) {
         fputs("lister: the output was not written\n", stderr);
         return 1;
     }

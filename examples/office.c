@@ -7,8 +7,8 @@
  * run goes on from. Commands come from standard input, one a line; `help` lists them. A command is
  * answered once its change is in the file.
  *
- * Exit status: 0 after quit or the end of the input, 1 if the sheet or the book is refused or a
- * file cannot be used, 2 for wrong usage.
+ * Exit status: 0 after quit or the end of the input, 1 if the sheet or the book is refused, a file
+ * cannot be used or the input ends within a line, 2 for wrong usage.
  */
 #include "book.h"
 #include "rozhinal.h"
@@ -72,6 +72,13 @@ static void list_all(const struct office *office)
 
 /* ---- Saving ---- */
 
+/* After a save that the disk may not have yet. */
+static void warn_of(const struct book *book)
+{
+    printf("warning: %s is written, but may not outlast a power cut: %s\n", book->path,
+           strerror(errno));
+}
+
 /* Sees that the table is in the file. If it cannot be, the table is again the one in the file. */
 static bool save(struct office *office)
 {
@@ -85,7 +92,7 @@ static bool save(struct office *office)
         return false;
     }
     if (state > 0)
-        printf("warning: %s: %s\n", book->path, strerror(errno));
+        warn_of(book);
     memcpy(office->saved, book->table, book->table_len);
     return true;
 }
@@ -295,34 +302,64 @@ static size_t cut_words(char *line, char **words, size_t most)
     return count;
 }
 
-static int run(struct office *office)
+enum { LINE_MOST = 1000 };
+enum input { A_LINE, NO_COMMAND, CUT_OFF, THE_END };
+
+/* The next line, without its end. What cannot be a command is read to its end and not kept. */
+static enum input read_line(char line[LINE_MOST + 1])
 {
-    char *line = NULL;
-    size_t room = 0;
-    bool prompt = isatty(STDIN_FILENO), open = true;
-    while (open) {
+    size_t length = 0;
+    bool zero = false;
+    int c;
+    while ((c = getchar()) != EOF && c != '\n') {
+        if (length < LINE_MOST)
+            line[length] = (char)c;
+        if (length <= LINE_MOST)
+            length++;
+        zero = zero || c == '\0';
+    }
+    if (c == EOF)
+        return length == 0 ? THE_END : CUT_OFF;
+    if (zero || length > LINE_MOST)
+        return NO_COMMAND;
+    line[length] = '\0';
+    return A_LINE;
+}
+
+/* Takes commands until quit or the end of the input; false if the input ends within a line. */
+static bool take_commands(struct office *office)
+{
+    char line[LINE_MOST + 1], *words[3];
+    bool prompt = isatty(STDIN_FILENO);
+    for (;;) {
         if (prompt)
             fputs("> ", stdout);
         fflush(stdout);
-        ssize_t length = getline(&line, &room, stdin);
-        if (length < 0)
-            break;
-        char *words[3];
-        if (memchr(line, '\0', (size_t)length) != NULL) {
-            puts("a line with a zero byte is no command");
-            continue;
-        }
-        size_t count = cut_words(line, words, 3);
-        if (count > 0)
-            open = command(office, words, count);
+        enum input input = read_line(line);
+        if (input == THE_END || input == CUT_OFF)
+            return input == THE_END;
+        size_t count = input == A_LINE ? cut_words(line, words, 3) : 0;
+        if (input == NO_COMMAND)
+            printf("a line with a zero byte, or of over %d bytes, is no command\n", LINE_MOST);
+        else if (count > 0 && !command(office, words, count))
+            return true;
     }
-    free(line);
+}
+
+static int run(struct office *office)
+{
+    int status = 0;
+    /* Of a post that was cut off the number may be another one. */
+    if (!take_commands(office)) {
+        puts("the last line has no end, and is not taken");
+        status = 1;
+    }
     bool failed = ferror(stdin);
     if (fflush(stdout) != 0 || ferror(stdout) || failed) {
         fputs("office: input or output failed\n", stderr);
-        return 1;
+        status = 1;
     }
-    return 0;
+    return status;
 }
 
 /* ---- Starting ---- */
@@ -342,14 +379,17 @@ static bool open_sheet(const struct book *book, bool full)
 static bool open_book(struct book *book, bool full)
 {
     uint64_t refusal;
-    enum book_state state = book_load(book, &refusal);
-    switch (state) {
+    int saved;
+    switch (book_load(book, &refusal)) {
     case BOOK_LOADED:
         printf("going on with %s\n", book->path);
         return true;
     case BOOK_ABSENT:
-        if (book_save(book) < 0)
+        saved = book_save(book);
+        if (saved < 0)
             break;
+        if (saved > 0)
+            warn_of(book);
         printf("opened %s: %s begins\n", full ? "full" : "bare", book->path);
         return true;
     case BOOK_OTHER_SHEET:

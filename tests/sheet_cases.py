@@ -1,12 +1,14 @@
 #!/usr/bin/env python3
 """Writes the input of the program sheet_cases and the output that it must have.
 
-  python3 tests/sheet_cases.py      write crates/sheet_cases/stdin and crates/sheet_cases/stdout
+  python3 tests/sheet_cases.py            write crates/sheet_cases/stdin and crates/sheet_cases/stdout
+  python3 tests/sheet_cases.py FOLDER     write stdin and stdout to another folder
 
 Each case is two fields: its label and a sheet. The expected line comes from the reader below, which shares nothing
 with the crates.
 """
 import os
+import sys
 
 # --- sheets
 
@@ -216,6 +218,8 @@ for n in range(len(EXAMPLE)):
     case('example cut at %d' % n, EXAMPLE[:n])
 
 folder = os.path.join(os.path.dirname(os.path.dirname(os.path.abspath(__file__))), 'crates', 'sheet_cases')
+if len(sys.argv) > 1:
+    folder = sys.argv[1]
 with open(os.path.join(folder, 'stdin'), 'wb') as f:
     for label, s in CASES:
         f.write(field(0, label.encode()) + field(1, s))

@@ -180,10 +180,24 @@ static void other_refusals(void)
     require(memcmp(&now, &before, sizeof now) == 0, "a refused print changed a lent byte");
 }
 
+/* A null pointer goes with length 0. */
+static void null_pointers(void)
+{
+    start();
+    refused("no bytes at all", rozhinal_open_full(NULL, 0, NULL, 0, NULL, 0));
+    refused("no sheet", rozhinal_post(NULL, 0, now.index, INDEX, now.table, TABLE, 0, 1, 0));
+    refused("no index", rozhinal_open_bare(SHEET_SLICE, NULL, 0, now.table, TABLE));
+    refused("no table", rozhinal_open_bare(SHEET_SLICE, now.index, INDEX, NULL, 0));
+    rozhinal_reading r = rozhinal_ask(SHEET_SLICE, NULL, 0, NULL, 0, 4);
+    refused("no index and no table", (rozhinal_answer){ r.number, r.offset });
+    printf("print into nothing: %" PRId64 "\n", rozhinal_print(ROZHINAL_NULL, 0, NULL, 0));
+}
+
 int main(void)
 {
     the_example();
     sheet_refusals();
     other_refusals();
+    null_pointers();
     return faults == 0 ? 0 : 1;
 }

@@ -1,4 +1,4 @@
-//! Bytes to be lent, with guard bytes on both sides.
+//! Bytes to be lent: with guard bytes on both sides, or in a block of their own.
 
 pub struct Guarded {
     all: Vec<u8>,
@@ -19,6 +19,14 @@ impl Guarded {
         let mut all: Vec<u8> = (0..front + bytes.len() + GUARD).map(guard_byte).collect();
         all[front..front + bytes.len()].copy_from_slice(bytes);
         Guarded { all, front, length: bytes.len() }
+    }
+
+    /// A copy in a block that begins and ends with it, so that a memory checker sees each access
+    /// outside it. No bytes at all have no block.
+    pub fn alone(bytes: &[u8]) -> Self {
+        let mut all = Vec::with_capacity(bytes.len());
+        all.extend_from_slice(bytes);
+        Guarded { all, front: 0, length: bytes.len() }
     }
 
     pub fn bytes(&self) -> &[u8] {
@@ -52,6 +60,15 @@ impl Guarded {
 #[cfg(test)]
 mod tests {
     use super::*;
+
+    #[test]
+    fn alone_has_no_room_around() {
+        for length in [0, 1, 5, 1000] {
+            let lent = Guarded::alone(&vec![7; length]);
+            assert_eq!((lent.all.capacity(), lent.front), (length, 0));
+            assert!(lent.guards_hold());
+        }
+    }
 
     #[test]
     fn guards_are_watched() {

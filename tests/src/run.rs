@@ -17,6 +17,8 @@ pub struct Plan {
     pub calls: u64,
     pub offices: u64,
     pub days: u64,
+    /// Slices are lent in blocks of their own, for a run under a memory checker.
+    pub alone: bool,
     /// Only this part of the run, as a failure names it.
     pub only: Option<u64>,
     /// Print the number of each part before it is run, for an engine that ends the program.
@@ -36,6 +38,7 @@ pub fn run(
     mut day: Option<&mut dyn DayProgram>,
 ) -> Result<Tally, String> {
     let mut c = Comparison::new(engine, Rng::new(0));
+    c.alone = plan.alone;
     if let Some(part) = plan.only {
         run_part(plan, part, &mut c, &mut day)?;
         return Ok(c.tally);
@@ -51,7 +54,7 @@ pub fn run(
         run_part(plan, list, &mut c, &mut day)?;
         list += 1;
     }
-    if day.is_some() {
+    if day.is_some() && plan.days > 0 {
         if plan.fixed {
             run_part(plan, FIXED_DAYS, &mut c, &mut day)?;
         }
@@ -82,7 +85,8 @@ fn run_part(
         (DAYS.., Some(program)) => compare_random_day(*program, &mut c.rng, &mut c.tally),
         (DAYS.., None) => Err("no day program is given".to_string()),
         (OFFICES.., _) => run_offices(c),
-        _ => run_list(c),
+        // A fifth of the lists.
+        _ => run_list(c, part % 5 == 0),
     };
     let calls = c.tally.calls();
     result.map_err(|e| format!("{e}\nafter {calls} calls; alone: --seed {seed} --part {part}"))
@@ -96,9 +100,10 @@ mod tests {
     const SHORT: Plan = Plan {
         seed: 5,
         fixed: false,
-        calls: 5_000,
+        calls: 10_000,
         offices: 10,
         days: 0,
+        alone: false,
         only: None,
         trace: false,
     };
@@ -112,8 +117,28 @@ mod tests {
         let plan = Plan { fixed: true, calls: 15_000, offices: 100, days: 60, ..SHORT };
         let tally = try_mock(&plan, Wrong::Nothing).unwrap();
         assert!(tally.calls() >= 50_000);
-        assert!(tally.lists_from_tables * 6 > tally.lists);
-        assert!(tally.sheet_lines > 0 && tally.fault_lines > 0);
+        assert_eq!(tally.lists_from_tables, tally.lists.div_ceil(5));
+        assert_eq!(tally.random_days, 60);
+        assert!(tally.damaged_days > 10);
+    }
+
+    /// A run that finds no difference fails if a refusal was never given.
+    #[test]
+    fn a_run_that_misses_a_refusal_fails() {
+        let plan = Plan { calls: 40, offices: 0, ..SHORT };
+        let found = try_mock(&plan, Wrong::Nothing).unwrap_err();
+        assert!(found.starts_with("never given: "), "{found}");
+    }
+
+    /// Without guards the same calls are made, and wrong engines are found too.
+    #[test]
+    fn slices_can_be_lent_alone() {
+        let plan = Plan { fixed: true, alone: true, calls: 500, offices: 3, ..SHORT };
+        let alone = try_mock(&plan, Wrong::Nothing).unwrap();
+        let guarded = try_mock(&Plan { alone: false, ..plan }, Wrong::Nothing).unwrap();
+        assert_eq!(alone.given, guarded.given);
+        let found = try_mock(&Plan { alone: true, ..SHORT }, Wrong::AskChangesSheet).unwrap_err();
+        assert!(found.contains("--seed 5 --part"), "{found}");
     }
 
     /// Each wrong engine is found within a few thousand calls.

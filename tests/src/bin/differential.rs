@@ -9,7 +9,7 @@ use std::process::ExitCode;
 use std::time::{Instant, SystemTime, UNIX_EPOCH};
 
 const USAGE: &str =
-    "differential [--self] [--trace] [--seed N] [--calls N] [--offices N] [--days N] [--part N]";
+    "differential [--self] [--trace] [--alone] [--seed N] [--calls N] [--offices N] [--days N] [--part N]";
 
 struct Options {
     mock: bool,
@@ -31,9 +31,10 @@ fn options() -> Result<Options, String> {
     let plan = Plan {
         seed: clock,
         fixed: true,
-        calls: 120_000,
-        offices: 1_500,
+        calls: 600_000,
+        offices: 5_000,
         days: 1_000,
+        alone: false,
         only: None,
         trace: false,
     };
@@ -47,6 +48,10 @@ fn options() -> Result<Options, String> {
             }
             "--trace" => {
                 options.plan.trace = true;
+                continue;
+            }
+            "--alone" => {
+                options.plan.alone = true;
                 continue;
             }
             _ => {}

@@ -19,8 +19,9 @@ mod tests {
     use super::*;
     use crate::model::calls::Call;
     use crate::model::field::{field_at, u16_at};
+    use crate::model::machine::Machine;
     use crate::model::sheet::read_sheet;
-    use crate::model::sheet::{Item, MAX_LEVEL};
+    use crate::model::sheet::{Item, MAX_ITEMS, MAX_LEVEL};
     use crate::model::table::decode;
     use crate::model::value::count_fits;
     use crate::model::value::Value;
@@ -38,6 +39,76 @@ mod tests {
                 assert!(decode(&items, &table).is_some());
             }
         }
+    }
+
+    /// Random sheets have each rule with each keep, spread and parent count, and reach the limits.
+    #[test]
+    fn sheets_have_everything() {
+        let mut rng = Rng::new(5);
+        let mut met = [[[[0; 17]; 3]; 2]; 9];
+        let (mut highest, mut most) = (0, 0);
+        for _ in 0..3_000 {
+            let shape = shape(&mut rng);
+            let items = read_sheet(&write_sheet(&sheet(&mut rng, shape))).unwrap();
+            most = most.max(items.len());
+            highest = highest.max(items.iter().map(|i| i.level).max().unwrap());
+            for f in items.iter().filter_map(|i| i.figure.as_ref()) {
+                met[f.rule as usize][f.keep as usize][f.spread as usize][f.parents.len()] += 1;
+            }
+        }
+        assert_eq!((highest, most), (MAX_LEVEL, MAX_ITEMS));
+        for rule in 1..=8 {
+            for count in (1..=16).filter(|&c| count_fits(rule, c)) {
+                let least = met[rule as usize].iter().flatten().map(|m| m[count]).min();
+                assert!(least > Some(0), "rule {rule} of {count} parents");
+            }
+        }
+    }
+
+    /// Tables have each kind with each mark that it can have, and values that are not right.
+    #[test]
+    fn tables_have_marks_and_stale_values() {
+        let mut rng = Rng::new(6);
+        let (mut entries, mut figures) = ([[0; 3]; 4], [[0; 3]; 4]);
+        let mut stale = 0;
+        for _ in 0..400 {
+            let items = read_sheet(&write_sheet(&small_specs(&mut rng))).unwrap();
+            let table = accepted_table(&mut rng, &items);
+            let mut machine = Machine::new(&items, decode(&items, &table).unwrap());
+            for (i, cell) in table.chunks(10).enumerate() {
+                let met = if items[i].figure.is_some() { &mut figures } else { &mut entries };
+                met[cell[0] as usize][cell[1] as usize] += 1;
+            }
+            for i in (0..items.len()).filter(|&i| items[i].figure.is_some()) {
+                let stored = machine.cells[i].stored;
+                machine.drop(i);
+                stale += (stored.is_some() && stored != Some(machine.look_up(i).0)) as u64;
+            }
+        }
+        assert!(entries[1][0] * entries[1][2] * entries[3][0] * entries[3][2] > 0, "{entries:?}");
+        assert!(figures[0][0] * figures[0][2] > 0, "{figures:?}");
+        assert!(figures[1..].iter().flatten().all(|&m| m > 0), "{figures:?}");
+        assert!(stale > 300, "{stale}");
+    }
+
+    /// Each call is made with the largest item number, and with one that is cut to a good one.
+    #[test]
+    fn item_numbers_go_to_the_largest() {
+        let mut rng = Rng::new(7);
+        let (mut largest, mut cut) = ([0; 5], [0; 5]);
+        for _ in 0..60_000 {
+            let items = read_sheet(&plain_chain(3)).unwrap();
+            let (at, item) = match any_call(&mut rng, &items, &[], Numbers::Any) {
+                Call::Post { item, .. } => (0, item),
+                Call::Keep { item } => (1, item),
+                Call::Drop { item } => (2, item),
+                Call::Step { item } => (3, item),
+                Call::Ask { item } => (4, item),
+            };
+            largest[at] += (item == u64::MAX) as u64;
+            cut[at] += (item > 65_535 && item % 65_536 < 4) as u64;
+        }
+        assert!(largest.iter().chain(&cut).all(|&m| m > 5), "{largest:?} {cut:?}");
     }
 
     #[test]

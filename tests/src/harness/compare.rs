@@ -36,24 +36,44 @@ pub struct Comparison<'a> {
     pub engine: &'a mut dyn Engine,
     pub rng: Rng,
     pub tally: Tally,
+    /// Whether slices are lent in blocks of their own, without guards, for a memory checker.
+    pub alone: bool,
 }
 
 impl<'a> Comparison<'a> {
     pub fn new(engine: &'a mut dyn Engine, rng: Rng) -> Self {
-        Comparison { engine, rng, tally: Tally::default() }
+        Comparison { engine, rng, tally: Tally::default(), alone: false }
     }
 
-    /// Performs the act on both sides. The lent bytes become what both leave.
+    fn lend(&mut self, bytes: &[u8]) -> Guarded {
+        let shift = self.rng.below(8) as usize;
+        match self.alone {
+            true => Guarded::alone(bytes),
+            false => Guarded::new(bytes, shift),
+        }
+    }
+
+    /// Performs the act on both sides, and prints what an ask has read. The lent bytes become what
+    /// both leave.
     pub fn act(&mut self, act: &Act, lent: &mut Lent) -> Result<Reply, String> {
+        let reply = self.act_only(act, lent)?;
+        if let (Act::Give(Call::Ask { .. }), 0) = (act, reply.number) {
+            let length = self.rng.between(20, 26) as usize;
+            let scratch = self.rng.bytes(length);
+            self.print(reply.kind, reply.value, &scratch)?;
+        }
+        Ok(reply)
+    }
+
+    fn act_only(&mut self, act: &Act, lent: &mut Lent) -> Result<Reply, String> {
         let before = lent.clone();
         let reply = match act {
             Act::Open { full } => calls::open(*full, &lent.sheet, &mut lent.index, &mut lent.table),
             Act::Give(call) => calls::call(call, &lent.sheet, &lent.index, &mut lent.table),
         };
         self.tally.count_act(act, reply.number);
-        let mut sheet = Guarded::new(&before.sheet, self.rng.below(8) as usize);
-        let mut index = Guarded::new(&before.index, self.rng.below(8) as usize);
-        let mut table = Guarded::new(&before.table, self.rng.below(8) as usize);
+        let (mut sheet, mut index) = (self.lend(&before.sheet), self.lend(&before.index));
+        let mut table = self.lend(&before.table);
         let given = match act {
             Act::Open { full } => self.engine.open(*full, &mut sheet, &mut index, &mut table),
             Act::Give(call) => self.engine.call(call, &mut sheet, &mut index, &mut table),
@@ -79,7 +99,7 @@ impl<'a> Comparison<'a> {
     pub fn print(&mut self, kind: u64, number: i64, scratch: &[u8]) -> Result<(), String> {
         let mut right = scratch.to_vec();
         let written = printer::print(kind, number, &mut right);
-        let mut lent = Guarded::new(scratch, self.rng.below(8) as usize);
+        let mut lent = self.lend(scratch);
         let given = self.engine.print(kind, number, &mut lent);
         self.tally.count_print(written.min(0).unsigned_abs());
         if given == written && lent.bytes() == right && lent.guards_hold() {

@@ -6,7 +6,7 @@ use crate::engine::DayProgram;
 use crate::gen::{self, Shape};
 use crate::model::calls::Call;
 use crate::model::day::{run_day, MOST};
-use crate::model::sheet::{read_sheet, EXAMPLE};
+use crate::model::sheet::{read_sheet, EXAMPLE, MAX_LEVEL};
 use crate::rng::Rng;
 use std::path::{Path, PathBuf};
 use std::process::Command;
@@ -42,9 +42,9 @@ impl DayProgram for DayBinary {
         self.put("day.bin", day)?;
         let run = Command::new(&self.binary).current_dir(&self.folder).output();
         let output = run.map_err(|e| format!("{}: {e}", self.binary.display()))?;
-        match output.status.code() {
-            Some(_) => Ok(output.stdout),
-            None => Err(format!("the day program was ended by a signal: {}", output.status)),
+        match output.status.success() {
+            true => Ok(output.stdout),
+            false => Err(format!("the day program ended with {}", output.status)),
         }
     }
 }
@@ -62,7 +62,9 @@ pub fn compare_random_day(
     rng: &mut Rng,
     tally: &mut Tally,
 ) -> Result<(), String> {
-    let (sheet, day) = random_day(rng);
+    let (sheet, day, damaged) = random_day(rng);
+    tally.random_days += 1;
+    tally.damaged_days += damaged as u64;
     // A missing file counts as empty.
     let no_sheet = sheet.is_empty() && rng.percent(50);
     let no_day = day.is_empty() && rng.percent(50);
@@ -86,6 +88,9 @@ pub fn compare_fixed_days(program: &mut dyn DayProgram, tally: &mut Tally) -> Re
     for length in 0..sheet.len() {
         compare_day(program, Some(&sheet[..length].to_vec()), Some(&log), tally)?;
     }
+    for sheet in refused_sheets() {
+        compare_day(program, Some(&sheet), Some(&log), tally)?;
+    }
     for at in 0..log.len() {
         for byte in [0, 1, 2, 3, 4, 12, 15, 16, 18, 20, 21, 255] {
             let mut changed = log.clone();
@@ -102,6 +107,18 @@ pub fn compare_fixed_days(program: &mut dyn DayProgram, tally: &mut Tally) -> Re
         compare_day(program, Some(&sheet), Some(&long[more..].to_vec()), tally)?;
     }
     Ok(())
+}
+
+/// A sheet for each refusal from 1 to 7.
+fn refused_sheets() -> Vec<Vec<u8>> {
+    let mut sheets = vec![EXAMPLE[..45].to_vec()];
+    for (at, byte) in [(7, 9), (10, 32), (3, 2), (22, 9), (26, 3)] {
+        let mut sheet = EXAMPLE.to_vec();
+        sheet[at] = byte;
+        sheets.push(sheet);
+    }
+    sheets.push(gen::plain_chain(MAX_LEVEL as u16 + 1));
+    sheets
 }
 
 /// The example day of the paper.
@@ -133,12 +150,7 @@ fn compare_day(
     let right = run_day(&bytes(sheet), &bytes(day));
     let given = program.run(sheet.map(|s| &s[..]), day.map(|d| &d[..]));
     tally.days += 1;
-    let lines = right.split_inclusive(|&b| b == b'\n');
-    for line in lines {
-        tally.day_lines += 1;
-        tally.sheet_lines += line.starts_with(b"SHEET") as u64;
-        tally.fault_lines += line.starts_with(b"DAY") as u64;
-    }
+    String::from_utf8_lossy(&right).lines().for_each(|line| tally.count_line(line));
     let trouble = match given {
         Ok(given) if given == right => return Ok(()),
         Ok(given) => String::from_utf8_lossy(&given).into_owned(),
@@ -153,7 +165,8 @@ fn compare_day(
     ))
 }
 
-fn random_day(rng: &mut Rng) -> (Vec<u8>, Vec<u8>) {
+/// Sheet and log, and whether one of them was changed.
+fn random_day(rng: &mut Rng) -> (Vec<u8>, Vec<u8>, bool) {
     let shape = gen::shape(rng);
     let specs = gen::sheet(rng, shape);
     let mut sheet = gen::write_sheet(&specs);
@@ -165,7 +178,8 @@ fn random_day(rng: &mut Rng) -> (Vec<u8>, Vec<u8>) {
         _ => rng.below(50),
     };
     let mut day = gen::day_log(rng, &items, calls as usize);
-    match rng.below(100) {
+    let change = rng.below(100);
+    match change {
         0..=24 => day = gen::damaged(rng, &day),
         25..=34 => sheet = gen::damaged_sheet(rng, &specs),
         35..=39 => sheet = gen::bad_sheet(rng),
@@ -181,5 +195,17 @@ fn random_day(rng: &mut Rng) -> (Vec<u8>, Vec<u8>) {
         }
         _ => {}
     }
-    (sheet, day)
+    (sheet, day, change <= 41)
+}
+
+#[cfg(test)]
+mod tests {
+    use super::*;
+
+    #[test]
+    fn refused_sheets_have_each_number() {
+        let numbers: Vec<u64> =
+            refused_sheets().iter().map(|s| read_sheet(s).unwrap_err().number).collect();
+        assert_eq!(numbers, [1, 2, 3, 4, 5, 6, 7]);
+    }
 }

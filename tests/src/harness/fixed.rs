@@ -14,7 +14,11 @@ pub fn run_fixed(c: &mut Comparison) -> Result<(), String> {
     sheet_bytes(c)?;
     index_and_table_bytes(c)?;
     lengths(c)?;
+    arguments(c)?;
     limits(c)?;
+    parent_counts(c)?;
+    names(c)?;
+    figures(c)?;
     long_fields(c)?;
     stale_ledgers(c)
 }
@@ -122,6 +126,24 @@ fn lengths(c: &mut Comparison) -> Result<(), String> {
     Ok(())
 }
 
+/// Each call with each item and item numbers beyond them, and posts of each kind.
+fn arguments(c: &mut Comparison) -> Result<(), String> {
+    let busy = busy_example(c)?;
+    let beyond = [65_535, 65_536, 1 << 32, 1 << 63, u64::MAX - 1, u64::MAX];
+    for item in (0..8).chain(beyond) {
+        let kinds = (0..6).chain([256, 257, 259, (1 << 32) + 3, u64::MAX]);
+        let posts = kinds.flat_map(|kind| {
+            [0, 7, -1, LIMIT, LIMIT + 1].map(|number| Call::Post { item, kind, number })
+        });
+        let others =
+            [Call::Keep { item }, Call::Drop { item }, Call::Step { item }, Call::Ask { item }];
+        for call in posts.chain(others) {
+            c.act(&Act::Give(call), &mut busy.clone())?;
+        }
+    }
+    Ok(())
+}
+
 /// Opens a sheet, with index and table of the right length for so many items.
 fn opened(
     c: &mut Comparison,
@@ -142,7 +164,13 @@ fn expect(what: &str, given: u64, right: u64) -> Result<(), String> {
 }
 
 fn limits(c: &mut Comparison) -> Result<(), String> {
-    // A chain and a tower of sixteenfold parents, at the highest level and one above it.
+    levels(c)?;
+    item_counts(c)?;
+    range(c)
+}
+
+/// A chain and a tower of sixteenfold parents, at the highest level and one above it.
+fn levels(c: &mut Comparison) -> Result<(), String> {
     for levels in [MAX_LEVEL, MAX_LEVEL + 1] {
         let right = if levels > MAX_LEVEL { 7 } else { 0 };
         let mut tower = vec![Spec::Entry(b"A".to_vec())];
@@ -153,6 +181,7 @@ fn limits(c: &mut Comparison) -> Result<(), String> {
             for call in [
                 post(0, LIMIT),
                 Call::Keep { item: 40 },
+                Call::Drop { item: 40 },
                 Call::Ask { item: 64 },
                 Call::Keep { item: 64 },
                 post(0, -1),
@@ -163,7 +192,11 @@ fn limits(c: &mut Comparison) -> Result<(), String> {
             }
         }
     }
-    // The most items, as long as they can be, and one more.
+    Ok(())
+}
+
+/// The most items, as long as they can be, and one more.
+fn item_counts(c: &mut Comparison) -> Result<(), String> {
     for count in [MAX_ITEMS, MAX_ITEMS + 1] {
         let mut specs = vec![Spec::Entry(vec![b'~'; 16])];
         for i in 1..count {
@@ -178,7 +211,11 @@ fn limits(c: &mut Comparison) -> Result<(), String> {
             c.act(&Act::Give(call), &mut lent)?;
         }
     }
-    // The range, from both sides.
+    Ok(())
+}
+
+/// The range of posts and of tables, from both sides.
+fn range(c: &mut Comparison) -> Result<(), String> {
     let (lent, _) = opened(c, EXAMPLE.to_vec(), 5, false)?;
     for (number, right) in [(LIMIT, 0), (LIMIT + 1, 13), (-LIMIT, 0), (-LIMIT - 1, 13)] {
         let given = c.act(&Act::Give(post(0, number)), &mut lent.clone())?;
@@ -188,6 +225,100 @@ fn limits(c: &mut Comparison) -> Result<(), String> {
         table.table[2..10].copy_from_slice(&number.to_le_bytes());
         let given = c.act(&Act::Give(Call::Ask { item: 0 }), &mut table)?;
         expect("range of a table", given.number, if right == 0 { 0 } else { 10 })?;
+    }
+    Ok(())
+}
+
+/// Each code of a rule, and beyond them, with each number of parents, and one beyond it.
+fn parent_counts(c: &mut Comparison) -> Result<(), String> {
+    for rule in 0..=9 {
+        for count in 0..=17 {
+            let specs = [Spec::Entry(b"A".to_vec()), spec_figure(rule, 1, 1, &vec![0; count])];
+            let (_, number) = opened(c, write_sheet(&specs), 2, count % 2 == 0)?;
+            let right = match rule {
+                1 | 3 | 4 | 7 => (1..=16).contains(&count),
+                2 | 5 | 8 => count == 2,
+                6 => count == 3,
+                _ => false,
+            };
+            expect("parents of a rule", number, if right { 0 } else { 5 })?;
+        }
+    }
+    Ok(())
+}
+
+/// Names of each length and of each byte, of an entry and of a figure.
+fn names(c: &mut Comparison) -> Result<(), String> {
+    let lengths = (0..=17).map(|length| (vec![b'N'; length], (1..=16).contains(&length)));
+    let bytes = (0..=255u8).map(|byte| (vec![b'N', byte, b'N'], (33..=126).contains(&byte)));
+    for (name, right) in lengths.chain(bytes) {
+        let entry = Spec::Entry(name.clone());
+        let figure = Spec::Figure { rule: 1, keep: 0, spread: 0, parents: vec![0], name };
+        for specs in [vec![entry], vec![Spec::Entry(b"A".to_vec()), figure]] {
+            let (_, number) = opened(c, write_sheet(&specs), specs.len(), false)?;
+            expect("a name", number, if right { 0 } else { 3 })?;
+        }
+    }
+    Ok(())
+}
+
+/// A parent or a result: nothing recorded, or a number.
+type Given = Option<i64>;
+/// No number is this; it stands for OUT.
+const OUT: Given = Some(i64::MIN);
+
+/// The paper's figures to check, and the limits of the range from both sides.
+const FIGURES: [(u8, &[Given], Given); 19] = [
+    (1, &[None, None], None),
+    (1, &[Some(5), None], Some(5)),
+    (1, &[Some(LIMIT), Some(1)], OUT),
+    (1, &[Some(LIMIT), Some(1), Some(-1)], Some(LIMIT)),
+    (2, &[None, Some(3)], Some(-3)),
+    (5, &[Some(-1), Some(5_000)], Some(-1)),
+    (5, &[Some(7), Some(10_001)], OUT),
+    (6, &[Some(0), Some(7), Some(9)], Some(9)),
+    (7, &[None, Some(4)], Some(1)),
+    (8, &[Some(3), Some(3)], Some(1)),
+    (3, &[None, Some(-2)], Some(-2)),
+    (1, &[Some(-LIMIT), Some(-1)], OUT),
+    (1, &[Some(-LIMIT), Some(-1), Some(1)], Some(-LIMIT)),
+    (1, &[Some(LIMIT); 16], OUT),
+    (2, &[Some(LIMIT), Some(-1)], OUT),
+    (2, &[Some(1 - LIMIT), Some(1)], Some(-LIMIT)),
+    (5, &[Some(-LIMIT), Some(10_000)], Some(-LIMIT)),
+    (4, &[Some(-LIMIT), None], Some(-LIMIT)),
+    (7, &[Some(0); 16], Some(16)),
+];
+
+/// Each of the figures, and its sum with 0: read and printed from both openings.
+fn figures(c: &mut Comparison) -> Result<(), String> {
+    for (rule, parents, right) in FIGURES {
+        let count = parents.len() as u16;
+        let mut specs = vec![Spec::Entry(b"A".to_vec()); parents.len()];
+        specs.push(spec_figure(rule, 1, 1, &(0..count).collect::<Vec<u16>>()));
+        specs.push(spec_figure(1, 0, 0, &[count]));
+        let (kind, value) = match right {
+            None => (1, 0),
+            OUT => (2, 0),
+            Some(number) => (3, number),
+        };
+        for full in [false, true] {
+            let (mut lent, _) = opened(c, write_sheet(&specs), specs.len(), full)?;
+            for (item, number) in parents.iter().enumerate() {
+                let call = number
+                    .map_or(Call::Post { item: item as u64, kind: 1, number: 0 }, |x| {
+                        post(item as u64, x)
+                    });
+                c.act(&Act::Give(call), &mut lent)?;
+            }
+            for item in [count, count + 1] {
+                let ask = Call::Ask { item: item as u64 };
+                let given = c.act(&Act::Give(ask), &mut lent)?;
+                if (given.kind, given.value) != (kind, value) {
+                    return Err(format!("rule {rule} of {parents:?} gives {given:?}"));
+                }
+            }
+        }
     }
     Ok(())
 }

@@ -8,8 +8,8 @@ use crate::model::sheet::{index_of, read_sheet, Item};
 use crate::model::table::to_pair;
 use crate::rng::Rng;
 
-/// One list of calls, compared after every call.
-pub fn run_list(c: &mut Comparison) -> Result<(), String> {
+/// One list of calls, compared after every call: from an opening, or from any accepted table.
+pub fn run_list(c: &mut Comparison, from_table: bool) -> Result<(), String> {
     let (shape, numbers) = (gen::shape(&mut c.rng), gen::choose_numbers(&mut c.rng));
     let specs = gen::sheet(&mut c.rng, shape);
     let sheet = gen::write_sheet(&specs);
@@ -17,7 +17,7 @@ pub fn run_list(c: &mut Comparison) -> Result<(), String> {
     c.tally.lists += 1;
     let mut lent = Lent { sheet, index: vec![], table: vec![] };
     let mut office = None;
-    if c.rng.percent(20) {
+    if from_table {
         c.tally.lists_from_tables += 1;
         lent.index = index_of(&items);
         lent.table = gen::accepted_table(&mut c.rng, &items);
@@ -45,6 +45,7 @@ pub fn run_list(c: &mut Comparison) -> Result<(), String> {
 
 fn list_length(rng: &mut Rng, shape: Shape) -> u64 {
     match shape {
+        Shape::Small | Shape::Medium if rng.percent(2) => rng.between(200, 500),
         Shape::Small | Shape::Medium => rng.between(5, 60),
         Shape::Deep => rng.between(5, 25),
         Shape::Wide => rng.between(2, 8),
@@ -65,7 +66,7 @@ pub fn open<'i>(
     Ok(Office::new(items))
 }
 
-/// A call with the lent bytes as they are; an ask is printed too.
+/// A call with the lent bytes as they are, judged by what is known of the list.
 pub fn plain_call(
     c: &mut Comparison,
     call: Call,
@@ -76,11 +77,6 @@ pub fn plain_call(
     let reply = c.act(&Act::Give(call), lent)?;
     if let Some(office) = office {
         office.judge(c, &call, &reply, &before, &lent.table)?;
-    }
-    if let (Call::Ask { .. }, 0) = (call, reply.number) {
-        let length = c.rng.between(20, 26) as usize;
-        let scratch = c.rng.bytes(length);
-        c.print(reply.kind, reply.value, &scratch)?;
     }
     Ok(reply)
 }
@@ -305,7 +301,7 @@ mod tests {
         let mut recorder = Recorder { met: [[0; 16]; 16] };
         for list in 0..1_500 {
             let mut c = Comparison::new(&mut recorder, Rng::part(7, list));
-            run_list(&mut c).unwrap();
+            run_list(&mut c, list % 5 == 0).unwrap();
         }
         for low in 8..=11 {
             for high in low + 1..=14 {

@@ -12,7 +12,11 @@ pub fn run_offices(c: &mut Comparison) -> Result<(), String> {
     let sheet = gen::write_sheet(&gen::sheet(&mut c.rng, shape));
     let items = read_sheet(&sheet).unwrap();
     c.tally.offices += 1;
-    let most = if shape == Shape::Wide { 4 } else { 15 };
+    let most = match shape {
+        Shape::Wide => 4,
+        Shape::Small if c.rng.percent(5) => 150,
+        _ => 15,
+    };
     let posts: Vec<Call> =
         (0..c.rng.below(most)).map(|_| gen::good_post(&mut c.rng, &items, numbers)).collect();
     let (mut one, first) = run_office(c, &sheet, &items, &posts)?;
