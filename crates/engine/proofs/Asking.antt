@@ -1,5 +1,5 @@
 -- Stepping and asking on what was entered: their own tests, and what they leave. Assumes nothing.
-use Prim.Native.Nat.{ℕ, zero, suc, _*_, _≤_, _<_}
+use Prim.Native.Nat.{ℕ, zero, suc, _+_, _*_, _≤_, _<_}
 use native.Mathlib.Omega.{arith}
 use mathlib.Core.Path.{_≡_, refl, sym, ap, subst, _∙_}
 use mathlib.Core.Bool.{Bool, true, false, cond, not}
@@ -11,18 +11,21 @@ use lib.ListN.{length, getD}
 use borrow.Author.Tests.{le-leb, lt-leb, leb-false}
 use Rattle.circuit.specs.Value.{Value}
 use Rattle.circuit.specs.Sheet.{Sheet, size}
-use Rattle.circuit.specs.Table.{Table, Cell, isMarked}
-use Rattle.circuit.specs.Machine.{lookUp, stepItem, catchUp}
+use Rattle.circuit.specs.Table.{Table, Cell, isMarked, isNotice, markOf}
+use Rattle.circuit.specs.Machine.{lookUp, tell, clearMark, stepItem, catchUp}
 use Rattle.circuit.specs.Calls.{Call, step, ask, Test, test, firstCause, tests, effect, noItem, noMark}
 use Rattle.sheet.specs.Opened.{sheetOf}
 use Rattle.word.specs.Word.{Bytes}
 use Rattle.table.specs.Record.{width}
-use Rattle.table.specs.Bytes.{encodeTable, decodeTable, tableForm, tableLength}
+use Rattle.table.specs.Bytes.{encodeTable, decodeTable, tableForm, tableLength, LowestMarked}
 use Rattle.table.proofs.Tables.{encode-decodeTable}
 use Rattle.office.specs.Office.{Given, callOn}
 use Rattle.item.proofs.Located.{size-most}
-use Rattle.engine.specs.Pass.{Lent}
-use Rattle.engine.specs.Stepping.{Ready}
+use Rattle.solver.specs.Pass.{Lent, Leaves}
+use Rattle.solver.specs.Stepping.{Ready, Steps}
+use Rattle.solver.specs.Memo.{Found, Memo}
+use Rattle.children.specs.Children.{places, lists, linkAll, Linked}
+use Rattle.children.proofs.Building.{sheet-linked}
 use Rattle.engine.specs.Entry.{entryOf, callLent}
 use Rattle.engine.specs.Answers.{Answered, Read, Reads, Left, LookedUp}
 use Rattle.engine.specs.declared.calls.Answer.{Answer}
@@ -30,6 +33,8 @@ use Rattle.engine.specs.declared.calls.Reading.{Reading}
 use Rattle.engine.specs.declared.enter.Entry.the-variants.{Items, Refused}
 use Rattle.engine.proofs.Entering.{entered, refused-call}
 use Rattle.engine.proofs.Calling.{refused-answer, accepted-answer}
+use Rattle.solver.proofs.Stepping.{ready-memo, noticed-step}
+use Rattle.solver.proofs.Sweeping.{quiet-caught}
 
 -- ---- step
 
@@ -76,32 +81,22 @@ module _ {s offsets t : List ℕ} (lent : Lent s offsets t) (x : List ℕ) (n it
 
 -- ---- ask
 
--- what is lent after catching up
-pub caught-lent : {s offsets t : List ℕ} → Lent s offsets t → (T : Table) (t′ : List ℕ) → length t′ ≡ length t → Left s T t′ → Lent s offsets t′
-caught-lent lent T t′ len l =
-    record { located = lent .located; room = lent .room; length-is = len ∙ lent .length-is; formed = l .formed }
-
 module _ {s offsets t : List ℕ} (lent : Lent s offsets t) (x : List ℕ) (n item : ℕ) (count-is : n ≡ size (sheetOf s)) (r : Reading) where
   pub ask-refused : n ≤ item → r .number ≡ 11 → r .offset ≡ 0 → r .kind ≡ 0 → r .value ≡ pos 0 → Read (callLent (sheetOf s) x t (ask item)) r t
   unfolding tests firstCause
   ask-refused h a b k v =
       rw (le-leb (size (sheetOf s)) item (omega arith)) (record { number-is = a; offset-is = b; kind-is = k; value-is = v; table-is = refl })
 
-  pub ask-done : item < n → (t₁ t₂ : List ℕ) (v : Value) → Bytes t₂ → length t₂ ≡ length t → Left s (catchUp (sheetOf s) (decodeTable t)) t₁
-      → LookedUp s (lookUp (sheetOf s) (decodeTable t₁) item) v t₂ → Reads v r → Read (callLent (sheetOf s) x t (ask item)) r t₂
+  pub ask-done : item < n → (t₂ : List ℕ) (v : Value) → Bytes t₂ → length t₂ ≡ length t
+      → LookedUp s (lookUp (sheetOf s) (catchUp (sheetOf s) (decodeTable t)) item) v t₂ → Reads v r → Read (callLent (sheetOf s) x t (ask item)) r t₂
   unfolding tests firstCause effect
-  ask-done h t₁ t₂ v bytes len c l q =
-      let same : lookUp (sheetOf s) (decodeTable t₁) item ≡ lookUp (sheetOf s) (catchUp (sheetOf s) (decodeTable t)) item
-      = ap (λ T. lookUp (sheetOf s) T item) (c .table-is) in
-      let e : v ≡ lookUp (sheetOf s) (catchUp (sheetOf s) (decodeTable t)) item .value = l .value-is ∙ ap (λ w. w .value) same in
+  ask-done h t₂ v bytes len l q =
       rw (lt-leb (size (sheetOf s)) item (omega arith)) (record {
         number-is = q .number-is;
         offset-is = q .offset-is;
-        kind-is = q .kind-is ∙ ap Rattle.circuit.specs.Value.kindOf e;
-        value-is = q .value-is ∙ ap Rattle.circuit.specs.Value.numberOf e;
-        table-is =
-            sym (encode-decodeTable (sheetOf s) t₂ bytes (len ∙ lent .length-is) (l .formed))
-            ∙ ap (encodeTable (sheetOf s)) (l .table-is ∙ ap (λ w. w .table) same);
+        kind-is = q .kind-is ∙ ap Rattle.circuit.specs.Value.kindOf (l .value-is);
+        value-is = q .value-is ∙ ap Rattle.circuit.specs.Value.numberOf (l .value-is);
+        table-is = sym (encode-decodeTable (sheetOf s) t₂ bytes (len ∙ lent .length-is) (l .formed)) ∙ ap (encodeTable (sheetOf s)) (l .table-is);
       })
 
 pub refused-read : (s x t : List ℕ) (c : Call) (k at : ℕ) → Refused k at ≡ entryOf s x t → (r : Reading) → r .number ≡ k → r .offset ≡ at
@@ -121,3 +116,39 @@ fresh-ready s tags numbers a b z =
       generations = omega arith;
       older = λ j h. omega (arith, z j);
     }
+
+-- the child lists, built in empty arrays
+pub lists-linked : {s offsets t : List ℕ} → Lent s offsets t → (heads links heads₂ links₂ : List ℕ) → length heads ≡ 1024 → length links ≡ places * 1024
+    → ((p : ℕ) → getD heads p 0 ≡ 0) → heads₂ ≡ linkAll (sheetOf s) (lists heads links) .heads → links₂ ≡ linkAll (sheetOf s) (lists heads links) .links
+    → Linked (sheetOf s) heads₂ links₂
+lists-linked {s} {offsets} {t} lent heads links heads₂ links₂ a b empty headed linked =
+    rw (headed, linked) (sheet-linked s offsets heads links (lent .located) (omega (arith, size-most s)) (omega (arith, size-most s)) (λ p low. empty p))
+
+-- the step of a notice, from what telling and clearing leave
+pub left-noticed : (s t : List ℕ) (i : ℕ) (b : Bool) → b ≡ isNotice (markOf (decodeTable t i)) → b ≡ true → (t₂ : List ℕ)
+    → Left s (clearMark (tell (sheetOf s) (decodeTable t) i) i) t₂ → Left s (stepItem (sheetOf s) (decodeTable t) i) t₂
+left-noticed s t i b tests e t₂ left =
+    subst (λ U. Left s U t₂) (sym (noticed-step (sheetOf s) (decodeTable t) i (sym tests ∙ e))) left
+
+-- nothing is marked: catching up leaves the table, and the next generations may begin
+pub caught-quiet : {s offsets t tags : List ℕ} {numbers : List ℤ} {n first : ℕ} → Lent s offsets t → Ready s tags numbers 1 → n ≡ size (sheetOf s)
+    → LowestMarked (decodeTable t) n first → n ≤ first → Steps s (2 * n) (catchUp (sheetOf s) (decodeTable t)) t tags
+caught-quiet {s} {offsets} {t} {tags} {numbers} {n} {first} lent ready n-is lowest h =
+    record { table-is = quiet-caught lent n-is lowest h; formed = lent .formed; older = λ j l. omega (arith, ready .older j l) }
+
+-- the look-up after catching up is of a generation of its own
+pub caught-memo : {s tags : List ℕ} {numbers : List ℤ} → Ready s tags numbers 1 → {n : ℕ} → n ≡ size (sheetOf s) → {U : Table} {t₁ : List ℕ} (tags₁ : List ℕ) (numbers₁ : List ℤ)
+    → length tags₁ ≡ length tags → length numbers₁ ≡ length numbers → Steps s (2 * n) U t₁ tags₁ → (T : Table) → Memo (sheetOf s) T tags₁ numbers₁ (2 * n + 1)
+caught-memo {s} {tags} {numbers} ready {n} n-is tags₁ numbers₁ a b steps T =
+    ready-memo (record { tag-room = omega (arith, ready .tag-room); number-room = omega (arith, ready .number-room); generations = omega (arith, size-most s); older = steps .older }) T
+
+-- a later generation may begin where the first may
+pub ready-later : {s tags : List ℕ} {numbers : List ℤ} → Ready s tags numbers 1 → (generation : ℕ) → 0 < generation → generation < 2_147_483_648 → Ready s tags numbers generation
+ready-later ready generation positive few =
+    record { tag-room = ready .tag-room; number-room = ready .number-room; generations = few; older = λ j h. omega (arith, ready .older j h) }
+
+-- what a look-up after catching up gives
+pub caught-looked : (s : List ℕ) {t₁ : List ℕ} (T : Table) → decodeTable t₁ ≡ T → {tags : List ℕ} {generation b : ℕ} (i : ℕ) {f : Found} {t₂ tags₂ : List ℕ} {numbers₂ : List ℤ}
+    → Leaves s t₁ tags generation b (lookUp (sheetOf s) (decodeTable t₁) i) f t₂ tags₂ numbers₂ → LookedUp s (lookUp (sheetOf s) T i) (f .value) t₂
+caught-looked s {t₁} T is i {f} {t₂} looks =
+    subst (λ U. LookedUp s (lookUp (sheetOf s) U i) (f .value) t₂) is (record { value-is = looks .value-is; table-is = looks .table-is; formed = looks .formed })

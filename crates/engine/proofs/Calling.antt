@@ -36,7 +36,7 @@ use Rattle.table.proofs.Rows.{below-true, rows-ext, rows-row, row-setRow, row-s
 use Rattle.table.proofs.Records.{length-encodeCell}
 use Rattle.table.proofs.Tables.{encode-decodeTable, encode-upd}
 use Rattle.office.specs.Office.{Given, refusal, lengthsOff, indexWrong, tableWrong, unlessRefused, callOn}
-use Rattle.engine.specs.Pass.{Lent}
+use Rattle.solver.specs.Pass.{Lent}
 use Rattle.engine.specs.Entry.{entryBy, measuredBy, measuredOf, entryOf, callLent}
 use Rattle.engine.proofs.Entering.{measured, entered, refused-call}
 use Rattle.engine.specs.Answers.{Answered, wrongItem, openingBy, firstCell}

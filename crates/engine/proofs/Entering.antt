@@ -24,7 +24,7 @@ use Rattle.item.proofs.Located.{sheet-size, size-most}
 use Rattle.table.specs.Record.{width}
 use Rattle.table.specs.Bytes.{encodeTable, decodeTable, tableForm, tableLength}
 use Rattle.office.specs.Office.{Given, refusal, accepted, lengthsOff, indexWrong, tableWrong, unlessRefused, effectOn, callOn, openOn}
-use Rattle.engine.specs.Pass.{Lent}
+use Rattle.solver.specs.Pass.{Lent}
 use Rattle.engine.specs.Entry.{entryBy, measuredBy, measuredOf, enteredBy, entryOf, callLent, Placing}
 use Rattle.engine.specs.declared.enter.Entry.{Entry}
 use Rattle.engine.specs.declared.enter.Entry.the-variants.{Items, Refused}

@@ -30,8 +30,8 @@ use Rattle.table.proofs.Rows.{rows-ext, rows-row, row-setRow, row-setRow-other}
 use Rattle.table.proofs.Records.{length-encodeCell}
 use Rattle.table.proofs.Tables.{encode-decodeTable, decode-setRow, setRow-form, record-fits}
 use Rattle.office.specs.Office.{openOn}
-use Rattle.engine.specs.Memo.{Found, remembered, Memo}
-use Rattle.engine.specs.Pass.{Lent, Leaves}
+use Rattle.solver.specs.Memo.{Found, remembered, Memo}
+use Rattle.solver.specs.Pass.{Lent, Leaves}
 use Rattle.engine.specs.Entry.{measuredOf, callLent}
 use Rattle.engine.specs.Answers.{Answered, Opened, Left, wrongItem, openingBy, firstCell}
 use Rattle.engine.specs.declared.calls.Answer.{Answer}

@@ -1,13 +1,4 @@
 pub mod Asking
 pub mod Calling
-pub mod Children
 pub mod Entering
-pub mod Gathering
 pub mod Keeping
-pub mod Looking
-pub mod Recalling
-pub mod Renewing
-pub mod Settling
-pub mod Stepping
-pub mod Sweeping
-pub mod Telling

@@ -1,5 +1,2 @@
 pub mod Answers
 pub mod Entry
-pub mod Memo
-pub mod Pass
-pub mod Stepping

@@ -1,6 +1,6 @@
 // The openings and the calls on lent bytes.
 ghost use mathlib.Core.Path.{_≡_};
-ghost use mathlib.Core.Bool.{true};
+ghost use mathlib.Core.Bool.{true, false};
 ghost use mathlib.Core.List.{List, [], _∷_};
 ghost use Prim.Native.Nat.{ℕ, _+_, _*_, _<_, _≤_};
 ghost use lib.ListN.{length};
@@ -12,22 +12,27 @@ ghost use Rattle.circuit.specs.Calls as machine_calls;
 ghost use Rattle.circuit.specs.Calls.{firstCause, test, noItem};
 ghost use Rattle.circuit.specs.Offices.{opened, bare, full};
 ghost use Rattle.value.specs.Meaning.{meaning, partsMeaning};
+ghost use Rattle.circuit.specs.Table.{markOf, isNotice};
 ghost use Rattle.sheet.specs.Opened.{sheetOf};
 ghost use Rattle.table.specs.Record.{width};
-ghost use Rattle.table.specs.Bytes.{encodeTable, decodeTable};
+ghost use Rattle.table.specs.Bytes.{encodeTable, decodeTable, LowestMarked};
 ghost use Rattle.table.specs.Meaning.{markMeaning, cellMeaning};
 ghost use Rattle.office.specs.Office.{openOn, callOn};
 ghost use Rattle.engine.specs.Answers.{Answered, Opened, Read, Reads, Left, LookedUp, wrongItem, openingBy, firstCell};
 ghost use Rattle.engine.specs.Entry.{Placing, callLent};
-ghost use Rattle.engine.specs.Pass.{Lent};
+ghost use Rattle.solver.specs.Pass.{Lent};
+ghost use Rattle.solver.specs.Stepping.{Ready, Steps};
 use crate::enter;
 use crate::enter::Entry;
-use crate::look;
-use crate::step;
+use solver::look;
+use solver::step;
 use table::Cell;
 use table::Mark;
 use value::Parts;
 use value::Value;
+
+// Room for the edges of every item.
+const EDGE_LIMIT: usize = children::PLACES * sheet::limits::ITEM_LIMIT;
 
 // What a call gives: 0, or the number of the cause for which it is refused, and the offset of a sheet's fault.
 #[repr(C)]
@@ -297,21 +302,56 @@ fn mark_cause(table: &[u8], n: usize, item: u64) -> u64
     if item >= n as u64 {
         return 11;
     }
-    if step::is_marked(table::read_cell(table, item as usize)) {
+    if table::is_marked(table, item as usize) {
         0
     } else {
         14
     }
 }
 
-// One step, with a memo in which nothing is remembered.
-fn step_once(sheet: &[u8], offsets: &[usize], table: &mut [u8], n: usize, i: usize)
+// The step of a notice: the children are told by their list.
+fn notice_once(sheet: &[u8], offsets: &[usize], table: &mut [u8], n: usize, i: usize)
     requires { ⌜ Lent (now sheet) (now offsets) (now table) ⌝ ∗ ⌜ n ≡ size (sheetOf (now sheet)) ⌝ ∗ ⌜ i < n ⌝ }
+    ensures { λ _. ⌜ Left (now (sheet .entry)) (machine.clearMark (machine.tell (sheetOf (now (sheet .entry))) (decodeTable (now (table .entry))) i) i) (now (table .exit)) ⌝ }
+{
+    let mut tags = [0u64; sheet::limits::ITEM_LIMIT];
+    let mut numbers = [0i64; sheet::limits::ITEM_LIMIT];
+    let mut heads = [0u16; sheet::limits::ITEM_LIMIT];
+    let mut links = [0u16; EDGE_LIMIT];
+    children::link(sheet, offsets, n, &mut heads, &mut links);
+    step::tell_and_clear(
+        sheet,
+        offsets,
+        table,
+        &mut tags,
+        &mut numbers,
+        &heads,
+        &links,
+        1,
+        i,
+    );
+}
+
+// The step of a refresh.
+fn refresh_once(sheet: &[u8], offsets: &[usize], table: &mut [u8], i: usize)
+    requires { ⌜ Lent (now sheet) (now offsets) (now table) ⌝ ∗ ⌜ i < size (sheetOf (now sheet)) ⌝ ∗ ⌜ isNotice (markOf (decodeTable (now table) i)) ≡ false ⌝ }
     ensures { λ _. ⌜ Left (now (sheet .entry)) (machine.stepItem (sheetOf (now (sheet .entry))) (decodeTable (now (table .entry))) i) (now (table .exit)) ⌝ }
 {
     let mut tags = [0u64; sheet::limits::ITEM_LIMIT];
     let mut numbers = [0i64; sheet::limits::ITEM_LIMIT];
-    step::step_item(sheet, offsets, table, &mut tags, &mut numbers, 1, n, i);
+    step::step_refresh(sheet, offsets, table, &mut tags, &mut numbers, 1, i);
+}
+
+// One step.
+fn step_once(sheet: &[u8], offsets: &[usize], table: &mut [u8], n: usize, i: usize)
+    requires { ⌜ Lent (now sheet) (now offsets) (now table) ⌝ ∗ ⌜ n ≡ size (sheetOf (now sheet)) ⌝ ∗ ⌜ i < n ⌝ }
+    ensures { λ _. ⌜ Left (now (sheet .entry)) (machine.stepItem (sheetOf (now (sheet .entry))) (decodeTable (now (table .entry))) i) (now (table .exit)) ⌝ }
+{
+    if table::is_noticed(table, i) {
+        notice_once(sheet, offsets, table, n, i);
+    } else {
+        refresh_once(sheet, offsets, table, i);
+    }
 }
 
 fn step_lent(sheet: &[u8], offsets: &[usize], table: &mut [u8], n: usize, item: u64) -> Answer
@@ -337,24 +377,70 @@ pub fn step(sheet: &[u8], index: &[u8], table: &mut [u8], item: u64) -> Answer
     }
 }
 
-// Steps until no item is marked.
-fn catch_up(sheet: &[u8], offsets: &[usize], table: &mut [u8], n: usize)
-    requires { ⌜ Lent (now sheet) (now offsets) (now table) ⌝ ∗ ⌜ n ≡ size (sheetOf (now sheet)) ⌝ }
-    ensures { λ _. ⌜ Left (now (sheet .entry)) (machine.catchUp (sheetOf (now (sheet .entry))) (decodeTable (now (table .entry)))) (now (table .exit)) ⌝ }
+// Steps until no item is marked, from the lowest on.
+fn catch_up_from(
+    sheet: &[u8],
+    offsets: &[usize],
+    table: &mut [u8],
+    tags: &mut [u64],
+    numbers: &mut [i64],
+    first: usize,
+    n: usize,
+)
+    requires { ⌜ Lent (now sheet) (now offsets) (now table) ⌝ ∗ ⌜ Ready (now sheet) (now tags) (now numbers) 1 ⌝ ∗ ⌜ n ≡ size (sheetOf (now sheet)) ⌝ ∗ ⌜ LowestMarked (decodeTable (now table)) n first ⌝ ∗ ⌜ first < n ⌝ }
+    ensures { λ _. ⌜ Steps (now (sheet .entry)) (2 * n) (machine.catchUp (sheetOf (now (sheet .entry))) (decodeTable (now (table .entry)))) (now (table .exit)) (now (tags .exit)) ⌝ }
 {
-    let mut tags = [0u64; sheet::limits::ITEM_LIMIT];
-    let mut numbers = [0i64; sheet::limits::ITEM_LIMIT];
-    step::catch_up(sheet, offsets, table, &mut tags, &mut numbers, n);
+    let mut heads = [0u16; sheet::limits::ITEM_LIMIT];
+    let mut links = [0u16; EDGE_LIMIT];
+    children::link(sheet, offsets, n, &mut heads, &mut links);
+    step::catch_up(
+        sheet,
+        offsets,
+        table,
+        tags,
+        numbers,
+        &heads,
+        &links,
+        first,
+        n,
+    );
 }
 
-// Looks an item up, with a memo in which nothing is remembered.
-fn look_once(sheet: &[u8], offsets: &[usize], table: &mut [u8], i: usize) -> Value
-    requires { ⌜ Lent (now sheet) (now offsets) (now table) ⌝ ∗ ⌜ i < size (sheetOf (now sheet)) ⌝ }
-    ensures { λ r. ⌜ LookedUp (now (sheet .entry)) (machine.lookUp (sheetOf (now (sheet .entry))) (decodeTable (now (table .entry))) i) (meaning r) (now (table .exit)) ⌝ }
+// Steps until no item is marked. The child lists are built only where one is.
+fn catch_up(
+    sheet: &[u8],
+    offsets: &[usize],
+    table: &mut [u8],
+    tags: &mut [u64],
+    numbers: &mut [i64],
+    n: usize,
+)
+    requires { ⌜ Lent (now sheet) (now offsets) (now table) ⌝ ∗ ⌜ Ready (now sheet) (now tags) (now numbers) 1 ⌝ ∗ ⌜ n ≡ size (sheetOf (now sheet)) ⌝ }
+    ensures { λ _. ⌜ Steps (now (sheet .entry)) (2 * n) (machine.catchUp (sheetOf (now (sheet .entry))) (decodeTable (now (table .entry)))) (now (table .exit)) (now (tags .exit)) ⌝ }
+{
+    let first = table::lowest_marked(table, n);
+    if first < n {
+        catch_up_from(sheet, offsets, table, tags, numbers, first, n);
+    }
+}
+
+// Catches up, and looks item i up in the generation after those of the steps.
+fn caught_up(sheet: &[u8], offsets: &[usize], table: &mut [u8], n: usize, i: usize) -> Value
+    requires { ⌜ Lent (now sheet) (now offsets) (now table) ⌝ ∗ ⌜ n ≡ size (sheetOf (now sheet)) ⌝ ∗ ⌜ i < n ⌝ }
+    ensures { λ r. ⌜ LookedUp (now (sheet .entry)) (machine.lookUp (sheetOf (now (sheet .entry))) (machine.catchUp (sheetOf (now (sheet .entry))) (decodeTable (now (table .entry)))) i) (meaning r) (now (table .exit)) ⌝ }
 {
     let mut tags = [0u64; sheet::limits::ITEM_LIMIT];
     let mut numbers = [0i64; sheet::limits::ITEM_LIMIT];
-    let seen = look::look_up(sheet, offsets, table, &mut tags, &mut numbers, 1, i);
+    catch_up(sheet, offsets, table, &mut tags, &mut numbers, n);
+    let seen = look::look_up(
+        sheet,
+        offsets,
+        table,
+        &mut tags,
+        &mut numbers,
+        (2 * n + 1) as u64,
+        i,
+    );
     seen.value
 }
 
@@ -388,8 +474,7 @@ fn ask_lent(sheet: &[u8], offsets: &[usize], table: &mut [u8], n: usize, item: u
     if item >= n as u64 {
         return refuse(11, 0);
     }
-    catch_up(sheet, offsets, table, n);
-    read_value(look_once(sheet, offsets, table, item as usize))
+    read_value(caught_up(sheet, offsets, table, n, item as usize))
 }
 
 pub fn ask(sheet: &[u8], index: &[u8], table: &mut [u8], item: u64) -> Reading

@@ -1,4 +1,3 @@
-pub mod Children
 pub mod Fields
 pub mod Located
 pub mod Offsets

@@ -8,7 +8,8 @@ use Prim.Native.Nat.{ℕ, _+_, _*_, _≤_, _<_}
 use native.Mathlib.Omega.{arith}
 use lib.ListN.{length, getD, take, length-map}
 use lib.Seq.{getD-take}
-use borrow.Author.Tests.{eq-eqb, not-false}
+use lib.Dec.{eqb}
+use borrow.Author.Tests.{eq-eqb, eqb-true, eqb-false, not-false}
 use Rattle.field.specs.Field.{lenAt}
 use Rattle.field.proofs.Cutting.{field-iff, content-length}
 use Rattle.circuit.specs.Rules.{Operation, countAllowed}
@@ -20,7 +21,7 @@ use Rattle.sheet.specs.Opened.{placedFrom, itemsOf, sheetRead, sheetFrom, sheet
 use Rattle.sheet.proofs.Scan.{placedAt, offsetFrom, offset-placed, ItemRead, passes, scan-item, opened, opened-length, opened-count, opened-ordered, machine-item, and-left}
 use Rattle.sheet.proofs.Items.{figure-parts, parents-count}
 use Rattle.item.specs.Item.{fieldContent, fieldItem, ruleByte, countByte, FigureField, ItemField, itemOperation}
-use Rattle.item.proofs.Fields.{content-at, field-takes}
+use Rattle.item.proofs.Fields.{content-at, field-takes, count-read, count-not}
 
 -- An item that was read: its field and its item.
 module _ (s : List ℕ) (edition : ℕ) (ps : List Placed) (at : ℕ) (it : LayoutItem) (next : ℕ) (r : ItemRead s edition ps at it next) where
@@ -151,3 +152,15 @@ module _ (s offsets : List ℕ) (located : Located s offsets) (i : ℕ) (h : i <
   pub located-takes : (op : Operation) → itemOperation (itemAt (sheetOf s) i) ≡ some op → countAllowed op (length (parentsOf (itemAt (sheetOf s) i))) ≡ true
   located-takes op e =
       rw (← located-item) (field-takes s (getD offsets i 0) located-field op (ap itemOperation located-item ∙ e))
+
+  -- an item lists 16 parents at most
+  pub located-narrow : length (parentsOf (itemAt (sheetOf s) i)) ≤ 16
+  located-narrow = rw (← located-item) (go (eqb (getD s (getD offsets i 0) 0) figureTag) refl)
+    where
+      go : (b : Bool) → eqb (getD s (getD offsets i 0) 0) figureTag ≡ b → length (parentsOf (fieldItem s (getD offsets i 0))) ≤ 16
+      go true e =
+          let r = count-read s (getD offsets i 0) located-field (eqb-true (getD s (getD offsets i 0) 0) figureTag e) in
+          omega (arith, r .count-is, r .at-most)
+      go false e =
+          let r = count-not s (getD offsets i 0) located-field (eqb-false (getD s (getD offsets i 0) 0) figureTag e) in
+          omega (arith, r .count-is, r .at-most)

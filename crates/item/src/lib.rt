@@ -81,22 +81,6 @@ pub fn parent(s: &[u8], at: usize, k: usize) -> usize
     field::u16_at(s, at + 7 + 2 * k)
 }
 
-// Whether the item lists i as a parent.
-pub fn is_child(s: &[u8], at: usize, i: usize) -> bool
-    requires { ⌜ ItemField (now s) at ⌝ }
-    ensures { λ r. ⌜ r ≡ circuit.member i (circuit.parentsOf (fieldItem (now (s .entry)) at)) ⌝ }
-{
-    let count = parent_count(s, at);
-    let mut k = 0;
-    while k < count {
-        if parent(s, at, k) == i {
-            return true;
-        }
-        k += 1;
-    }
-    false
-}
-
 // An offset in four bytes, the low one first.
 fn put_offset(index: &mut [u8], at: usize, offset: usize)
     requires { ⌜ at + 4 ≤ length (now index) ⌝ }

@@ -3,14 +3,15 @@
 use Prim.Native.Nat.{ℕ, zero, suc, _+_, _-_, _/_, _%_, _^_, _≤_, _<_}
 use mathlib.Core.Path.{_≡_, refl, sym, ap, _∙_}
 use mathlib.Core.List.{List, [], _∷_, _++_, append-assoc, append-nil}
-use native.Mathlib.Nat.{mod-lt, div-lt-iff-lt-mul, pow-succ'}
+use native.Mathlib.Nat.{mod-lt, div-one, div-lt-iff-lt-mul, pow-succ'}
 use native.Mathlib.Numerals.{add-one}
 use native.Mathlib.Omega.{arith}
 use lib.ListN.{length, take, drop, set, getD, length-set, take-append-drop}
 use lib.Seq.{take-suc-set, drop-set-lt, drop-drop, take-suc, take-length}
 use Rattle.printer.specs.Decimal.{digit, digits}
 use Rattle.printer.specs.Printing.{withFront}
-use Rattle.printer.proofs.Digits.{places, digits-places, below-pow, pow-pos}
+use Rattle.printer.specs.Contract.{WithDigits}
+use Rattle.printer.proofs.Digits.{places, digits-places, digits-small, below-pow, pow-pos}
 
 -- a store at the place where the unchanged bytes begin leaves the others unchanged
 back-step : (s₀ s : List ℕ) (place b : ℕ) → drop place s ≡ drop place s₀ → drop (place + 1) (set s place b) ≡ drop (place + 1) s₀
@@ -76,6 +77,20 @@ finish m at s₀ s rest left place w e =
 
     whole : take place s ≡ take at s₀ ++ digits m
     whole = sym (append-nil (take place s)) ∙ (rw none-left at (w .front))
+
+-- the last digit is what is left
+pub last-digit : (m at : ℕ) (s₀ s : List ℕ) (rest left place : ℕ) → Writing m at s₀ s rest left place → place < length s → left ≡ 1
+    → WithDigits m at s₀ (place + 1) (set s place (digit rest))
+last-digit m at s₀ s rest left place w h e =
+    let one : left - 1 ≡ 0 = omega arith in
+    let w₁ = step m at s₀ s rest left place 1 w h (omega arith) (rw one) in
+    let b = finish m at s₀ (set s place (digit (rest / 1))) (rest % 1) (left - 1) (place + 1) w₁ one in
+    record { place = omega (arith, w .count); bytes = rw (div-one) at b }
+
+-- a number below ten is its digit
+pub one-digit : (m at : ℕ) (s : List ℕ) → m < 10 → at < length s → WithDigits m at s (at + 1) (set s at (digit m))
+one-digit m at s small h =
+    last-digit m at s s m (length (digits m)) at (start m at s) h (ap length (digits-small m small))
 
 -- k bytes of the mark are written
 pub record Copying (mark s₀ s : List ℕ) (k : ℕ) : Type 0 where

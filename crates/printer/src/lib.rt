@@ -62,21 +62,27 @@ fn put_by_powers(m: u64, at: usize, powers: &[u64; 19], scratch: &mut [u8]) -> u
     let mut rest = m;
     let mut left = digit_count(m, powers);
     let mut place = at;
-    while 0 < left {
+    while 1 < left {
         left -= 1;
         let p = powers[left];
         scratch[place] = (48 + rest / p) as u8;
         rest = rest % p;
         place += 1;
     }
-    place
+    scratch[place] = (48 + rest) as u8;
+    place + 1
 }
 
-// The same with the table. It is laid out once and lent, since a constant that is indexed is laid out at each use.
+// The same with the table. It is laid out once and lent, since a constant that is indexed is laid out at each use. One digit
+// needs no power.
 pub fn put_digits(m: u64, at: usize, scratch: &mut [u8]) -> usize
     requires { ⌜ (m < 10 ^ 18) × (at + 18 ≤ length (now scratch)) ⌝ }
     ensures { λ r. ⌜ WithDigits m at (now (scratch .entry)) r (now (scratch .exit)) ⌝ }
 {
+    if m < 10 {
+        scratch[at] = (48 + m) as u8;
+        return at + 1;
+    }
     let powers = POWERS;
     put_by_powers(m, at, &powers, scratch)
 }

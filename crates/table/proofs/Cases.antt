@@ -58,10 +58,10 @@ cell-held k m z v n a fits ev en = rw (ne-eqb k 0 a, ev, en, toZ-ofZ w64 z fits)
 -- ---- a record of the table, by its bytes
 
 module _ (bs : List ℕ) (i : ℕ) where
-  kind-read : kindIn (row width bs i) ≡ getD bs (i * width) 0
+  pub kind-read : kindIn (row width bs i) ≡ getD bs (i * width) 0
   kind-read = getD-row width bs i 0 (omega arith) ∙ ap (λ (k : ℕ). getD bs k 0) (omega arith)
 
-  mark-read : markIn (row width bs i) ≡ getD bs (i * width + 1) 0
+  pub mark-read : markIn (row width bs i) ≡ getD bs (i * width + 1) 0
   mark-read = getD-row width bs i 1 (omega arith) ∙ ap (λ (k : ℕ). getD bs k 0) (omega arith)
 
   number-read : numberIn (row width bs i) ≡ le64At bs (i * width + 2)

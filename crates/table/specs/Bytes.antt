@@ -1,10 +1,10 @@
 -- The work table in bytes: a record for each item of the sheet, in order. Assumes nothing.
-use Prim.Native.Nat.{ℕ, _*_, _<_}
+use Prim.Native.Nat.{ℕ, _*_, _<_, _≤_}
 use mathlib.Core.Path.{_≡_}
-use mathlib.Core.Bool.{Bool, true}
+use mathlib.Core.Bool.{Bool, true, false}
 use mathlib.Core.List.{List}
 use Rattle.circuit.specs.Sheet.{Sheet, size, itemAt, isFigure}
-use Rattle.circuit.specs.Table.{Table}
+use Rattle.circuit.specs.Table.{Table, isMarked}
 use Rattle.table.specs.Rows.{row, rowsBelow, allBelow}
 use Rattle.table.specs.Record.{width, encodeCell, decodeCell, recordForm, mayHold}
 
@@ -31,3 +31,9 @@ tableForm S bs = allBelow (recordInForm S bs) (size S)
 -- the tables that such bytes are
 abbrev pub Holdable : Sheet → Table → Type 0
 Holdable S T = (i : ℕ) → i < size S → mayHold (isFigure (itemAt S i)) (T i) ≡ true
+
+-- k is the lowest marked item below n, or n where none is
+pub record LowestMarked (T : Table) (n k : ℕ) : Type 0 where
+  pub within : k ≤ n
+  pub none-below : (i : ℕ) → i < k → isMarked (T i) ≡ false
+  pub marked : k < n → isMarked (T k) ≡ true

@@ -3,9 +3,11 @@ ghost use mathlib.Core.Path.{_≡_};
 ghost use Prim.Native.Nat.{_+_, _*_, _≤_};
 ghost use lib.ListN.{length};
 ghost use lib.Seq.{sets};
+ghost use Rattle.circuit.specs.Table.{markOf, isMarked, isNotice};
 ghost use Rattle.value.specs.Meaning.{meaning};
 ghost use Rattle.table.specs.Rows.{row, setRow};
 ghost use Rattle.table.specs.Record.{width, recordOf, markCode, markCoded, valueCoded, cellCoded, encodeCell, decodeCell, codesForm, numberForm, recordForm};
+ghost use Rattle.table.specs.Bytes.{decodeTable, LowestMarked};
 ghost use Rattle.table.specs.Meaning.{markMeaning, cellMeaning};
 use value::Value;
 
@@ -74,6 +76,42 @@ pub fn read_cell(table: &[u8], i: usize) -> Cell
 {
     let at = i * WIDTH;
     cell_coded(table[at], table[at + 1], word::read_i64(table, at + 2))
+}
+
+// Whether item i is marked, by its kind and its mark.
+pub fn is_marked(table: &[u8], i: usize) -> bool
+    requires { ⌜ width * i + width ≤ length (now table) ⌝ }
+    ensures { λ r. ⌜ r ≡ isMarked (decodeCell (row width (now (table .entry)) i)) ⌝ }
+{
+    let at = i * WIDTH;
+    match table[at + 1] {
+        1 => table[at] != 0,
+        2 => true,
+        _ => false,
+    }
+}
+
+// Whether item i has a notice.
+pub fn is_noticed(table: &[u8], i: usize) -> bool
+    requires { ⌜ width * i + width ≤ length (now table) ⌝ }
+    ensures { λ r. ⌜ r ≡ isNotice (markOf (decodeCell (row width (now (table .entry)) i))) ⌝ }
+{
+    table[i * WIDTH + 1] == 2
+}
+
+// The lowest of the first n items that is marked, n if none is.
+pub fn lowest_marked(table: &[u8], n: usize) -> usize
+    requires { ⌜ width * n ≤ length (now table) ⌝ }
+    ensures { λ r. ⌜ LowestMarked (decodeTable (now (table .entry))) n r ⌝ }
+{
+    let mut i = 0;
+    while i < n {
+        if is_marked(table, i) {
+            return i;
+        }
+        i += 1;
+    }
+    n
 }
 
 fn store_record(table: &mut [u8], at: usize, kind: u8, mark: u8, number: i64)

@@ -1,14 +1,14 @@
 use Prim.Native.Nat.{_≤_, _<_, _-_, _/_, _^_}
-use mathlib.Core.Path.{_≡_}
+use mathlib.Core.Path.{_≡_, _∙_}
 use native.Mathlib.Omega.{arith}
-use lib.ListN.{length, getD}
-use Rattle.printer.proofs.Digits.{length-at-most, pow-pos}
-use Rattle.printer.proofs.Writing.{Writing, start, next-digit, step, finish}
+use lib.ListN.{length, getD, length-set}
+use Rattle.printer.proofs.Digits.{length-at-most, length-pos, pow-pos}
+use Rattle.printer.proofs.Writing.{Writing, start, next-digit, step, last-digit}
 use Rattle.printer.proofs.put_by_powers.Statement.{statement}
 use Rattle.printer.proofs.put_by_powers.Tie as tie
 
 abbrev Inv-loop : tie.InvT-loop
-Inv-loop m at powers scratch₀ rest₀ left₀ place₀ scratch rest left place = Writing m at scratch₀ scratch rest left place × (left ≤ 18)
+Inv-loop m at powers scratch₀ rest₀ left₀ place₀ scratch rest left place = Writing m at scratch₀ scratch rest left place × (left ≤ 18) × (1 ≤ left)
 
 abbrev μ-loop : tie.MeasureT-loop
 μ-loop m at powers scratch₀ rest₀ left₀ place₀ scratch rest left place = left
@@ -26,7 +26,7 @@ positive c = rw (is-power c) (pow-pos (c .before .before .loop .left - 1))
 a-digit : (c : tie.After-p Inv-loop μ-loop) → c .before .before .loop .rest / getD (c .before .before .before .before .before .args .powers .now) (c .before .before .loop .left - 1) 0 < 10
 a-digit c =
     let at-loop = c .before .before in
-    next-digit (at-loop .loop .rest) (at-loop .loop .left) _ (at-loop .loop .inv .0 .small) (c .before .loop-test .taken) (is-power c)
+    next-digit (at-loop .loop .rest) (at-loop .loop .left) _ (at-loop .loop .inv .0 .small) (omega arith) (is-power c)
 
 in-scratch : (c : tie.After-p Inv-loop μ-loop) → c .before .before .loop .place < length (c .before .before .loop .scratch)
 in-scratch c =
@@ -39,6 +39,7 @@ loop-holds c =
     let at-start = c .before .before in (
       rw (c .digit-count .ensures .0) (start (at-start .args .m) (at-start .args .at) (at-start .args .scratch .now)),
       c .digit-count .ensures .1,
+      omega (arith, c .digit-count .ensures .0, length-pos (at-start .args .m)),
     )
 
 sub-left : tie.Need-sub-left Inv-loop μ-loop
@@ -75,22 +76,44 @@ loop-again : tie.Need-loop-again Inv-loop μ-loop
 loop-again c =
     let at-start = c .before .before .before .before .before in
     let at-loop = c .before .before in (
-      step (at-start .args .m) (at-start .args .at) (at-start .args .scratch .now) (at-loop .loop .scratch) (at-loop .loop .rest) (at-loop .loop .left) (at-loop .loop .place) _ (at-loop .loop .inv .0) (in-scratch c) (c .before .loop-test .taken) (is-power c),
+      step (at-start .args .m) (at-start .args .at) (at-start .args .scratch .now) (at-loop .loop .scratch) (at-loop .loop .rest) (at-loop .loop .left) (at-loop .loop .place) _ (at-loop .loop .inv .0) (in-scratch c) (omega arith) (is-power c),
+      omega arith,
       omega arith,
     )
 
+-- after the loop one digit is left
+one-left : (c : tie.After-loop Inv-loop μ-loop) → c .before .loop .left ≡ 1
+one-left c = omega (arith, c .before .loop .inv .2, c .loop-test .left)
+
+last-small : (c : tie.After-loop Inv-loop μ-loop) → c .before .loop .rest < 10
+last-small c = rw (one-left c) at (c .before .loop .inv .0 .small)
+
+last-place : (c : tie.After-loop Inv-loop μ-loop) → c .before .loop .place < length (c .before .loop .scratch)
+last-place c =
+    let at-start = c .before .before .before .before in
+    let w = c .before .loop .inv .0 in
+    omega (arith, w .count, w .size, at-start .pre .1, one-left c, length-at-most 17 (at-start .args .m) (at-start .pre .0))
+
+add-scratch-2 : tie.Need-add-scratch-2 Inv-loop μ-loop
+add-scratch-2 c = omega (arith, last-small c)
+
+cast-scratch-2 : tie.Need-cast-scratch-2 Inv-loop μ-loop
+cast-scratch-2 c = omega (arith, last-small c)
+
+slice-write-scratch-2 : tie.Need-slice-write-scratch-2 Inv-loop μ-loop
+slice-write-scratch-2 c = last-place c
+
+add-result : tie.Need-add-result Inv-loop μ-loop
+add-result c = omega (arith, last-place c, c .before .loop .inv .0 .size)
+
 same-length : tie.Need-same-length Inv-loop μ-loop
-same-length c = c .before .loop .inv .0 .size
+same-length c = length-set (c .before .loop .scratch) (c .before .loop .place) _ ∙ c .before .loop .inv .0 .size
 
 returns : tie.Need-returns Inv-loop μ-loop
 returns c =
     let at-start = c .before .before .before .before in
     let at-loop = c .before in
-    let none : at-loop .loop .left ≡ 0 = omega arith in
-    record {
-      place = omega (arith, at-loop .loop .inv .0 .count);
-      bytes = finish (at-start .args .m) (at-start .args .at) (at-start .args .scratch .now) (at-loop .loop .scratch) (at-loop .loop .rest) (at-loop .loop .left) (at-loop .loop .place) (at-loop .loop .inv .0) none;
-    }
+    last-digit (at-start .args .m) (at-start .args .at) (at-start .args .scratch .now) (at-loop .loop .scratch) (at-loop .loop .rest) (at-loop .loop .left) (at-loop .loop .place) (at-loop .loop .inv .0) (last-place c) (one-left c)
 
 pub put-by-powers-spec : {M : Type 1} → statement M
 put-by-powers-spec =
@@ -111,5 +134,9 @@ put-by-powers-spec =
     add-place
     loop-less
     loop-again
+    add-scratch-2
+    cast-scratch-2
+    slice-write-scratch-2
+    add-result
     same-length
     returns)

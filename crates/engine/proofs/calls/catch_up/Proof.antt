@@ -1,35 +1,48 @@
--- `calls::catch_up` meets its contract: it begins with nothing remembered. Assumes nothing.
-use mathlib.Core.Path.{refl}
+-- `calls::catch_up` meets its contract. Assumes nothing.
+use Rattle.engine.proofs.Asking.{caught-quiet}
 use borrow.Author.Needs.{needs}
-use Rattle.engine.proofs.Keeping.{same-all}
-use Rattle.engine.proofs.Asking.{fresh-ready}
 use Rattle.engine.proofs.calls.catch_up.Statement.{statement}
 use Rattle.engine.proofs.calls.catch_up.Tie as tie
+use Rattle.engine.proofs.calls.catch_up.Reads as reads
+use Rattle.engine.proofs.calls.catch_up.Lts as lts
+use Rattle.engine.proofs.calls.catch_up_from.Reads as catch-up-from-reads
+use Rattle.table.proofs.lowest_marked.Reads as lowest-marked-reads
 
-slice-aggregate-catch-up : tie.Need-slice-aggregate-catch-up
-slice-aggregate-catch-up c = search needs
+lowest-marked-requires : tie.Need-lowest-marked-requires
+lowest-marked-requires c κs = search needs
 
-slice-aggregate-catch-up-2 : tie.Need-slice-aggregate-catch-up-2
-slice-aggregate-catch-up-2 c = search needs
-
-catch-up-requires : tie.Need-catch-up-requires
-catch-up-requires c κs =
-    let a = c .before .before .before .before .before .before .args in
-    let p = c .before .before .before .before .before .before .pre in
-    (p .0, (fresh-ready (a .sheet .now) _ _ refl refl (same-all 0 1024), p .1))
+catch-up-from-requires : tie.Need-catch-up-from-requires
+catch-up-from-requires c κs = search needs
 
 same-length : tie.Need-same-length
 same-length c = search needs
 
+same-length-2 : tie.Need-same-length-2
+same-length-2 c = search needs
+
+same-length-3 : tie.Need-same-length-3
+same-length-3 c = search needs
+
 returns : tie.Need-returns
 returns c = search needs
+
+same-length-4 : tie.Need-same-length-4
+same-length-4 c = search needs
+
+returns-2 : tie.Need-returns-2
+returns-2 c =
+    let p = c .before .before .before .before .before .before .before .pre in
+    caught-quiet (p .0) (p .1 .0) (p .1 .1) (c .before .lowest-marked .ensures) (c .if1 .left)
 
 pub catch-up-spec : {M : Type 1} → statement M
 catch-up-spec =
     tie.close
     (tie.spec
-    slice-aggregate-catch-up
-    slice-aggregate-catch-up-2
-    catch-up-requires
+    lowest-marked-requires
+    catch-up-from-requires
     same-length
-    returns)
+    same-length-2
+    same-length-3
+    returns
+    same-length-4
+    returns-2)

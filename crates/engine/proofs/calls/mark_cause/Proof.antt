@@ -1,31 +1,32 @@
 use Rattle.engine.proofs.Asking.{mark-beyond, mark-within}
 use Rattle.table.specs.Bytes.{decodeTable}
-use Rattle.circuit.specs.Table.{isMarked}
 use mathlib.Core.Bool.{true, false}
-use mathlib.Core.Path.{_≡_, refl, sym, ap, _∙_}
 use borrow.Author.Needs.{needs}
 use Rattle.engine.proofs.calls.mark_cause.Statement.{statement}
 use Rattle.engine.proofs.calls.mark_cause.Tie as tie
 use Rattle.engine.proofs.calls.mark_cause.Reads as reads
 use Rattle.engine.proofs.calls.mark_cause.Lts as lts
-use Rattle.engine.proofs.step.is_marked.Reads as is-marked-reads
-use Rattle.table.proofs.read_cell.Reads as read-cell-reads
+use Rattle.table.proofs.is_marked.Reads as is-marked-reads
 
 returns : tie.Need-returns
-returns c = let a = c .before .before .args in mark-beyond (decodeTable (a .table .now)) (a .n) (a .item) (c .if1 .taken)
-
-read-cell-requires : tie.Need-read-cell-requires
-read-cell-requires c κs = search needs
+returns c =
+    let a = c .before .before .args in
+    mark-beyond (decodeTable (a .table .now)) (a .n) (a .item) (c .if1 .taken)
 
 is-marked-requires : tie.Need-is-marked-requires
 is-marked-requires c κs = search needs
 
 returns-2 : tie.Need-returns-2
-returns-2 c = let a = c .before .before .before .before .before .args in let m = c .before .is-marked in mark-within (decodeTable (a .table .now)) (a .n) (a .item) (m .result) true (c .before .before .before .if1 .left) (m .ensures ∙ ap isMarked (c .before .before .read-cell .ensures)) (c .if2 .taken)
+returns-2 c =
+    let a = c .before .before .before .before .args in
+    let m = c .before .is-marked in
+    mark-within (decodeTable (a .table .now)) (a .n) (a .item) (m .result) true (c .before .before .if1 .left) (m .ensures) (c .if2 .taken)
 
 returns-3 : tie.Need-returns-3
-returns-3 c = let a = c .before .before .before .before .before .args in let m = c .before .is-marked in mark-within (decodeTable (a .table .now)) (a .n) (a .item) (m .result) false (c .before .before .before .if1 .left) (m .ensures ∙ ap isMarked (c .before .before .read-cell .ensures)) (c .if2 .left)
+returns-3 c =
+    let a = c .before .before .before .before .args in
+    let m = c .before .is-marked in
+    mark-within (decodeTable (a .table .now)) (a .n) (a .item) (m .result) false (c .before .before .if1 .left) (m .ensures) (c .if2 .left)
 
 pub mark-cause-spec : {M : Type 1} → statement M
-mark-cause-spec =
-    tie.close (tie.spec returns read-cell-requires is-marked-requires returns-2 returns-3)
+mark-cause-spec = tie.close (tie.spec returns is-marked-requires returns-2 returns-3)

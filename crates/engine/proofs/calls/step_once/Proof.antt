@@ -1,34 +1,50 @@
-use Rattle.engine.proofs.Asking.{fresh-ready}
-use Rattle.engine.proofs.Keeping.{same-all}
-use mathlib.Core.Path.{refl}
+-- `calls::step_once` meets its contract. Assumes nothing.
+use native.Mathlib.Omega.{arith}
+use mathlib.Core.Path.{_≡_, sym, _∙_}
+use Rattle.engine.proofs.Asking.{left-noticed}
 use borrow.Author.Needs.{needs}
 use Rattle.engine.proofs.calls.step_once.Statement.{statement}
 use Rattle.engine.proofs.calls.step_once.Tie as tie
 use Rattle.engine.proofs.calls.step_once.Reads as reads
 use Rattle.engine.proofs.calls.step_once.Lts as lts
-use Rattle.engine.proofs.step.step_item.Reads as step-item-reads
+use Rattle.engine.proofs.calls.notice_once.Reads as notice-once-reads
+use Rattle.engine.proofs.calls.refresh_once.Reads as refresh-once-reads
+use Rattle.table.proofs.is_noticed.Reads as is-noticed-reads
 
-slice-aggregate-step-item : tie.Need-slice-aggregate-step-item
-slice-aggregate-step-item c = search needs
+is-noticed-requires : tie.Need-is-noticed-requires
+is-noticed-requires c κs = search needs
 
-slice-aggregate-step-item-2 : tie.Need-slice-aggregate-step-item-2
-slice-aggregate-step-item-2 c = search needs
+notice-once-requires : tie.Need-notice-once-requires
+notice-once-requires c κs = search needs
 
-step-item-requires : tie.Need-step-item-requires
-step-item-requires c κs = let a = c .before .before .before .before .before .before .args in let p = c .before .before .before .before .before .before .pre in (p .0, (fresh-ready (a .sheet .now) _ _ refl refl (same-all 0 1024), (p .1 .0, p .1 .1)))
+refresh-once-requires : tie.Need-refresh-once-requires
+refresh-once-requires c κs =
+    let p = c .before .before .before .before .before .before .before .pre in
+    (p .0, (omega (arith, p .1 .0, p .1 .1), sym (c .before .before .is-noticed .ensures) ∙ c .before .if1 .left))
 
 same-length : tie.Need-same-length
 same-length c = search needs
 
 returns : tie.Need-returns
-returns c = search needs
+returns c =
+    let a = c .before .before .before .before .before .before .before .before .before .before .args in
+    left-noticed (a .sheet .now) (a .table .now) (a .i) _ (c .before .before .before .before .before .is-noticed .ensures) (c .before .before .before .before .if1 .taken) _ (c .before .before .notice-once .ensures)
+
+same-length-2 : tie.Need-same-length-2
+same-length-2 c = search needs
+
+returns-2 : tie.Need-returns-2
+returns-2 c =
+    c .before .before .refresh-once .ensures
 
 pub step-once-spec : {M : Type 1} → statement M
 step-once-spec =
     tie.close
     (tie.spec
-    slice-aggregate-step-item
-    slice-aggregate-step-item-2
-    step-item-requires
+    is-noticed-requires
+    notice-once-requires
+    refresh-once-requires
     same-length
-    returns)
+    returns
+    same-length-2
+    returns-2)

@@ -1,0 +1,4 @@
+pub mod Gathering
+pub mod Memo
+pub mod Pass
+pub mod Stepping
