@@ -29,8 +29,8 @@
  *
  * Stack: looking up goes from a figure to its parents, so the depth is bounded by the levels of a
  * sheet (at most ROZHINAL_MAX_LEVEL), and each call has scratch space for ROZHINAL_MAX_ITEMS items.
- * An ask or a keep was measured at 67,984 bytes, on a sheet of 64 levels; ROZHINAL_STACK_BYTES is
- * enough for every call.
+ * On a sheet of 64 levels an ask was measured at 103,696 bytes, a keep at 68,800, and a post at
+ * 9,512; ROZHINAL_STACK_BYTES is enough for every call.
  */
 #ifndef ROZHINAL_H
 #define ROZHINAL_H
@@ -276,7 +276,7 @@ rozhinal_reading rozhinal_ask(const uint8_t *sheet, size_t sheet_len,
  */
 #define ROZHINAL_PRINT_BYTES 20
 /* stack that no call exceeds */
-#define ROZHINAL_STACK_BYTES 98304
+#define ROZHINAL_STACK_BYTES 131072
 
 /*
  * Writes a value at the front of scratch: decimal digits, '-' before a negative number, "-" for
