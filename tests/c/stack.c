@@ -32,7 +32,10 @@ static void put_two(size_t number)
     put(number >> 8);
 }
 
-/* Figures in 64 rows; each lists 16 items of the row before it, some twice. */
+/*
+ * Figures in 64 rows; each lists 16 items of the row before it, some twice. The last one lists item 0
+ * too, so that telling item 0 works it out through all rows.
+ */
 static void make_sheet(unsigned keep, unsigned spread)
 {
     sheet_len = 0;
@@ -45,7 +48,7 @@ static void make_sheet(unsigned keep, unsigned spread)
         put(ROZHINAL_TAG_FIGURE), put_two(4 + 2 * PARENTS + 1);
         put(ROZHINAL_SUM), put(keep), put(spread), put(PARENTS);
         for (size_t k = 0; k < PARENTS; k++)
-            put_two(first + k % row);
+            put_two(i == LAST && k == 0 ? 0 : first + k % row);
         put('F');
     }
     put(ROZHINAL_TAG_END), put_two(0);
@@ -104,8 +107,10 @@ static const struct {
     void (*call)(void);
 } calls[] = {
     { "open_bare", open_bare }, { "post", post }, { "keep", keep }, { "drop", drop },
-    { "step", step },           { "post", post }, { "ask", ask },   { "open_full", open_full },
-    { "post", post },           { "step", step }, { "ask", ask },   { "print", print },
+    { "step", step },           { "keep", keep }, { "post", post }, { "step", step },
+    { "post", post },           { "ask", ask },   { "drop", drop }, { "post", post },
+    { "ask", ask },             { "open_full", open_full },         { "post", post },
+    { "step", step },           { "ask", ask },   { "print", print },
 };
 enum { CALLS = sizeof calls / sizeof *calls };
 

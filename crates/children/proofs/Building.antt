@@ -1,14 +1,14 @@
 -- The loop that builds the child lists of a sheet in bytes, and what the lists are good for. Assumes nothing.
-use Prim.Native.Nat.{ℕ, zero, suc, _+_, _*_, _-_, _<_, _≤_}
+use Prim.Native.Nat.{ℕ, suc, _*_, _-_, _<_, _≤_}
 use native.Mathlib.Omega.{arith}
-use mathlib.Core.Path.{_≡_, refl, sym, ap, ap₂, subst, _∙_}
+use mathlib.Core.Path.{_≡_, ap, subst, _∙_}
 use mathlib.Core.List.{List}
 use lib.ListN.{length, getD}
 use Rattle.circuit.specs.Sheet.{size, parents, parentsOf}
 use Rattle.sheet.specs.Opened.{sheetOf, Located}
 use Rattle.item.specs.Item.{ItemField, fieldItem}
 use Rattle.item.proofs.Located.{sheet-ordered, located-field, located-item, located-narrow}
-use Rattle.children.specs.Children.{places, Lists, lists, linkPlaces, headPlaces, linkItem, linkLast, linkAll, Linked}
+use Rattle.children.specs.Children.{places, lists, linkPlaces, headPlaces, linkLast, linkAll, Linked}
 use Rattle.children.proofs.Linking.{place-below, lists-length, all-linked}
 
 -- the lists after the items from c on

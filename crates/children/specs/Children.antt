@@ -30,7 +30,7 @@ unfoldable pub headPlaces : List ℕ → ℕ → List ℕ → ℕ → List ℕ
 headPlaces heads first ps zero = heads
 headPlaces heads first ps (suc k) = set (headPlaces heads first ps k) (getD ps k 0) (first + k)
 
--- an item with the parents ps is put in front of their lists, as often as it lists them
+-- an item with the parents ps is put in front of their lists, once in each, by the last place that lists the parent
 abbrev pub linkItem : List ℕ → ℕ → Lists → Lists
 linkItem ps first l =
     lists (headPlaces (l .heads) first ps (length ps)) (linkPlaces (l .links) (l .heads) first ps (length ps))

@@ -21,7 +21,7 @@ fn show_day(sheet: &[u8], log: &[u8], index: &mut [u8], table: &mut [u8], out: &
     io::write_all(STDOUT_FILENO, &out[..n]);
 }
 
-// The output has room for every day: 6 bytes for each byte of the log, and 13 more.
+// The output has room for every day: 6 bytes for each byte of the log, and 13 more. A sheet that is refused has one line.
 fn main() {
     let mut sheet = [0u8; 65_536];
     let mut log = [0u8; 65_536];

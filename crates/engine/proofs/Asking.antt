@@ -1,25 +1,23 @@
 -- Stepping and asking on what was entered: their own tests, and what they leave. Assumes nothing.
-use Prim.Native.Nat.{ℕ, zero, suc, _+_, _*_, _≤_, _<_}
+use Prim.Native.Nat.{ℕ, _+_, _*_, _≤_, _<_}
 use native.Mathlib.Omega.{arith}
 use mathlib.Core.Path.{_≡_, refl, sym, ap, subst, _∙_}
 use mathlib.Core.Bool.{Bool, true, false, cond, not}
 use mathlib.Core.List.{List, [], _∷_}
-use mathlib.Core.Option.{some}
 use lib.Dec.{leb}
 use lib.IntN.{ℤ, pos}
 use lib.ListN.{length, getD}
 use borrow.Author.Tests.{le-leb, lt-leb, leb-false}
 use Rattle.circuit.specs.Value.{Value}
-use Rattle.circuit.specs.Sheet.{Sheet, size}
-use Rattle.circuit.specs.Table.{Table, Cell, isMarked, isNotice, markOf}
+use Rattle.circuit.specs.Sheet.{size}
+use Rattle.circuit.specs.Table.{Table, isMarked, isNotice, markOf}
 use Rattle.circuit.specs.Machine.{lookUp, tell, clearMark, stepItem, catchUp}
-use Rattle.circuit.specs.Calls.{Call, step, ask, Test, test, firstCause, tests, effect, noItem, noMark}
+use Rattle.circuit.specs.Calls.{Call, step, ask, test, firstCause, tests, effect, noMark}
 use Rattle.sheet.specs.Opened.{sheetOf}
 use Rattle.word.specs.Word.{Bytes}
-use Rattle.table.specs.Record.{width}
-use Rattle.table.specs.Bytes.{encodeTable, decodeTable, tableForm, tableLength, LowestMarked}
+use Rattle.table.specs.Bytes.{encodeTable, decodeTable, LowestMarked}
 use Rattle.table.proofs.Tables.{encode-decodeTable}
-use Rattle.office.specs.Office.{Given, callOn}
+use Rattle.office.specs.Office.{callOn}
 use Rattle.item.proofs.Located.{size-most}
 use Rattle.solver.specs.Pass.{Lent, Leaves}
 use Rattle.solver.specs.Stepping.{Ready, Steps}

@@ -2,20 +2,18 @@
 use Prim.Native.Nat.{ℕ, zero, suc, _+_, _*_, _≤_, _<_}
 use native.Mathlib.Omega.{arith}
 use native.Mathlib.Numerals.{add-one}
-use mathlib.Core.Path.{_≡_, refl, sym, ap, ap₂, subst, _∙_}
-use mathlib.Core.Bool.{Bool, true, false, cond, not, _&&_}
+use mathlib.Core.Path.{_≡_, refl, sym, ap, subst, _∙_}
+use mathlib.Core.Bool.{Bool, true, false, cond, not}
 use mathlib.Core.List.{List, [], _∷_}
 use mathlib.Core.Option.{Option, none, some}
-use lib.Dec.{eqb, leb}
 use lib.IntN.{ℤ}
 use lib.ListN.{length, getD, take}
-use borrow.Author.Tests.{eq-eqb, ne-eqb, le-leb, lt-leb, leb-false, eqb-true}
-use Rattle.circuit.specs.Value.{Value, null, num, same}
-use Rattle.circuit.specs.Sheet.{Sheet, Item, entry, figure, size, itemAt, isFigure}
-use Rattle.circuit.specs.Table.{Table, Cell, unk, held, unmarked, upd, bareCell, openBare, openFull}
+use borrow.Author.Tests.{eq-eqb, ne-eqb, le-leb, lt-leb, leb-false}
+use Rattle.circuit.specs.Value.{Value}
+use Rattle.circuit.specs.Sheet.{Sheet, size, itemAt, isFigure}
+use Rattle.circuit.specs.Table.{Cell, upd}
 use Rattle.circuit.specs.Machine.{storePosting, postCell, dropFigure, dropCell}
-use Rattle.circuit.specs.Calls.{Call, post, keep, drop, Test, test, firstCause, tests, effect, noItem, notEntry, notFigure, notPostable, isNone, postedValue, postIt}
-use Rattle.circuit.specs.Offices.{Opening, bare, full, opened}
+use Rattle.circuit.specs.Calls.{Call, post, drop, Test, test, firstCause, tests, effect, noItem, notPostable, isNone, postedValue, postIt}
 use Rattle.circuit.proofs.RuleLaws.{and-true}
 use Rattle.sheet.specs.Opened.{itemsOf, placedFrom, sheetFrom, sheetRead, sheetOf, Located}
 use Rattle.sheet.specs.Read.{SheetRead, opens, refused, readSheet}
@@ -29,19 +27,17 @@ use Rattle.item.specs.Offsets.{sameBytes, offsetBytes}
 use Rattle.item.proofs.Offsets.{located-index}
 use Rattle.value.specs.Meaning.{partsOf}
 use Rattle.word.specs.Word.{Bytes}
-use Rattle.table.specs.Rows.{row, setRow, allBelow, rowsBelow}
+use Rattle.table.specs.Rows.{row, setRow, allBelow}
 use Rattle.table.specs.Record.{width, encodeCell, decodeCell, recordForm}
-use Rattle.table.specs.Bytes.{encodeTable, encodeRecord, decodeTable, tableForm, tableLength, recordInForm}
-use Rattle.table.proofs.Rows.{below-true, rows-ext, rows-row, row-setRow, row-setRow-other, row-before}
-use Rattle.table.proofs.Records.{length-encodeCell}
+use Rattle.table.specs.Bytes.{encodeTable, decodeTable, tableForm, tableLength, recordInForm}
+use Rattle.table.proofs.Rows.{below-true}
 use Rattle.table.proofs.Tables.{encode-decodeTable, encode-upd}
-use Rattle.office.specs.Office.{Given, refusal, lengthsOff, indexWrong, tableWrong, unlessRefused, callOn}
+use Rattle.office.specs.Office.{refusal, lengthsOff, indexWrong, tableWrong, callOn}
 use Rattle.solver.specs.Pass.{Lent}
 use Rattle.engine.specs.Entry.{entryBy, measuredBy, measuredOf, entryOf, callLent}
 use Rattle.engine.proofs.Entering.{measured, entered, refused-call}
-use Rattle.engine.specs.Answers.{Answered, wrongItem, openingBy, firstCell}
+use Rattle.engine.specs.Answers.{Answered, wrongItem}
 use Rattle.engine.specs.declared.calls.Answer.{Answer}
-use Rattle.engine.specs.declared.enter.Entry.{Entry}
 use Rattle.engine.specs.declared.enter.Entry.the-variants.{Items, Refused}
 
 -- ---- the check's answer and the lengths

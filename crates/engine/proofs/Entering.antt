@@ -1,32 +1,27 @@
 -- What the tests of what is lent say of every call: it is refused, or it is the machine's on a sheet and a table in form.
 -- Assumes nothing.
-use Prim.Native.Nat.{ℕ, zero, suc, _*_, _≤_, _<_}
+use Prim.Native.Nat.{ℕ, _*_, _≤_}
 use native.Mathlib.Omega.{arith}
 use mathlib.Core.Path.{_≡_, refl, sym, ap, ap₂, _∙_}
-use mathlib.Core.Bool.{Bool, true, false, not, _&&_}
-use mathlib.Core.List.{List, [], _∷_, map}
+use mathlib.Core.Bool.{Bool, true, false}
+use mathlib.Core.List.{List, [], _∷_}
 use mathlib.Core.Option.{none}
 use lib.Dec.{eqb}
-use lib.ListN.{length, take, length-map}
-use borrow.Author.Tests.{eqb-true, eq-eqb, ne-eqb, not-true, not-false}
-use Rattle.circuit.specs.Sheet.{Sheet, size}
+use lib.ListN.{length}
+use borrow.Author.Tests.{eqb-true, not-false}
+use Rattle.circuit.specs.Sheet.{size}
 use Rattle.circuit.specs.Calls.{Call, Test, test, firstCause, tests, effect}
 use Rattle.circuit.specs.Offices.{Opening, opened}
 use Rattle.circuit.proofs.RuleLaws.{and-left, and-right}
-use Rattle.sheet.specs.Read.{Placed, SheetRead, opens, refused, readSheet}
+use Rattle.sheet.specs.Read.{SheetRead, opens, refused, readSheet}
 use Rattle.sheet.specs.Opened.{itemsOf, sheetRead, sheetFrom, placedFrom, sheetOf, Located}
 use Rattle.sheet.specs.Index.{indexWidth, indexBytes}
-use Rattle.sheet.specs.Check.{checkedOf}
-use Rattle.sheet.specs.declared.Checked.the-variants.{Opens, Refused as Faulty}
-use Rattle.item.specs.Offsets.{sameBytes, offsetBytes}
-use Rattle.item.proofs.Offsets.{located-index}
 use Rattle.item.proofs.Located.{sheet-size, size-most}
 use Rattle.table.specs.Record.{width}
 use Rattle.table.specs.Bytes.{encodeTable, decodeTable, tableForm, tableLength}
 use Rattle.office.specs.Office.{Given, refusal, accepted, lengthsOff, indexWrong, tableWrong, unlessRefused, effectOn, callOn, openOn}
 use Rattle.solver.specs.Pass.{Lent}
 use Rattle.engine.specs.Entry.{entryBy, measuredBy, measuredOf, enteredBy, entryOf, callLent, Placing}
-use Rattle.engine.specs.declared.enter.Entry.{Entry}
 use Rattle.engine.specs.declared.enter.Entry.the-variants.{Items, Refused}
 
 -- the lengths, where they are right

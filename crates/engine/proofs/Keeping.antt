@@ -1,31 +1,30 @@
 -- Opening and keeping: the table is written record by record; a figure is looked up with a memo in which nothing is
 -- remembered, and stored. Assumes nothing.
-use Prim.Native.Nat.{ℕ, zero, suc, _+_, _*_, _/_, _≤_, _<_}
+use Prim.Native.Nat.{ℕ, zero, suc, _+_, _*_, _≤_, _<_}
 use native.Mathlib.Omega.{arith}
-use mathlib.Core.Path.{_≡_, refl, sym, ap, ap₂, subst, _∙_}
-use mathlib.Core.Bool.{Bool, true, false, cond, not}
+use mathlib.Core.Path.{_≡_, refl, sym, ap, ap₂, _∙_}
+use mathlib.Core.Bool.{Bool, true, false}
 use mathlib.Core.List.{List, [], _∷_}
 use mathlib.Core.Option.{Option, none, some}
 use lib.Dec.{eqb}
 use lib.IntN.{ℤ}
 use lib.ListN.{length, getD, take, replicate}
 use borrow.Author.Tests.{eqb-true, eqb-false, leb-false, not-false}
-use Rattle.circuit.specs.Value.{Value, wellFormed}
+use Rattle.circuit.specs.Value.{Value}
 use Rattle.circuit.specs.Sheet.{Sheet, Item, entry, figure, size, itemAt, isFigure}
 use Rattle.circuit.specs.Table.{Table, Cell, Mark, unk, held, upd, noticeIf}
-use Rattle.circuit.specs.Machine.{Looked, lookUp, looked, storeResult, keepFigure, keepCell}
-use Rattle.circuit.specs.Calls.{Call, keep, Test, test, firstCause, tests, effect, noItem}
-use Rattle.circuit.specs.Offices.{Opening, bare, full, opened}
-use Rattle.sheet.specs.Opened.{itemsOf, sheetOf, Located}
-use Rattle.sheet.specs.Index.{indexBytes}
+use Rattle.circuit.specs.Machine.{lookUp, looked, storeResult, keepFigure, keepCell}
+use Rattle.circuit.specs.Calls.{keep, test, firstCause, tests, effect, noItem}
+use Rattle.circuit.specs.Offices.{opened}
+use Rattle.sheet.specs.Opened.{sheetOf, Located}
 use Rattle.item.specs.Item.{fieldItem}
 use Rattle.item.specs.Offsets.{offsetBytes}
 use Rattle.item.proofs.Located.{located-item}
 use Rattle.item.proofs.Offsets.{located-index}
 use Rattle.word.specs.Word.{Bytes}
-use Rattle.table.specs.Rows.{row, setRow, rowsBelow}
+use Rattle.table.specs.Rows.{row, setRow}
 use Rattle.table.specs.Record.{width, encodeCell, mayHold}
-use Rattle.table.specs.Bytes.{encodeTable, encodeRecord, decodeTable, tableForm, tableLength}
+use Rattle.table.specs.Bytes.{encodeTable, decodeTable, tableForm, tableLength}
 use Rattle.table.proofs.Rows.{rows-ext, rows-row, row-setRow, row-setRow-other}
 use Rattle.table.proofs.Records.{length-encodeCell}
 use Rattle.table.proofs.Tables.{encode-decodeTable, decode-setRow, setRow-form, record-fits}
@@ -35,7 +34,6 @@ use Rattle.solver.specs.Pass.{Lent, Leaves}
 use Rattle.engine.specs.Entry.{measuredOf, callLent}
 use Rattle.engine.specs.Answers.{Answered, Opened, Left, wrongItem, openingBy, firstCell}
 use Rattle.engine.specs.declared.calls.Answer.{Answer}
-use Rattle.engine.specs.declared.enter.Entry.{Entry}
 use Rattle.engine.specs.declared.enter.Entry.the-variants.{Items, Refused}
 use Rattle.engine.proofs.Entering.{measured, refused-open}
 use Rattle.engine.proofs.Calling.{first-two, past-two, refused-answer, accepted-answer}

@@ -2,7 +2,6 @@
 -- the lengths (1 to 8), which are all the tests of an opening, and of the index and the table (9 and 10). Assumes nothing.
 use Prim.Native.Nat.{ℕ, zero, suc, _≤_}
 use mathlib.Core.Path.{_≡_}
-use mathlib.Core.Bool.{Bool}
 use mathlib.Core.List.{List, [], _∷_}
 use lib.ListN.{length}
 use Rattle.circuit.specs.Sheet.{Sheet, size}

@@ -2,7 +2,6 @@
 ghost use mathlib.Core.Path.{_≡_};
 ghost use Prim.Native.Nat.{_*_, _≤_};
 ghost use lib.ListN.{length};
-ghost use Rattle.circuit.specs.Sheet.{size};
 ghost use Rattle.sheet.specs.Check.{mostItems};
 ghost use Rattle.sheet.specs.Opened.{sheetOf, Located};
 ghost use Rattle.table.specs.Record.{width};

@@ -75,7 +75,7 @@ fn put_by_powers(m: u64, at: usize, powers: &[u64; 19], scratch: &mut [u8]) -> u
 
 // The same with the table. It is laid out once and lent, since a constant that is indexed is laid out at each use. One digit
 // needs no power.
-pub fn put_digits(m: u64, at: usize, scratch: &mut [u8]) -> usize
+fn put_digits(m: u64, at: usize, scratch: &mut [u8]) -> usize
     requires { ⌜ (m < 10 ^ 18) × (at + 18 ≤ length (now scratch)) ⌝ }
     ensures { λ r. ⌜ WithDigits m at (now (scratch .entry)) r (now (scratch .exit)) ⌝ }
 {

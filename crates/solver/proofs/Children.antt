@@ -1,5 +1,5 @@
 -- Telling all the children of an item, and clearing a mark, from what the code's calls ensure. Assumes nothing.
-use Prim.Native.Nat.{ℕ, zero, suc, _+_, _*_, _-_, _/_, _<_, _≤_}
+use Prim.Native.Nat.{ℕ, zero, suc, _+_, _-_, _/_, _<_, _≤_}
 use native.Mathlib.Omega.{arith}
 use native.Mathlib.Numerals.{add-one}
 use mathlib.Core.Path.{_≡_, refl, sym, ap, subst, _∙_}
@@ -7,7 +7,7 @@ use mathlib.Core.Bool.{Bool, true, false}
 use mathlib.Core.List.{List, [], _∷_}
 use lib.IntN.{ℤ}
 use lib.ListN.{length, getD}
-use Rattle.circuit.specs.Sheet.{Sheet, Item, entry, figure, size, itemAt, isFigure, parents, parentsOf, member, isChild, Ordered}
+use Rattle.circuit.specs.Sheet.{Sheet, Item, entry, figure, size, itemAt, isFigure, parents, parentsOf, member, isChild}
 use Rattle.circuit.specs.Table.{Table, unk, held, unmarked}
 use Rattle.circuit.specs.Machine.{tellChild, tellIf, tellBelow, tell, clearCell}
 use Rattle.sheet.specs.Opened.{sheetOf}
@@ -15,7 +15,7 @@ use Rattle.item.proofs.Located.{sheet-ordered}
 use Rattle.table.specs.Rows.{setRow}
 use Rattle.table.specs.Record.{width, encodeCell}
 use Rattle.table.specs.Bytes.{decodeTable}
-use Rattle.table.specs.Meaning.{cellMeaning, markMeaning}
+use Rattle.table.specs.Meaning.{cellMeaning}
 use Rattle.table.specs.declared.Cell.the-variants.{Unk, Held}
 use Rattle.value.specs.Meaning.{meaning}
 use Rattle.children.specs.Children.{places, NoChild, Leads, Linked}

@@ -1,35 +1,35 @@
 -- Working out: the loop over an item's parents gathers what the machine gathers. Assumes nothing.
 use Prim.Native.Nat.{ℕ, zero, suc, _+_, _*_, _<_, _≤_}
 use mathlib.Core.Path.{_≡_, refl, sym, ap, subst, _∙_}
-use mathlib.Core.Bool.{Bool, true, false, cond, _||_, or-assoc}
+use mathlib.Core.Bool.{Bool, true, false, _||_, or-assoc}
 use mathlib.Core.List.{List, [], _∷_, _++_}
-use mathlib.Core.Option.{Option, none, some}
-use mathlib.Core.Logic.{_⊎_, inl, inr}
+use mathlib.Core.Option.{some}
+use mathlib.Core.Logic.{inl, inr}
 use native.Mathlib.Omega.{arith}
 use native.Mathlib.Numerals.{add-one}
-use lib.IntN.{ℤ, pos}
+use lib.IntN.{ℤ}
 use lib.ListN.{length, getD, set, take, length-set}
 use lib.Seq.{take-suc, take-length}
 use Rattle.circuit.specs.Value.{Value, null, wellFormed, kindOf, numberOf}
 use Rattle.circuit.specs.WellFormed.{allWellFormed}
 use Rattle.circuit.specs.Rules.{apply}
 use Rattle.circuit.specs.Circuit.{Listed}
-use Rattle.circuit.specs.Sheet.{Sheet, Item, entry, figure, size, itemAt, isFigure, parents, parentsOf, evaluate, Ordered}
+use Rattle.circuit.specs.Sheet.{Item, entry, figure, size, itemAt, isFigure, parents, parentsOf, evaluate}
 use Rattle.circuit.specs.Table.{Table}
-use Rattle.circuit.specs.Machine.{Looked, looked, Gathered, gathered, gather, before, ruleOn, workOut, lookUp, work}
+use Rattle.circuit.specs.Machine.{Looked, Gathered, gathered, gather, before, workOut, lookUp, work}
 use Rattle.circuit.proofs.RuleLaws.{allWellFormed-snoc, and-true}
 use Rattle.sheet.specs.Opened.{sheetOf}
 use Rattle.item.specs.Item.{itemOperation, OperationRead, CountRead, ItemField, fieldItem}
 use Rattle.item.proofs.Located.{sheet-ordered, located-field, located-item}
-use Rattle.table.specs.Bytes.{decodeTable, tableForm, tableLength}
+use Rattle.table.specs.Bytes.{decodeTable}
 use Rattle.value.specs.Meaning.{meaning, firstValues, operationMeaning, allows, applied, Applied}
 use Rattle.value.proofs.Parents.{firstValues-store}
-use Rattle.solver.specs.Memo.{Found, found, Memo, NoneFrom, seenMeaning, recallMeaning, knownOf, remembered}
+use Rattle.solver.specs.Memo.{Found, found, Memo, seenMeaning, recallMeaning, knownOf, remembered}
 use Rattle.solver.specs.declared.memo.Recall.the-variants.{Known}
 use Rattle.table.specs.Record.{width}
 use Rattle.solver.proofs.Looking.{lent-fits, known-returns}
 use Rattle.solver.specs.Pass.{Lent, Leaves, behind, gatherTo}
-use Rattle.solver.specs.Gathering.{soFar, Gathering, Going, Underway, Continues}
+use Rattle.solver.specs.Gathering.{soFar, Gathering, Going, Continues}
 
 -- one item more at the end of a list
 gather-snoc : (look : Table → ℕ → Looked) (ps : List ℕ) (p : ℕ) (T : Table)

@@ -1,39 +1,36 @@
 -- Looking up and working out: what the code's steps leave is what the machine's look-up leaves. Assumes nothing.
-use Prim.Native.Nat.{ℕ, zero, suc, _+_, _*_, _/_, _%_, _<_, _≤_}
+use Prim.Native.Nat.{ℕ, _+_, _*_, _/_, _%_, _<_, _≤_}
 use mathlib.Core.Path.{_≡_, refl, sym, ap, subst, _∙_, fun-ext}
-use mathlib.Core.Bool.{Bool, true, false, cond, _||_}
-use mathlib.Core.List.{List, [], _∷_, _++_}
+use mathlib.Core.Bool.{Bool, true, false, _||_}
+use mathlib.Core.List.{List, [], _∷_}
 use mathlib.Core.Option.{Option, none, some}
 use native.Mathlib.Omega.{arith}
 use lib.Dec.{eqb}
 use lib.IntN.{ℤ, pos}
 use lib.ListN.{length, getD, set, length-set}
 use lib.Seq.{getD-set-same, getD-set-other}
-use borrow.Author.Tests.{eq-eqb, ne-eqb, eqb-true, eqb-false}
+use borrow.Author.Tests.{eq-eqb, eqb-true, eqb-false}
 use Rattle.circuit.specs.Value.{Value, null, out, num, wellFormed, kindOf, numberOf}
-use Rattle.circuit.specs.WellFormed.{allWellFormed}
-use Rattle.circuit.specs.Circuit.{Listed}
-use Rattle.circuit.specs.Sheet.{Sheet, Item, entry, figure, size, itemAt, isFigure, parents, parentsOf, keptOf, evaluate, Ordered}
-use Rattle.circuit.specs.Table.{Table, Cell, Mark, unk, held, upd, noticeIf, isMark, isMarked, isNotice, entryForm}
-use Rattle.circuit.specs.Machine.{Looked, looked, Gathered, gathered, gather, ruleOn, before, workOut, storeIf, flagged, storeResult, lookCell, lookUp, work}
-use Rattle.circuit.proofs.View.{view, view-at}
+use Rattle.circuit.specs.Sheet.{Sheet, size, itemAt, isFigure, keptOf, Ordered}
+use Rattle.circuit.specs.Table.{Table, Cell, Mark, unk, held, upd, noticeIf, isMark, isMarked, isNotice}
+use Rattle.circuit.specs.Machine.{Looked, looked, storeIf, flagged, lookCell, lookUp, work}
+use Rattle.circuit.proofs.View.{view}
 use Rattle.circuit.proofs.Fill.{Fill, Filling, stays, fills, Looks, upd-same, upd-cases, fill-view, look-right, work-right, lookUp-is}
-use Rattle.circuit.proofs.Memo.{Remembered, remember, remember-fill, work-store}
-use Rattle.sheet.specs.Opened.{sheetOf, Located}
+use Rattle.circuit.proofs.Memo.{remember, remember-fill, work-store}
+use Rattle.sheet.specs.Opened.{sheetOf}
 use Rattle.item.specs.Item.{fieldItem}
 use Rattle.item.proofs.Located.{sheet-ordered, located-item}
-use Rattle.table.specs.Rows.{row, setRow}
-use Rattle.table.specs.Record.{width, encodeCell, decodeCell, mayHold}
-use Rattle.table.specs.Bytes.{decodeTable, tableForm, tableLength, Holdable}
+use Rattle.table.specs.Record.{width, mayHold}
+use Rattle.table.specs.Bytes.{decodeTable, Holdable}
 use Rattle.table.proofs.Tables.{decoded-holdable, decode-setRow, setRow-form, record-fits, holdable-wellFormed}
 use Rattle.value.specs.Meaning.{meaning, ofParts}
 use Rattle.table.specs.Meaning.{markMeaning, cellMeaning}
 use Rattle.table.specs.declared.Cell.the-variants.{Unk, Held}
 use Rattle.solver.specs.declared.memo.Recall.the-variants.{Known, Unknown}
 use Rattle.value.proofs.Parents.{of-own-parts}
-use Rattle.solver.specs.Memo.{Found, found, seenMeaning, recallMeaning, bit, codeOf, tagOf, foundIn, remembered, knownOf, Remembers, Memo, NoneFrom}
-use Rattle.solver.specs.Pass.{Lent, Leaves, Settled, behind, gatherTo}
-use Rattle.office.proofs.Holdable.{look-formed, work-formed}
+use Rattle.solver.specs.Memo.{Found, found, seenMeaning, recallMeaning, bit, codeOf, tagOf, foundIn, remembered, knownOf, Memo}
+use Rattle.solver.specs.Pass.{Lent, Leaves, Settled}
+use Rattle.office.proofs.Holdable.{look-formed}
 
 -- the table that is lent, by the machine's words
 module _ {s offsets t : List ℕ} (lent : Lent s offsets t) where

@@ -1,21 +1,21 @@
 -- The memo of a pass of look-ups: what the arrays say after a store, and that what is remembered stays right. Assumes
 -- nothing.
-use Prim.Native.Nat.{ℕ, _+_, _*_, _/_, _%_, _<_, _≤_}
-use mathlib.Core.Path.{_≡_, refl, sym, ap, _∙_}
-use mathlib.Core.Bool.{Bool, true, false, cond}
+use Prim.Native.Nat.{ℕ, _+_, _*_, _/_, _%_}
+use mathlib.Core.Path.{_≡_, _∙_}
+use mathlib.Core.Bool.{Bool, true, false}
 use mathlib.Core.List.{List}
-use mathlib.Core.Option.{Option, none, some}
+use mathlib.Core.Option.{none, some}
 use native.Mathlib.Omega.{arith}
 use lib.Dec.{eqb}
 use lib.IntN.{ℤ, pos}
-use lib.ListN.{getD, length, set}
+use lib.ListN.{getD}
 use borrow.Author.Tests.{eq-eqb, ne-eqb}
 use mir.Syntax.{w64}
 use mir.Val.{SFits, toZ, ofZ}
-use Rattle.circuit.specs.Value.{Value, null, out, num, kindOf, numberOf}
-use Rattle.value.specs.Meaning.{meaning, ofParts}
+use Rattle.circuit.specs.Value.{Value, null, out, num, kindOf}
+use Rattle.value.specs.Meaning.{ofParts}
 use Rattle.value.proofs.Signed.{back}
-use Rattle.solver.specs.Memo.{Found, found, bit, codeOf, tagOf, foundIn, remembered}
+use Rattle.solver.specs.Memo.{found, tagOf, remembered}
 
 -- a value's parts
 pub parts-null : (k : ℕ) (z : ℤ) → k ≡ 1 → ofParts k z ≡ null

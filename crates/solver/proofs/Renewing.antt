@@ -1,25 +1,25 @@
 -- Working a figure out anew and storing the result: the memo stays right, as nothing at or above the figure is remembered.
 -- Assumes nothing.
-use Prim.Native.Nat.{ℕ, _+_, _*_, _/_, _<_, _≤_}
+use Prim.Native.Nat.{ℕ, _*_, _<_, _≤_}
 use native.Mathlib.Omega.{arith}
 use mathlib.Core.Path.{_≡_, refl, sym, ap, subst, _∙_}
 use mathlib.Core.Bool.{Bool, true, false, cond}
 use mathlib.Core.List.{List}
-use mathlib.Core.Option.{Option, none, some}
+use mathlib.Core.Option.{none, some}
 use lib.Dec.{ltb}
-use lib.IntN.{ℤ, pos}
+use lib.IntN.{ℤ}
 use lib.ListN.{length, getD}
 use borrow.Author.Tests.{ltb-true, ltb-false}
 use Rattle.circuit.specs.Value.{Value, same, wellFormed}
-use Rattle.circuit.specs.Sheet.{Sheet, size, itemAt, isFigure, Ordered}
-use Rattle.circuit.specs.Table.{Table, Cell, Mark, unk, held, notice, upd, valueIn}
-use Rattle.circuit.specs.Machine.{Looked, lookUp, work, renewed}
+use Rattle.circuit.specs.Sheet.{Sheet, itemAt, isFigure, Ordered}
+use Rattle.circuit.specs.Table.{Table, Cell, Mark, held, notice, upd, valueIn}
+use Rattle.circuit.specs.Machine.{work, renewed}
 use Rattle.circuit.proofs.Memo.{remember-store}
 use Rattle.sheet.specs.Opened.{sheetOf}
 use Rattle.item.proofs.Located.{sheet-ordered}
 use Rattle.table.specs.Rows.{setRow}
 use Rattle.table.specs.Record.{width, encodeCell, mayHold}
-use Rattle.table.specs.Bytes.{decodeTable, tableForm}
+use Rattle.table.specs.Bytes.{decodeTable}
 use Rattle.table.proofs.Tables.{decode-setRow, setRow-form, holdable-wellFormed}
 use Rattle.solver.specs.Memo.{Found, remembered, Memo, NoneFrom}
 use Rattle.solver.specs.Pass.{Lent, Leaves}

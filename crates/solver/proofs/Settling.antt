@@ -1,11 +1,11 @@
 -- How a look-up settles what it worked out, from what the code's calls ensure. Assumes nothing.
 use Prim.Native.Nat.{ℕ}
-use mathlib.Core.Path.{_≡_, refl, sym, ap, _∙_}
-use mathlib.Core.Bool.{Bool, true, false, cond, _||_}
+use mathlib.Core.Path.{_≡_, ap}
+use mathlib.Core.Bool.{Bool, true, false, _||_}
 use mathlib.Core.List.{List}
 use lib.IntN.{ℤ}
 use lib.ListN.{set}
-use Rattle.circuit.specs.Value.{Value, numberOf}
+use Rattle.circuit.specs.Value.{numberOf}
 use Rattle.circuit.specs.Table.{Mark, held, noticeIf}
 use Rattle.table.specs.Rows.{setRow}
 use Rattle.table.specs.Record.{width, encodeCell}

@@ -1,12 +1,12 @@
 -- Telling a child, from what the code's calls ensure. Assumes nothing.
-use Prim.Native.Nat.{ℕ, zero, suc, _+_, _*_, _<_, _≤_}
+use Prim.Native.Nat.{ℕ, _<_}
 use native.Mathlib.Omega.{arith}
 use mathlib.Core.Path.{_≡_, refl, sym, ap, subst, _∙_}
-use mathlib.Core.Bool.{Bool, true, false, cond}
+use mathlib.Core.Bool.{Bool, true, false}
 use mathlib.Core.List.{List}
 use lib.IntN.{ℤ}
-use lib.ListN.{length, getD}
-use Rattle.circuit.specs.Value.{Value, null, wellFormed}
+use lib.ListN.{getD}
+use Rattle.circuit.specs.Value.{Value, wellFormed}
 use Rattle.circuit.specs.Sheet.{Sheet, Spread, defer, renew, forget, size, itemAt, isFigure, spreadOf}
 use Rattle.circuit.specs.Table.{Table, Cell, Mark, unmarked, refresh, notice, unk, held, upd, valueIn}
 use Rattle.circuit.specs.Machine.{work, renewed, refreshCleared, tellStored, tellCell, tellChild}

@@ -8,7 +8,7 @@ use mathlib.Core.Option.{Option, none, some}
 use lib.Dec.{eqb}
 use lib.IntN.{ℤ, pos}
 use lib.ListN.{getD, length}
-use Rattle.circuit.specs.Value.{Value, kindOf, numberOf}
+use Rattle.circuit.specs.Value.{Value, kindOf}
 use Rattle.circuit.specs.Sheet.{Sheet, size}
 use Rattle.circuit.specs.Table.{Table, Cell, unk, held, isNotice}
 use Rattle.circuit.specs.Machine.{looked, lookUp}

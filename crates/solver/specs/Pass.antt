@@ -1,13 +1,13 @@
 -- What looking up and working out are lent below the refusals, and what they leave: the result and the table are the
 -- machine's, and the memo stays right. Assumes nothing.
-use Prim.Native.Nat.{ℕ, zero, suc, _<_, _≤_}
+use Prim.Native.Nat.{ℕ, zero, suc, _≤_}
 use mathlib.Core.Path.{_≡_}
 use mathlib.Core.Bool.{Bool, true, false, cond, _||_}
 use mathlib.Core.List.{List, [], _∷_, _++_}
 use lib.IntN.{ℤ}
 use lib.ListN.{length, getD, set}
-use Rattle.circuit.specs.Value.{Value, wellFormed, numberOf}
-use Rattle.circuit.specs.Sheet.{Sheet, size}
+use Rattle.circuit.specs.Value.{wellFormed, numberOf}
+use Rattle.circuit.specs.Sheet.{size}
 use Rattle.circuit.specs.Table.{Table, held, noticeIf}
 use Rattle.circuit.specs.Machine.{Looked, Gathered, gathered}
 use Rattle.sheet.specs.Opened.{sheetOf, Located}

@@ -9,10 +9,9 @@ ghost use Rattle.circuit.specs.Sheet.{size, itemAt, isFigure};
 ghost use Rattle.circuit.specs.Machine.{lookUp, work};
 ghost use Rattle.sheet.specs.Opened.{sheetOf};
 ghost use Rattle.table.specs.Bytes.{decodeTable};
-ghost use Rattle.table.specs.Rows.{setRow};
-ghost use Rattle.table.specs.Record.{width, encodeCell};
+ghost use Rattle.table.specs.Record.{width};
 ghost use Rattle.table.specs.Meaning.{markMeaning};
-ghost use Rattle.solver.specs.Memo.{Found, seenMeaning, recallMeaning, remembered, knownOf, Memo, tagOf};
+ghost use Rattle.solver.specs.Memo.{seenMeaning, recallMeaning, remembered, knownOf, Memo};
 ghost use Rattle.solver.specs.Gathering.{Underway, Continues};
 ghost use Rattle.solver.specs.Pass.{Lent, Leaves, Settled};
 use crate::memo;
@@ -20,7 +19,6 @@ use crate::memo::Recall;
 use crate::memo::Seen;
 use table::Cell;
 use table::Mark;
-use value::Value;
 
 pub fn is_notice(m: Mark) -> bool
     ensures { λ r. ⌜ r ≡ circuit.isNotice (markMeaning m) ⌝ }
@@ -126,8 +124,8 @@ fn gather(kinds: &mut [u8; 16], amounts: &mut [i64; 16], k: usize, flag: bool, s
     either(flag, seen.flag)
 }
 
-// Looks up the parents from place `first` on, up to one that must be worked out.
-fn gather_known(
+// Looks up the parents from place `first` on, up to one that must be worked out. These look-ups need no call.
+fn look_known(
     sheet: &[u8],
     at: usize,
     count: usize,
@@ -178,7 +176,7 @@ pub fn work_out(
     let count = item::parent_count(sheet, at);
     let mut kinds = [0u8; 16];
     let mut amounts = [0i64; 16];
-    let known = gather_known(
+    let known = look_known(
         sheet,
         at,
         count,
@@ -197,7 +195,7 @@ pub fn work_out(
         let p = item::parent(sheet, at, k);
         let seen = look_up(sheet, offsets, table, tags, numbers, generation, p);
         let one = gather(&mut kinds, &mut amounts, k, flag, seen);
-        let more = gather_known(
+        let more = look_known(
             sheet,
             at,
             count,

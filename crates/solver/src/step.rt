@@ -1,7 +1,7 @@
 // Telling the children of an item, stepping and catching up.
 ghost use mathlib.Core.Path.{_≡_};
 ghost use mathlib.Core.Bool.{true, false};
-ghost use Prim.Native.Nat.{ℕ, _+_, _*_, _<_, _≤_};
+ghost use Prim.Native.Nat.{_+_, _*_, _<_, _≤_};
 ghost use lib.ListN.{length};
 ghost use Rattle.circuit.specs.Sheet.{size, itemAt, isFigure};
 ghost use Rattle.circuit.specs.Machine.{work, renewed, refreshCleared, tellChild, tell, clearCell, clearMark, stepItem, stepMarked, catchUp};

@@ -1,14 +1,14 @@
 -- The mark of a record, by its bytes, and the search for the lowest marked item. Assumes nothing.
 use Prim.Native.Nat.{ℕ, _+_, _*_, _<_, _≤_}
 use native.Mathlib.Omega.{arith}
-use mathlib.Core.Path.{_≡_, refl, sym, ap, _∙_}
+use mathlib.Core.Path.{_≡_, refl, sym, _∙_}
 use mathlib.Core.Bool.{Bool, true, false, cond, not}
 use mathlib.Core.List.{List}
 use lib.Dec.{eqb}
 use lib.IntN.{ℤ}
 use lib.ListN.{getD}
-use borrow.Author.Tests.{eq-eqb, ne-eqb, eqb-true, eqb-false}
-use Rattle.circuit.specs.Table.{Table, markOf, isMark, isMarked, isNotice}
+use borrow.Author.Tests.{ne-eqb, eqb-true, eqb-false}
+use Rattle.circuit.specs.Table.{Table, markOf, isMarked, isNotice}
 use Rattle.table.specs.Rows.{row}
 use Rattle.table.specs.Record.{width, kindIn, markIn, numberIn, cellCoded, decodeCell}
 use Rattle.table.specs.Bytes.{LowestMarked}

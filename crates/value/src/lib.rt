@@ -189,7 +189,7 @@ pub enum Operation {
     Refused,
 }
 
-// The operation of a rule code with a number of parents. The only place of the code that has codes and counts.
+// The operation of a rule code with a number of parents. The only place of the code that has the codes, and the counts of each rule.
 pub fn operation_of(code: u8, count: usize) -> Operation
     ensures { λ r. ⌜ operationMeaning r ≡ rules.operationOf code count ⌝ }
 {

@@ -1,6 +1,5 @@
 -- `children::link` meets its contract. The loop's invariant: the lists are those of the items from c on. Assumes nothing.
 use native.Mathlib.Omega.{arith}
-use mathlib.Core.Path.{_≡_, refl, sym, ap, _∙_}
 use borrow.Author.Needs.{needs}
 use Rattle.item.proofs.Located.{size-most}
 use Rattle.children.proofs.Building.{Built, built-start, item-there, parents-low, built-next, built-lengths, built-done}

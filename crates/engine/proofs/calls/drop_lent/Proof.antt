@@ -1,7 +1,7 @@
 use Rattle.engine.proofs.Calling.{cause-fits, drop-item, drop-stored}
 use Rattle.field.proofs.Cutting.{slice-bytes}
-use mathlib.Core.Bool.{true, false}
-use mathlib.Core.Path.{_≡_, refl, sym, ap, _∙_}
+use mathlib.Core.Bool.{true}
+use mathlib.Core.Path.{ap, _∙_}
 use native.Mathlib.Omega.{arith}
 use borrow.Author.Needs.{needs}
 use Rattle.engine.proofs.calls.drop_lent.Statement.{statement}

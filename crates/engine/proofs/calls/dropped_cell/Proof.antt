@@ -1,7 +1,7 @@
 use Rattle.table.specs.Meaning.{cellMeaning}
 use Rattle.circuit.specs.Machine.{dropCell}
 use Rattle.circuit.specs.Table.{unk}
-use mathlib.Core.Path.{_≡_, refl, sym, ap, _∙_}
+use mathlib.Core.Path.{sym, ap, _∙_}
 use borrow.Author.Needs.{needs}
 use Rattle.engine.proofs.calls.dropped_cell.Statement.{statement}
 use Rattle.engine.proofs.calls.dropped_cell.Tie as tie

@@ -2,7 +2,7 @@ use Rattle.engine.proofs.Calling.{cause-beyond, cause-within}
 use Rattle.item.proofs.Located.{located-field, located-item}
 use Rattle.sheet.specs.Opened.{sheetOf}
 use mathlib.Core.Bool.{true, false}
-use mathlib.Core.Path.{_≡_, refl, sym, ap, _∙_}
+use mathlib.Core.Path.{ap, _∙_}
 use native.Mathlib.Omega.{arith}
 use borrow.Author.Needs.{needs}
 use Rattle.engine.proofs.calls.item_cause.Statement.{statement}

@@ -1,6 +1,6 @@
 use Rattle.engine.proofs.Keeping.{kept-held, kept-unk}
 use Rattle.table.specs.Meaning.{cellMeaning}
-use mathlib.Core.Path.{_≡_, refl, sym, ap, _∙_}
+use mathlib.Core.Path.{sym, ap, _∙_}
 use native.Mathlib.Omega.{arith}
 use borrow.Author.Needs.{needs}
 use Rattle.engine.proofs.calls.keep_cell.Statement.{statement}

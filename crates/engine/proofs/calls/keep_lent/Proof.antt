@@ -1,6 +1,5 @@
 use Rattle.engine.proofs.Keeping.{cause-figure, keep-item, keep-done}
 use Rattle.sheet.specs.Opened.{sheetOf}
-use mathlib.Core.Path.{_≡_, refl, sym, ap, _∙_}
 use native.Mathlib.Omega.{arith}
 use borrow.Author.Needs.{needs}
 use Rattle.engine.proofs.calls.keep_lent.Statement.{statement}

@@ -5,7 +5,7 @@ use Rattle.table.specs.Meaning.{markMeaning}
 use Rattle.table.specs.Bytes.{decodeTable}
 use Rattle.sheet.specs.Opened.{sheetOf}
 use Prim.Native.Nat.{_+_}
-use mathlib.Core.Path.{_≡_, refl, sym, ap, _∙_}
+use mathlib.Core.Path.{refl}
 use native.Mathlib.Omega.{arith}
 use borrow.Author.Needs.{needs}
 use Rattle.engine.proofs.calls.keep_new.Statement.{statement}

@@ -3,8 +3,8 @@ use Rattle.value.proofs.Signed.{back}
 use Rattle.engine.proofs.Calling.{cause-fits, post-item, post-value, post-stored}
 use Rattle.field.proofs.Cutting.{slice-bytes}
 use Rattle.value.specs.Meaning.{meaning, partsMeaning}
-use mathlib.Core.Bool.{true, false}
-use mathlib.Core.Path.{_≡_, refl, sym, ap, _∙_}
+use mathlib.Core.Bool.{false}
+use mathlib.Core.Path.{sym, ap, _∙_}
 use native.Mathlib.Omega.{arith}
 use borrow.Author.Needs.{needs}
 use Rattle.engine.proofs.calls.post_lent.Statement.{statement}

@@ -2,7 +2,7 @@ use Rattle.value.specs.Meaning.{partsOf}
 use Rattle.value.proofs.Signed.{back}
 use Rattle.engine.proofs.Calling.{posted-other}
 use Rattle.circuit.specs.Calls.{postedValue}
-use mathlib.Core.Path.{_≡_, refl, sym, ap, _∙_}
+use mathlib.Core.Path.{ap, _∙_}
 use borrow.Author.Needs.{needs}
 use Rattle.engine.proofs.calls.posted.Statement.{statement}
 use Rattle.engine.proofs.calls.posted.Tie as tie

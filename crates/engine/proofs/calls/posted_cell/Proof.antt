@@ -1,7 +1,7 @@
 use Rattle.table.specs.Meaning.{cellMeaning}
 use Rattle.value.specs.Meaning.{meaning}
 use Rattle.circuit.specs.Machine.{postCell}
-use mathlib.Core.Path.{_≡_, refl, sym, ap, _∙_}
+use mathlib.Core.Path.{sym, ap, _∙_}
 use borrow.Author.Needs.{needs}
 use Rattle.engine.proofs.calls.posted_cell.Statement.{statement}
 use Rattle.engine.proofs.calls.posted_cell.Tie as tie

@@ -1,8 +1,8 @@
 use Rattle.engine.proofs.Calling.{refused-whole, entered-whole}
 use Rattle.engine.proofs.Entering.{entered, entered-lent, entered-placing}
-use Rattle.circuit.specs.Calls.{step, ask}
+use Rattle.circuit.specs.Calls.{step}
 use Rattle.sheet.specs.Check.{mostItems}
-use mathlib.Core.Path.{_≡_, refl, sym, ap, _∙_}
+use mathlib.Core.Path.{sym, _∙_}
 use native.Mathlib.Omega.{arith}
 use borrow.Author.Needs.{needs}
 use Rattle.engine.proofs.calls.step.Statement.{statement}

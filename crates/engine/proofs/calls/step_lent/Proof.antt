@@ -1,6 +1,5 @@
 use Rattle.engine.proofs.Asking.{mark-low, step-refused, step-done}
 use Rattle.table.specs.Bytes.{decodeTable}
-use mathlib.Core.Path.{_≡_, refl, sym, ap, _∙_}
 use borrow.Author.Needs.{needs}
 use Rattle.engine.proofs.calls.step_lent.Statement.{statement}
 use Rattle.engine.proofs.calls.step_lent.Tie as tie

@@ -1,6 +1,6 @@
 -- `calls::step_once` meets its contract. Assumes nothing.
 use native.Mathlib.Omega.{arith}
-use mathlib.Core.Path.{_≡_, sym, _∙_}
+use mathlib.Core.Path.{sym, _∙_}
 use Rattle.engine.proofs.Asking.{left-noticed}
 use borrow.Author.Needs.{needs}
 use Rattle.engine.proofs.calls.step_once.Statement.{statement}

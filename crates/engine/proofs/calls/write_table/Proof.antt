@@ -1,12 +1,10 @@
 use Rattle.engine.proofs.Keeping.{Written, written-next, written-done}
 use Rattle.item.proofs.Located.{located-field}
-use Rattle.table.proofs.Rows.{length-setRow}
 use Rattle.table.specs.Record.{width}
 use borrow.Author.Needs.{needs}
 use lib.ListN.{length}
 use Prim.Native.Nat.{_≤_, _-_, _*_}
-use mathlib.Core.Bool.{true, false}
-use mathlib.Core.Path.{_≡_, refl, sym, ap, _∙_}
+use mathlib.Core.Path.{_≡_}
 use native.Mathlib.Omega.{arith}
 use Rattle.engine.proofs.calls.write_table.Statement.{statement}
 use Rattle.engine.proofs.calls.write_table.Tie as tie

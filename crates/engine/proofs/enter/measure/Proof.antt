@@ -1,6 +1,6 @@
 -- `enter::measure` meets its contract: by the check's answer, and by the lengths. Assumes nothing.
 use native.Mathlib.Omega.{arith}
-use mathlib.Core.Path.{_≡_, sym, _∙_}
+use mathlib.Core.Path.{sym, _∙_}
 use borrow.Author.Needs.{needs}
 use Rattle.sheet.proofs.Located.{located}
 use Rattle.engine.proofs.Calling.{count-most, measured-refused, measured-index, measured-table, measured-items}

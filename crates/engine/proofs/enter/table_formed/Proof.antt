@@ -6,8 +6,8 @@ use Rattle.sheet.specs.Opened.{sheetOf}
 use borrow.Author.Tests.{not-true, not-false}
 use borrow.Author.Needs.{needs}
 use Prim.Native.Nat.{_≤_, _-_}
-use mathlib.Core.Bool.{true, false}
-use mathlib.Core.Path.{_≡_, refl, sym, ap, _∙_}
+use mathlib.Core.Bool.{true}
+use mathlib.Core.Path.{_≡_, refl}
 use native.Mathlib.Omega.{arith}
 use Rattle.engine.proofs.enter.table_formed.Statement.{statement}
 use Rattle.engine.proofs.enter.table_formed.Tie as tie

@@ -2,11 +2,11 @@
 -- Assumes nothing.
 use Prim.Native.Nat.{ℕ, _<_, _+_, _*_, _-_}
 use native.Mathlib.Omega.{arith}
-use mathlib.Core.Path.{_≡_, refl, sym, ap, _∙_}
+use mathlib.Core.Path.{refl}
 use borrow.Author.Needs.{needs}
-use Rattle.item.proofs.Located.{size-most, located-field, located-item}
-use Rattle.solver.specs.Memo.{seenMeaning, found}
-use Rattle.solver.specs.Gathering.{Going, Underway}
+use Rattle.item.proofs.Located.{size-most, located-field}
+use Rattle.solver.specs.Memo.{seenMeaning}
+use Rattle.solver.specs.Gathering.{Going}
 use Rattle.solver.proofs.Looking.{lent-fits, known-returns, worked-figure, worked-returns}
 use Rattle.solver.proofs.Gathering.{gathering-memo, going-start, going-field, going-more, going-below, going-lent, going-figure, going-next, going-takes, going-formed, going-done}
 use Prim.Native.Nat.{ℕ, _<_}
@@ -19,7 +19,7 @@ use Rattle.solver.proofs.look.work_out.Reads as work-out
 use Rattle.solver.proofs.look.work_out.Kinds as work-out-kinds
 use Rattle.solver.proofs.look.+look_up+work_out.Lts-work_out as work-out-lts
 use Rattle.solver.proofs.look.gather.Reads as gather-reads
-use Rattle.solver.proofs.look.gather_known.Reads as gather-known-reads
+use Rattle.solver.proofs.look.look_known.Reads as look-known-reads
 use Rattle.solver.proofs.look.known.Reads as known-reads
 use Rattle.solver.proofs.look.settle.Reads as settle-reads
 use Rattle.item.proofs.is_kept.Reads as is-kept-reads
@@ -333,8 +333,8 @@ work-out-μ-loop sheet offsets table₀ tags₀ numbers₀ generation i at count
 work-out-mul-at : (t : ℕ) → work-out-lts.Need-mul-at (
   parent-count-reads.Asked,
   parent-count-reads.Learnt,
-  gather-known-reads.Asked,
-  gather-known-reads.Learnt,
+  look-known-reads.Asked,
+  look-known-reads.Learnt,
   parent-reads.Asked,
   parent-reads.Learnt,
   look-up-below t,
@@ -352,8 +352,8 @@ work-out-mul-at t c =
 work-out-shared-slice-read-at : (t : ℕ) → work-out-lts.Need-shared-slice-read-at (
   parent-count-reads.Asked,
   parent-count-reads.Learnt,
-  gather-known-reads.Asked,
-  gather-known-reads.Learnt,
+  look-known-reads.Asked,
+  look-known-reads.Learnt,
   parent-reads.Asked,
   parent-reads.Learnt,
   look-up-below t,
@@ -371,8 +371,8 @@ work-out-shared-slice-read-at t c =
 work-out-parent-count-requires : (t : ℕ) → work-out-lts.Need-parent-count-requires (
   parent-count-reads.Asked,
   parent-count-reads.Learnt,
-  gather-known-reads.Asked,
-  gather-known-reads.Learnt,
+  look-known-reads.Asked,
+  look-known-reads.Learnt,
   parent-reads.Asked,
   parent-reads.Learnt,
   look-up-below t,
@@ -389,11 +389,11 @@ work-out-parent-count-requires t c κs =
     let a = c .before .before .before .before .before .args in
     located-field (a .sheet .now) (a .offsets .now) (q .0 .located) (a .i) (q .1 .1 .0)
 
-work-out-gather-known-requires : (t : ℕ) → work-out-lts.Need-gather-known-requires (
+work-out-look-known-requires : (t : ℕ) → work-out-lts.Need-look-known-requires (
   parent-count-reads.Asked,
   parent-count-reads.Learnt,
-  gather-known-reads.Asked,
-  gather-known-reads.Learnt,
+  look-known-reads.Asked,
+  look-known-reads.Learnt,
   parent-reads.Asked,
   parent-reads.Learnt,
   look-up-below t,
@@ -405,7 +405,7 @@ work-out-gather-known-requires : (t : ℕ) → work-out-lts.Need-gather-known-re
   apply-reads.Asked,
   apply-reads.Learnt,
 ) (work-out-at t) work-out.Post work-out-Inv-loop work-out-μ-loop
-work-out-gather-known-requires t c κs =
+work-out-look-known-requires t c κs =
     let q = c .before .before .before .before .before .before .before .before .before .before .before .pre .1 in
     let a = c .before .before .before .before .before .before .before .before .before .before .before .args in
     let going = going-start (q .0) (q .1 .0) (q .1 .1 .0) (q .1 .1 .1) _ (c .before .before .before .before .before .parent-count .ensures) _ _ refl refl in
@@ -414,8 +414,8 @@ work-out-gather-known-requires t c κs =
 work-out-loop-holds : (t : ℕ) → work-out-lts.Need-loop-holds (
   parent-count-reads.Asked,
   parent-count-reads.Learnt,
-  gather-known-reads.Asked,
-  gather-known-reads.Learnt,
+  look-known-reads.Asked,
+  look-known-reads.Learnt,
   parent-reads.Asked,
   parent-reads.Learnt,
   look-up-below t,
@@ -431,13 +431,13 @@ work-out-loop-holds t c =
     let q = c .before .before .before .before .before .before .before .before .before .before .before .before .pre .1 in
     let a = c .before .before .before .before .before .before .before .before .before .before .before .before .args in
     let going = going-start (q .0) (q .1 .0) (q .1 .1 .0) (q .1 .1 .1) _ (c .before .before .before .before .before .before .parent-count .ensures) _ _ refl refl in
-    c .gather-known .ensures .1 (a .offsets .now) (a .table .now) (a .tags .now) (a .numbers .now) (a .i) going
+    c .look-known .ensures .1 (a .offsets .now) (a .table .now) (a .tags .now) (a .numbers .now) (a .i) going
 
 work-out-parent-requires : (t : ℕ) → work-out-lts.Need-parent-requires (
   parent-count-reads.Asked,
   parent-count-reads.Learnt,
-  gather-known-reads.Asked,
-  gather-known-reads.Learnt,
+  look-known-reads.Asked,
+  look-known-reads.Learnt,
   parent-reads.Asked,
   parent-reads.Learnt,
   look-up-below t,
@@ -456,8 +456,8 @@ work-out-parent-requires t c κs =
 work-out-look-up-requires : (t : ℕ) → work-out-lts.Need-look-up-requires (
   parent-count-reads.Asked,
   parent-count-reads.Learnt,
-  gather-known-reads.Asked,
-  gather-known-reads.Learnt,
+  look-known-reads.Asked,
+  look-known-reads.Learnt,
   parent-reads.Asked,
   parent-reads.Learnt,
   look-up-below t,
@@ -478,8 +478,8 @@ work-out-look-up-requires t c κs =
 work-out-gather-requires : (t : ℕ) → work-out-lts.Need-gather-requires (
   parent-count-reads.Asked,
   parent-count-reads.Learnt,
-  gather-known-reads.Asked,
-  gather-known-reads.Learnt,
+  look-known-reads.Asked,
+  look-known-reads.Learnt,
   parent-reads.Asked,
   parent-reads.Learnt,
   look-up-below t,
@@ -494,11 +494,11 @@ work-out-gather-requires : (t : ℕ) → work-out-lts.Need-gather-requires (
 work-out-gather-requires t c κs =
     omega (arith, c .before .before .before .before .before .before .before .before .before .before .before .before .before .loop .inv .count-most, c .before .before .before .before .before .before .before .before .before .before .before .before .loop-test .taken)
 
-work-out-add-gather-known : (t : ℕ) → work-out-lts.Need-add-gather-known (
+work-out-add-look-known : (t : ℕ) → work-out-lts.Need-add-look-known (
   parent-count-reads.Asked,
   parent-count-reads.Learnt,
-  gather-known-reads.Asked,
-  gather-known-reads.Learnt,
+  look-known-reads.Asked,
+  look-known-reads.Learnt,
   parent-reads.Asked,
   parent-reads.Learnt,
   look-up-below t,
@@ -510,14 +510,14 @@ work-out-add-gather-known : (t : ℕ) → work-out-lts.Need-add-gather-known (
   apply-reads.Asked,
   apply-reads.Learnt,
 ) (work-out-at t) work-out.Post work-out-Inv-loop work-out-μ-loop
-work-out-add-gather-known t c =
+work-out-add-look-known t c =
     search needs
 
-work-out-gather-known-requires-2 : (t : ℕ) → work-out-lts.Need-gather-known-requires-2 (
+work-out-look-known-requires-2 : (t : ℕ) → work-out-lts.Need-look-known-requires-2 (
   parent-count-reads.Asked,
   parent-count-reads.Learnt,
-  gather-known-reads.Asked,
-  gather-known-reads.Learnt,
+  look-known-reads.Asked,
+  look-known-reads.Learnt,
   parent-reads.Asked,
   parent-reads.Learnt,
   look-up-below t,
@@ -529,7 +529,7 @@ work-out-gather-known-requires-2 : (t : ℕ) → work-out-lts.Need-gather-known-
   apply-reads.Asked,
   apply-reads.Learnt,
 ) (work-out-at t) work-out.Post work-out-Inv-loop work-out-μ-loop
-work-out-gather-known-requires-2 t c κs =
+work-out-look-known-requires-2 t c κs =
     let a = c .before .before .before .before .before .before .before .before .before .before .before .before .before .before .before .before .before .before .before .before .before .before .before .before .before .before .before .before .before .before .before .before .args in
     let inv = c .before .before .before .before .before .before .before .before .before .before .before .before .before .before .before .before .before .before .before .loop .inv in
     let p = c .before .before .before .before .before .before .before .before .before .before .before .before .before .before .before .before .before .parent in
@@ -541,8 +541,8 @@ work-out-gather-known-requires-2 t c κs =
 work-out-loop-less : (t : ℕ) → work-out-lts.Need-loop-less (
   parent-count-reads.Asked,
   parent-count-reads.Learnt,
-  gather-known-reads.Asked,
-  gather-known-reads.Learnt,
+  look-known-reads.Asked,
+  look-known-reads.Learnt,
   parent-reads.Asked,
   parent-reads.Learnt,
   look-up-below t,
@@ -555,13 +555,13 @@ work-out-loop-less : (t : ℕ) → work-out-lts.Need-loop-less (
   apply-reads.Learnt,
 ) (work-out-at t) work-out.Post work-out-Inv-loop work-out-μ-loop
 work-out-loop-less t c =
-    omega (arith, c .gather-known2 .ensures .0, c .before .before .before .before .before .before .before .before .before .before .before .before .before .before .before .before .before .before .before .loop-test .taken)
+    omega (arith, c .look-known2 .ensures .0, c .before .before .before .before .before .before .before .before .before .before .before .before .before .before .before .before .before .before .before .loop-test .taken)
 
 work-out-loop-again : (t : ℕ) → work-out-lts.Need-loop-again (
   parent-count-reads.Asked,
   parent-count-reads.Learnt,
-  gather-known-reads.Asked,
-  gather-known-reads.Learnt,
+  look-known-reads.Asked,
+  look-known-reads.Learnt,
   parent-reads.Asked,
   parent-reads.Learnt,
   look-up-below t,
@@ -580,13 +580,13 @@ work-out-loop-again t c =
     let l = c .before .before .before .before .before .before .before .before .before .before .before .before .before .before .look-up in
     let g = c .before .before .before .before .before .before .gather in
     let next = going-next inv (p .result) (p .ensures) (c .before .before .before .before .before .before .before .before .before .before .before .before .before .before .before .before .before .before .before .loop-test .taken) (seenMeaning (l .result)) _ _ _ (l .kept .1 .1 .0) (l .kept .1 .1 .1 .0) (l .kept .1 .1 .1 .1 .0) (l .ensures) _ (g .ensures .0) _ _ (g .ensures .1 .0) (g .ensures .1 .1) in
-    c .gather-known2 .ensures .1 (a .offsets .now) (a .table .now) (a .tags .now) (a .numbers .now) (a .i) next
+    c .look-known2 .ensures .1 (a .offsets .now) (a .table .now) (a .tags .now) (a .numbers .now) (a .i) next
 
 work-out-operation-requires : (t : ℕ) → work-out-lts.Need-operation-requires (
   parent-count-reads.Asked,
   parent-count-reads.Learnt,
-  gather-known-reads.Asked,
-  gather-known-reads.Learnt,
+  look-known-reads.Asked,
+  look-known-reads.Learnt,
   parent-reads.Asked,
   parent-reads.Learnt,
   look-up-below t,
@@ -605,8 +605,8 @@ work-out-operation-requires t c κs =
 work-out-apply-requires : (t : ℕ) → work-out-lts.Need-apply-requires (
   parent-count-reads.Asked,
   parent-count-reads.Learnt,
-  gather-known-reads.Asked,
-  gather-known-reads.Learnt,
+  look-known-reads.Asked,
+  look-known-reads.Learnt,
   parent-reads.Asked,
   parent-reads.Learnt,
   look-up-below t,
@@ -625,8 +625,8 @@ work-out-apply-requires t c κs =
 work-out-same-length : (t : ℕ) → work-out-lts.Need-same-length (
   parent-count-reads.Asked,
   parent-count-reads.Learnt,
-  gather-known-reads.Asked,
-  gather-known-reads.Learnt,
+  look-known-reads.Asked,
+  look-known-reads.Learnt,
   parent-reads.Asked,
   parent-reads.Learnt,
   look-up-below t,
@@ -644,8 +644,8 @@ work-out-same-length t c =
 work-out-same-length-2 : (t : ℕ) → work-out-lts.Need-same-length-2 (
   parent-count-reads.Asked,
   parent-count-reads.Learnt,
-  gather-known-reads.Asked,
-  gather-known-reads.Learnt,
+  look-known-reads.Asked,
+  look-known-reads.Learnt,
   parent-reads.Asked,
   parent-reads.Learnt,
   look-up-below t,
@@ -663,8 +663,8 @@ work-out-same-length-2 t c =
 work-out-same-length-3 : (t : ℕ) → work-out-lts.Need-same-length-3 (
   parent-count-reads.Asked,
   parent-count-reads.Learnt,
-  gather-known-reads.Asked,
-  gather-known-reads.Learnt,
+  look-known-reads.Asked,
+  look-known-reads.Learnt,
   parent-reads.Asked,
   parent-reads.Learnt,
   look-up-below t,
@@ -682,8 +682,8 @@ work-out-same-length-3 t c =
 work-out-returns : (t : ℕ) → work-out-lts.Need-returns (
   parent-count-reads.Asked,
   parent-count-reads.Learnt,
-  gather-known-reads.Asked,
-  gather-known-reads.Learnt,
+  look-known-reads.Asked,
+  look-known-reads.Learnt,
   parent-reads.Asked,
   parent-reads.Learnt,
   look-up-below t,
@@ -734,8 +734,8 @@ pub +look-up+work-out-spec : {M : Type 1} → statement M
     λ t. work-out-lts.spec (
       parent-count-reads.Asked,
       parent-count-reads.Learnt,
-      gather-known-reads.Asked,
-      gather-known-reads.Learnt,
+      look-known-reads.Asked,
+      look-known-reads.Learnt,
       parent-reads.Asked,
       parent-reads.Learnt,
       look-up-below t,
@@ -754,13 +754,13 @@ pub +look-up+work-out-spec : {M : Type 1} → statement M
     (work-out-mul-at t)
     (work-out-shared-slice-read-at t)
     (work-out-parent-count-requires t)
-    (work-out-gather-known-requires t)
+    (work-out-look-known-requires t)
     (work-out-loop-holds t)
     (work-out-parent-requires t)
     (work-out-look-up-requires t)
     (work-out-gather-requires t)
-    (work-out-add-gather-known t)
-    (work-out-gather-known-requires-2 t)
+    (work-out-add-look-known t)
+    (work-out-look-known-requires-2 t)
     (work-out-loop-less t)
     (work-out-loop-again t)
     (work-out-operation-requires t)

@@ -1,5 +1,5 @@
 -- `step::step_item` meets its contract. Assumes nothing.
-use mathlib.Core.Path.{_≡_, sym, _∙_}
+use mathlib.Core.Path.{sym, _∙_}
 use Rattle.solver.proofs.Stepping.{steps-noticed}
 use borrow.Author.Needs.{needs}
 use Rattle.solver.proofs.step.step_item.Statement.{statement}

@@ -1,7 +1,6 @@
 -- `step::tell_children` meets its contract. The loop's invariant: the children below some item are told, and the edge leads to the
 -- next. Assumes nothing.
 use native.Mathlib.Omega.{arith}
-use mathlib.Core.Path.{_≡_, refl, sym, ap, _∙_}
 use borrow.Author.Needs.{needs}
 use Rattle.item.proofs.Located.{size-most, located-narrow}
 use Rattle.children.proofs.Linking.{left}

@@ -1,14 +1,13 @@
--- `look::gather_known` meets its contract. The loop's invariant: the first k parents are gathered. Assumes nothing.
+-- `look::look_known` meets its contract. The loop's invariant: the first k parents are gathered. Assumes nothing.
 use Prim.Native.Nat.{_≤_, _-_}
 use native.Mathlib.Omega.{arith}
-use mathlib.Core.Path.{_≡_, refl, sym, ap, _∙_}
 use borrow.Author.Needs.{needs}
-use Rattle.solver.specs.Gathering.{Going, Underway, Continues}
+use Rattle.solver.specs.Gathering.{Continues}
 use Rattle.solver.proofs.Gathering.{going-field, going-more, parent-fits, parent-tagged, parent-numbered, continue-known}
-use Rattle.solver.proofs.look.gather_known.Statement.{statement}
-use Rattle.solver.proofs.look.gather_known.Tie as tie
-use Rattle.solver.proofs.look.gather_known.Reads as reads
-use Rattle.solver.proofs.look.gather_known.Lts as lts
+use Rattle.solver.proofs.look.look_known.Statement.{statement}
+use Rattle.solver.proofs.look.look_known.Tie as tie
+use Rattle.solver.proofs.look.look_known.Reads as reads
+use Rattle.solver.proofs.look.look_known.Lts as lts
 use Rattle.solver.proofs.look.gather.Reads as gather-reads
 use Rattle.solver.proofs.look.known.Reads as known-reads
 use Rattle.item.proofs.parent.Reads as parent-reads
@@ -78,8 +77,8 @@ returns-2 c =
     let inv = c .before .loop .inv in
     (inv .0, inv .1)
 
-pub gather-known-spec : {M : Type 1} → statement M
-gather-known-spec =
+pub look-known-spec : {M : Type 1} → statement M
+look-known-spec =
     tie.close
     (tie.spec
     Inv-loop
