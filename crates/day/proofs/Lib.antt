@@ -7,3 +7,4 @@ pub mod Faults
 pub mod Example
 pub mod Asking
 pub mod Room
+pub mod Causes

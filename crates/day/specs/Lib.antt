@@ -1,3 +1,4 @@
 pub mod Lines
 pub mod Orders
 pub mod Day
+pub mod Causes

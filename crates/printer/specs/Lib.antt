@@ -1,3 +1,4 @@
 pub mod Decimal
 pub mod Printing
 pub mod Contract
+pub mod Causes
