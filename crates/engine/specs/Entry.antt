@@ -7,7 +7,8 @@ use lib.ListN.{length}
 use Rattle.circuit.specs.Sheet.{Sheet, size}
 use Rattle.circuit.specs.Calls.{Call, Test, test, firstCause, tests, effect}
 use Rattle.sheet.specs.Read.{Placed, SheetRead, opens, refused, readSheet}
-use Rattle.sheet.specs.Opened.{sheetRead, sheetOf, Located}
+use Rattle.sheet.specs.Opened.{sheetRead, sheetOf, offsetsOf, Located}
+use Rattle.sheet.specs.Check.{levelsOf, readSoFar, over}
 use Rattle.table.specs.Bytes.{decodeTable}
 use Rattle.office.specs.Office.{Given, unlessRefused, effectOn, lengthsOff, indexWrong, tableWrong}
 use Rattle.engine.specs.declared.enter.Entry.{Entry}
@@ -42,6 +43,13 @@ entryOf s x t = enteredBy (readSheet s) x t
 abbrev pub callLent : Sheet → List ℕ → List ℕ → Call → Given
 callLent S x t c =
     unlessRefused (firstCause (tests S (decodeTable t) c)) x t (effectOn S x (effect S (decodeTable t) c))
+
+-- What the tests of a sheet leave in the two scratch arrays: the offsets and the levels of the items that were read, over what was
+-- there. Of a sheet that opens the offsets are those of all its items.
+pub record Scanned (s offsets levels offsets′ levels′ : List ℕ) : Type 0 where
+  pub offsets-are : offsets′ ≡ over (offsetsOf (readSoFar s)) offsets
+  pub levels-are : levels′ ≡ over (levelsOf (readSoFar s)) levels
+  pub located : Located s offsets′
 
 -- the sheet's items with their offsets in an array that has room for them, n by count
 pub record Placing (s offsets : List ℕ) (n : ℕ) : Type 0 where

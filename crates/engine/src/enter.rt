@@ -3,10 +3,10 @@ ghost use mathlib.Core.Path.{_≡_};
 ghost use Prim.Native.Nat.{_*_, _≤_};
 ghost use lib.ListN.{length};
 ghost use Rattle.sheet.specs.Check.{mostItems};
-ghost use Rattle.sheet.specs.Opened.{sheetOf, Located};
+ghost use Rattle.sheet.specs.Opened.{sheetOf};
 ghost use Rattle.table.specs.Record.{width};
 ghost use Rattle.table.specs.Bytes.{tableForm};
-ghost use Rattle.engine.specs.Entry.{measuredOf, entryOf, Placing};
+ghost use Rattle.engine.specs.Entry.{measuredOf, entryOf, Scanned, Placing};
 use sheet::Checked;
 
 // How many items the sheet has, or the number and the offset of the first cause.
@@ -25,7 +25,7 @@ pub fn measure(
 ) -> Entry
     requires { ⌜ (mostItems ≤ length (now offsets)) × (mostItems ≤ length (now levels)) ⌝ }
     ensures answer { λ r. ⌜ r ≡ measuredOf (now (sheet .entry)) «index_len» «table_len» ⌝ }
-    ensures found { λ _. ⌜ Located (now (sheet .entry)) (now (offsets .exit)) ⌝ }
+    ensures found { λ _. ⌜ Scanned (now (sheet .entry)) (now (offsets .entry)) (now (levels .entry)) (now (offsets .exit)) (now (levels .exit)) ⌝ }
 {
     match sheet::check(sheet, offsets, levels) {
         Checked::Refused { number, offset } => Entry::Refused { number, offset },
@@ -73,7 +73,7 @@ pub fn enter(
 ) -> Entry
     requires { ⌜ (mostItems ≤ length (now offsets)) × (mostItems ≤ length (now levels)) ⌝ }
     ensures answer { λ r. ⌜ r ≡ entryOf (now (sheet .entry)) (now (index .entry)) (now (table .entry)) ⌝ }
-    ensures found { λ _. ⌜ Located (now (sheet .entry)) (now (offsets .exit)) ⌝ }
+    ensures found { λ _. ⌜ Scanned (now (sheet .entry)) (now (offsets .entry)) (now (levels .entry)) (now (offsets .exit)) (now (levels .exit)) ⌝ }
 {
     match measure(sheet, index.len(), table.len(), offsets, levels) {
         Entry::Refused { number, offset } => Entry::Refused { number, offset },

@@ -43,7 +43,7 @@ slice-aggregate-write-table : tie.Need-slice-aggregate-write-table
 slice-aggregate-write-table c = search needs
 
 write-table-requires : tie.Need-write-table-requires
-write-table-requires c κs = let a = c .before .before .before .before .before .before .before .before .before .before .before .before .before .before .before .before .before .before .args in let m = c .before .before .before .before .before .before .before .before .before .before .before .before .measure in let w = c .before .before .before .before .before .before .before .before .n .given in let e = sym (w .1) ∙ m .ensures .0 in let g = measured (a .sheet .now) (a .index .now) (a .table .now) (w .0 .0) e in (entered-placing (a .sheet .now) _ (w .0 .0) (g .count-is) (m .ensures .1) (omega (arith, m .kept .1 .1 .1 .0)), g .table-length)
+write-table-requires c κs = let a = c .before .before .before .before .before .before .before .before .before .before .before .before .before .before .before .before .before .before .args in let m = c .before .before .before .before .before .before .before .before .before .before .before .before .measure in let w = c .before .before .before .before .before .before .before .before .n .given in let e = sym (w .1) ∙ m .ensures .0 in let g = measured (a .sheet .now) (a .index .now) (a .table .now) (w .0 .0) e in (entered-placing (a .sheet .now) _ (w .0 .0) (g .count-is) (m .ensures .1 .located) (omega (arith, m .kept .1 .1 .1 .0)), g .table-length)
 
 give-requires-2 : tie.Need-give-requires-2
 give-requires-2 c κs = search needs
@@ -58,7 +58,7 @@ same-length-2 : tie.Need-same-length-2
 same-length-2 c = search needs
 
 returns-2 : tie.Need-returns-2
-returns-2 c = let a = c .before .before .before .before .before .before .before .before .before .before .before .before .before .before .before .before .before .before .before .before .before .before .args in let m = c .before .before .before .before .before .before .before .before .before .before .before .before .before .before .before .before .measure in let w = c .before .before .before .before .before .before .before .before .before .before .before .before .n .given in let e = sym (w .1) ∙ m .ensures .0 in opened-written (a .filled) (a .sheet .now) (a .index .now) (a .table .now) _ _ _ (w .0 .0) e (m .ensures .1) (c .before .before .before .before .before .before .before .before .write-index .ensures) (c .before .before .before .write-table .ensures) (c .give2 .result) (c .give2 .ensures .0) (c .give2 .ensures .1)
+returns-2 c = let a = c .before .before .before .before .before .before .before .before .before .before .before .before .before .before .before .before .before .before .before .before .before .before .args in let m = c .before .before .before .before .before .before .before .before .before .before .before .before .before .before .before .before .measure in let w = c .before .before .before .before .before .before .before .before .before .before .before .before .n .given in let e = sym (w .1) ∙ m .ensures .0 in opened-written (a .filled) (a .sheet .now) (a .index .now) (a .table .now) _ _ _ (w .0 .0) e (m .ensures .1 .located) (c .before .before .before .before .before .before .before .before .write-index .ensures) (c .before .before .before .write-table .ensures) (c .give2 .result) (c .give2 .ensures .0) (c .give2 .ensures .1)
 
 pub open-by-spec : {M : Type 1} → statement M
 open-by-spec =

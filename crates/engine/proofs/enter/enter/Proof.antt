@@ -34,11 +34,11 @@ same-length-2 : tie.Need-same-length-2
 same-length-2 c = search needs
 
 returns : tie.Need-returns
-returns c = let a = c .before .before .before .before .before .before .before .before .before .before .before .before .before .before .before .before .before .before .args in let m = c .before .before .before .before .before .before .before .before .before .before .measure in let w = c .before .before .before .before .n .given in let e = sym (w .1) ∙ m .ensures .0 in (entry-index (a .sheet .now) (a .index .now) (a .table .now) _ (w .0 .0) e (m .ensures .1) (c .before .index-matches .result) (c .before .index-matches .ensures) (not-true _ (c .if1 .taken)), m .ensures .1)
+returns c = let a = c .before .before .before .before .before .before .before .before .before .before .before .before .before .before .before .before .before .before .args in let m = c .before .before .before .before .before .before .before .before .before .before .measure in let w = c .before .before .before .before .n .given in let e = sym (w .1) ∙ m .ensures .0 in (entry-index (a .sheet .now) (a .index .now) (a .table .now) _ (w .0 .0) e (m .ensures .1 .located) (c .before .index-matches .result) (c .before .index-matches .ensures) (not-true _ (c .if1 .taken)), m .ensures .1)
 
 table-formed-requires : tie.Need-table-formed-requires
 unfolding mostItems
-table-formed-requires c κs = let a = c .before .before .before .before .before .before .before .before .before .before .before .before .before .before .before .before .before .before .before .args in let m = c .before .before .before .before .before .before .before .before .before .before .before .measure in let w = c .before .before .before .before .before .n .given in let e = sym (w .1) ∙ m .ensures .0 in let g = measured (a .sheet .now) (a .index .now) (a .table .now) (w .0 .0) e in (entered-placing (a .sheet .now) _ (w .0 .0) (g .count-is) (m .ensures .1) (omega (arith, m .kept .1 .1 .1 .0)), g .table-length)
+table-formed-requires c κs = let a = c .before .before .before .before .before .before .before .before .before .before .before .before .before .before .before .before .before .before .before .args in let m = c .before .before .before .before .before .before .before .before .before .before .before .measure in let w = c .before .before .before .before .before .n .given in let e = sym (w .1) ∙ m .ensures .0 in let g = measured (a .sheet .now) (a .index .now) (a .table .now) (w .0 .0) e in (entered-placing (a .sheet .now) _ (w .0 .0) (g .count-is) (m .ensures .1 .located) (omega (arith, m .kept .1 .1 .1 .0)), g .table-length)
 
 same-length-3 : tie.Need-same-length-3
 same-length-3 c = search needs
@@ -47,7 +47,7 @@ same-length-4 : tie.Need-same-length-4
 same-length-4 c = search needs
 
 returns-2 : tie.Need-returns-2
-returns-2 c = let a = c .before .before .before .before .before .before .before .before .before .before .before .before .before .before .before .before .before .before .before .before .before .args in let m = c .before .before .before .before .before .before .before .before .before .before .before .before .before .measure in let w = c .before .before .before .before .before .before .before .n .given in let e = sym (w .1) ∙ m .ensures .0 in (entry-table (a .sheet .now) (a .index .now) (a .table .now) _ (w .0 .0) e (m .ensures .1) (c .before .before .before .before .index-matches .result) (c .before .before .before .before .index-matches .ensures) (not-false _ (c .before .before .before .if1 .left)) (c .before .table-formed .result) (c .before .table-formed .ensures) (not-true _ (c .if2 .taken)), m .ensures .1)
+returns-2 c = let a = c .before .before .before .before .before .before .before .before .before .before .before .before .before .before .before .before .before .before .before .before .before .args in let m = c .before .before .before .before .before .before .before .before .before .before .before .before .before .measure in let w = c .before .before .before .before .before .before .before .n .given in let e = sym (w .1) ∙ m .ensures .0 in (entry-table (a .sheet .now) (a .index .now) (a .table .now) _ (w .0 .0) e (m .ensures .1 .located) (c .before .before .before .before .index-matches .result) (c .before .before .before .before .index-matches .ensures) (not-false _ (c .before .before .before .if1 .left)) (c .before .table-formed .result) (c .before .table-formed .ensures) (not-true _ (c .if2 .taken)), m .ensures .1)
 
 same-length-5 : tie.Need-same-length-5
 same-length-5 c = search needs
@@ -65,7 +65,7 @@ same-length-8 : tie.Need-same-length-8
 same-length-8 c = search needs
 
 returns-4 : tie.Need-returns-4
-returns-4 c = let a = c .before .before .before .before .before .before .before .before .before .before .before .before .before .before .before .before .before .before .before .before .before .args in let m = c .before .before .before .before .before .before .before .before .before .before .before .before .before .measure in let w = c .before .before .before .before .before .before .before .n .given in let e = sym (w .1) ∙ m .ensures .0 in (entry-items (a .sheet .now) (a .index .now) (a .table .now) _ (w .0 .0) e (m .ensures .1) (c .before .before .before .before .index-matches .result) (c .before .before .before .before .index-matches .ensures) (not-false _ (c .before .before .before .if1 .left)) (c .before .table-formed .result) (c .before .table-formed .ensures) (not-false _ (c .if2 .left)), m .ensures .1)
+returns-4 c = let a = c .before .before .before .before .before .before .before .before .before .before .before .before .before .before .before .before .before .before .before .before .before .args in let m = c .before .before .before .before .before .before .before .before .before .before .before .before .before .measure in let w = c .before .before .before .before .before .before .before .n .given in let e = sym (w .1) ∙ m .ensures .0 in (entry-items (a .sheet .now) (a .index .now) (a .table .now) _ (w .0 .0) e (m .ensures .1 .located) (c .before .before .before .before .index-matches .result) (c .before .before .before .before .index-matches .ensures) (not-false _ (c .before .before .before .if1 .left)) (c .before .table-formed .result) (c .before .table-formed .ensures) (not-false _ (c .if2 .left)), m .ensures .1)
 
 pub enter-spec : {M : Type 1} → statement M
 enter-spec =
