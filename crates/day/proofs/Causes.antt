@@ -8,27 +8,25 @@ use mathlib.Core.List.{List}
 use mathlib.Core.Option.{Option, none, some}
 use mathlib.Core.Logic.{_↔_}
 use lib.Dec.{eqb}
-use lib.IntN.{ℤ, pos}
+use lib.IntN.{pos}
 use lib.ListN.{length}
 use borrow.Author.Tests.{eqb-true, eqb-false}
 use Rattle.circuit.specs.Value.{sameNumber}
 use Rattle.circuit.specs.Calls.{Call, post, keep, drop, step, ask}
-use Rattle.circuit.proofs.RuleLaws.{sameNumber-true, sameNumber-refl}
+use Rattle.circuit.proofs.RuleLaws.{sameNumber-true}
+use Rattle.printer.proofs.Causes.{not-zero}
 use Rattle.field.specs.Field.{cutAt}
 use Rattle.field.specs.declared.Cut.{Cut}
 use Rattle.field.specs.declared.Cut.the-variants.{Field, Short, Absent}
 use Rattle.sheet.specs.Read.{contentAt}
-use Rattle.day.specs.Orders.{postTag, askTag, keepTag, dropTag, stepTag, itemIn, kindIn, numberIn, kindAllowed, postIn, callIn, orderOf}
-use Rattle.day.specs.Day.{Played, played, faultLine, playOrder, playCut, playFrom}
+use Rattle.day.specs.Orders.{postTag, askTag, keepTag, dropTag, stepTag, itemIn, kindIn, numberIn, postIn, callIn, orderOf}
+use Rattle.day.specs.Day.{played, faultLine, playOrder, playCut, playFrom}
 use Rattle.day.specs.Causes.{FieldWrong, tagUnknown, postLength, callLength, kindOther, nullNotZero, DayFault, short, wrong, DaySound, ends, orders}
 
 -- an order, or none where P holds
 data Orders (P : Type 0) : Option Call → Type 0 where
   a-call : (c : Call) → ¬ P → Orders P (some c)
   no-call : P → Orders P none
-
-not-zero : (z : ℤ) → sameNumber z (pos 0) ≡ false → ¬ (z ≡ pos 0)
-not-zero z e q = let bad : _≡_ {A = ℕ} 0 1 = cc (sym (sameNumber-refl z) ∙ ap (sameNumber z) q ∙ e) in omega (arith, bad)
 
 module _ (tag : ℕ) (content : List ℕ) where
   post-orders : tag ≡ postTag → Orders (FieldWrong tag content) (postIn content)

@@ -3,17 +3,16 @@ use Prim.Native.Nat.{ℕ, _≤_, _<_}
 use mathlib.Core.Path.{_≡_, refl, sym, ap, _∙_}
 use mathlib.Core.Bool.{Bool, true, false, cond}
 use mathlib.Core.List.{[], _∷_}
-use mathlib.Core.Option.{Option, none, some}
-use mathlib.Core.Logic.{_↔_}
+use mathlib.Core.Option.{none, some}
 use native.Mathlib.Omega.{arith}
 use lib.Dec.{eqb, ltb}
 use lib.IntN.{ℤ, pos}
 use borrow.Author.Tests.{eqb-true, eqb-false, ltb-true, ltb-false}
 use Rattle.circuit.specs.Value.{null, out, num, inRange, sameNumber}
-use Rattle.circuit.specs.Calls.{isNone, test, firstCause}
+use Rattle.circuit.specs.Calls.{isNone, firstCause}
 use Rattle.circuit.proofs.RuleLaws.{sameNumber-true, sameNumber-refl}
 use Rattle.value.specs.Meaning.{partsOf}
-use Rattle.printer.specs.Printing.{leastScratch, noValue, scratchShort, printCause}
+use Rattle.printer.specs.Printing.{leastScratch, noValue, printCause}
 use Rattle.printer.specs.Causes.{ValueWrong, kindOther, notZero, numberBeyond, PrintCauses}
 
 -- whether there is a value, by the test
@@ -21,7 +20,7 @@ data Says (P : Type 0) : Bool → Type 0 where
   yes-so : P → Says P true
   not-so : ¬ P → Says P false
 
-not-zero : (z : ℤ) → sameNumber z (pos 0) ≡ false → ¬ (z ≡ pos 0)
+pub not-zero : (z : ℤ) → sameNumber z (pos 0) ≡ false → ¬ (z ≡ pos 0)
 not-zero z e q = let bad : _≡_ {A = ℕ} 0 1 = cc (sym (sameNumber-refl z) ∙ ap (sameNumber z) q ∙ e) in omega (arith, bad)
 
 says-wrong : (kind : ℕ) (z : ℤ) → Says (ValueWrong kind z) (noValue kind z)
