@@ -4,7 +4,6 @@ use mathlib.Core.Path.{_≡_, refl, sym, ap, subst, _∙_}
 use mathlib.Core.Bool.{Bool, true, false, _||_, or-assoc}
 use mathlib.Core.List.{List, [], _∷_, _++_}
 use mathlib.Core.Option.{some}
-use mathlib.Core.Logic.{inl, inr}
 use native.Mathlib.Omega.{arith}
 use native.Mathlib.Numerals.{add-one}
 use lib.IntN.{ℤ}
@@ -13,13 +12,13 @@ use lib.Seq.{take-suc, take-length}
 use Rattle.circuit.specs.Value.{Value, null, wellFormed, kindOf, numberOf}
 use Rattle.circuit.specs.WellFormed.{allWellFormed}
 use Rattle.circuit.specs.Rules.{apply}
-use Rattle.circuit.specs.Circuit.{Listed}
 use Rattle.circuit.specs.Sheet.{Item, entry, figure, size, itemAt, isFigure, parents, parentsOf, evaluate}
 use Rattle.circuit.specs.Table.{Table}
 use Rattle.circuit.specs.Machine.{Looked, Gathered, gathered, gather, before, workOut, lookUp, work}
 use Rattle.circuit.proofs.RuleLaws.{allWellFormed-snoc, and-true}
 use Rattle.sheet.specs.Opened.{sheetOf}
 use Rattle.item.specs.Item.{itemOperation, OperationRead, CountRead, ItemField, fieldItem}
+use Rattle.children.proofs.Linking.{place-below}
 use Rattle.item.proofs.Located.{sheet-ordered, located-field, located-item}
 use Rattle.table.specs.Bytes.{decodeTable}
 use Rattle.value.specs.Meaning.{meaning, firstValues, operationMeaning, allows, applied, Applied}
@@ -123,12 +122,7 @@ module _ {s : List ℕ} {i : ℕ} {t₀ tags₀ : List ℕ} {generation k : ℕ}
 
   -- a parent is below the item
   pub parent-below : (p : ℕ) → p ≡ getD (parents (sheetOf s) i) k 0 → k < length (parents (sheetOf s) i) → p < i
-  parent-below p p-is more = sheet-ordered s i p (rw p-is (listed-at (parents (sheetOf s) i) k more))
-    where
-      listed-at : (ps : List ℕ) (n : ℕ) → n < length ps → Listed (getD ps n 0) ps
-      listed-at [] n h = absurd (omega arith)
-      listed-at (q ∷ ps) zero h = inl refl
-      listed-at (q ∷ ps) (suc n) h = inr (listed-at ps n (omega arith))
+  parent-below p p-is more = rw p-is (place-below (sheetOf s) (sheet-ordered s) i k more)
 
   -- all of them: the item is worked out
   pub gather-done : k ≡ length (parents (sheetOf s) i) → (f : Found)
