@@ -5,7 +5,7 @@ use mathlib.Core.Path.{_≡_, ap, subst, _∙_}
 use mathlib.Core.List.{List}
 use lib.ListN.{length, getD}
 use Rattle.circuit.specs.Sheet.{size, parents, parentsOf}
-use Rattle.sheet.specs.Opened.{sheetOf, Located}
+use Rattle.layout.specs.Opened.{sheetOf, Located}
 use Rattle.item.specs.Item.{ItemField, fieldItem}
 use Rattle.item.proofs.Located.{sheet-ordered, located-field, located-item, located-narrow}
 use Rattle.children.specs.Children.{places, lists, linkPlaces, headPlaces, linkLast, linkAll, Linked}

@@ -5,7 +5,7 @@ ghost use mathlib.Core.Path.{_≡_};
 ghost use Prim.Native.Nat.{ℕ, _<_, _≤_, _+_, _*_};
 ghost use lib.ListN.{length, getD};
 ghost use Rattle.circuit.specs.Sheet.{size, parentsOf};
-ghost use Rattle.sheet.specs.Opened.{sheetOf, Located};
+ghost use Rattle.layout.specs.Opened.{sheetOf, Located};
 ghost use Rattle.item.specs.Item.{ItemField, fieldItem};
 ghost use Rattle.children.specs.Children.{places, lists, linkPlaces, headPlaces, linkAll};
 

@@ -9,9 +9,9 @@ use Rattle.circuit.specs.Value.{Value, wellFormed}
 use Rattle.circuit.specs.Sheet.{Sheet, size, Ordered}
 use Rattle.circuit.specs.Machine.{lookUp, catchUp}
 use Rattle.circuit.specs.Calls.{ask, firstCause, tests, effect, noItem}
-use Rattle.sheet.specs.Read.{Placed, SheetRead, opens, refused, readSheet}
-use Rattle.sheet.specs.Opened.{sheetRead}
-use Rattle.sheet.proofs.Scan.{cause-none, opened-ordered}
+use Rattle.layout.specs.Read.{Placed, SheetRead, opens, refused, readSheet}
+use Rattle.layout.specs.Opened.{sheetRead}
+use Rattle.layout.proofs.Scan.{cause-none, opened-ordered}
 use Rattle.table.specs.Bytes.{decodeTable, tableForm}
 use Rattle.table.proofs.Tables.{decoded-holdable}
 use Rattle.office.specs.Office.{callTests, callRead, callOn, lengthsWrong, indexWrong, tableWrong, unlessRefused, effectOn}

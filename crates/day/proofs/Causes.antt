@@ -18,7 +18,7 @@ use Rattle.printer.proofs.Causes.{not-zero}
 use Rattle.field.specs.Field.{cutAt}
 use Rattle.field.specs.declared.Cut.{Cut}
 use Rattle.field.specs.declared.Cut.the-variants.{Field, Short, Absent}
-use Rattle.sheet.specs.Read.{contentAt}
+use Rattle.layout.specs.Read.{contentAt}
 use Rattle.day.specs.Orders.{postTag, askTag, keepTag, dropTag, stepTag, itemIn, kindIn, numberIn, postIn, callIn, orderOf}
 use Rattle.day.specs.Day.{played, faultLine, playOrder, playCut, playFrom}
 use Rattle.day.specs.Causes.{FieldWrong, tagUnknown, postLength, callLength, kindOther, nullNotZero, DayFault, short, wrong, DaySound, ends, orders}

@@ -7,10 +7,10 @@ use Rattle.circuit.specs.Machine.{gather, workOut, lookFor, lookUp, work, store
 use Rattle.circuit.specs.Rules.{coded, maxParents, oneOrMore, countAllowed as parentsAllowed, operationOf, numbers, total, least, greatest, whole, anyOut, apply}
 use Rattle.circuit.specs.Sheet.{member}
 use Rattle.circuit.specs.Value.{limit, inRange}
-use Rattle.sheet.specs.Index.{indexWidth, indexBytes}
-use Rattle.sheet.specs.Layout.{editionKnown, itemLimit, countAllowed, levelLimit, keepAllowed, spreadAllowed, nameLimit, all, nameAllowed, highest, spreadMeant, machineItem}
-use Rattle.sheet.specs.Read.{parentsIn, itemIn, lengthOrName, headTests, itemTests, lastTests, scan, scanSheet, readSheet}
-use Rattle.sheet.specs.Write.{concat}
+use Rattle.layout.specs.Index.{indexWidth, indexBytes}
+use Rattle.layout.specs.Layout.{editionKnown, itemLimit, countAllowed, levelLimit, keepAllowed, spreadAllowed, nameLimit, all, nameAllowed, highest, spreadMeant, machineItem}
+use Rattle.layout.specs.Read.{parentsIn, itemIn, lengthOrName, headTests, itemTests, lastTests, scan, scanSheet, readSheet}
+use Rattle.layout.specs.Write.{concat}
 use Rattle.table.specs.Bytes.{encodeTable, tableForm}
 use Rattle.table.specs.Record.{encodeCell, decodeCell, codesForm, numberForm, recordForm}
 use Rattle.table.specs.Rows.{rowsBelow, allBelow}

@@ -19,9 +19,9 @@ use Rattle.field.specs.Field.{cutAt, le16}
 use Rattle.field.specs.declared.Cut.{Cut}
 use Rattle.field.specs.declared.Cut.the-variants.{Field, Short, Absent}
 use Rattle.field.proofs.Cutting.{FieldAt, field-iff, absent-iff}
-use Rattle.sheet.specs.Read.{Placed, opens, readSheet, contentAt, headContent, headNext}
-use Rattle.sheet.specs.Layout.{headTag}
-use Rattle.sheet.proofs.Scan.{opened, opened-length}
+use Rattle.layout.specs.Read.{Placed, opens, readSheet, contentAt, headContent, headNext}
+use Rattle.layout.specs.Layout.{headTag}
+use Rattle.layout.proofs.Scan.{opened, opened-length}
 use Rattle.office.specs.Office.{callOn}
 use Rattle.day.specs.Orders.{orderOf}
 use Rattle.day.specs.Day.{lineOf, after, playFrom, itemCount}

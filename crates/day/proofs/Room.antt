@@ -16,8 +16,8 @@ use Rattle.field.specs.Field.{cutAt, Bytes}
 use Rattle.field.specs.declared.Cut.{Cut}
 use Rattle.field.specs.declared.Cut.the-variants.{Field, Short, Absent}
 use Rattle.field.proofs.Cutting.{FieldAt, field-iff, le16-small}
-use Rattle.sheet.specs.Read.{Placed, opens, readSheet, contentAt}
-use Rattle.sheet.specs.Opened.{sheetRead}
+use Rattle.layout.specs.Read.{Placed, opens, readSheet, contentAt}
+use Rattle.layout.specs.Opened.{sheetRead}
 use Rattle.table.specs.Bytes.{decodeTable}
 use Rattle.office.specs.Office.{Given, openOn, callOn, callTests, unlessRefused, effectOn}
 use Rattle.office.proofs.Demands.{opening-opens}

@@ -9,7 +9,7 @@ use lib.Dec.{leb}
 use lib.ListN.{length, take, drop}
 use lib.Seq.{take-all, length-take-le}
 use Rattle.circuit.specs.Offices.{bare}
-use Rattle.sheet.specs.Index.{indexWidth}
+use Rattle.layout.specs.Index.{indexWidth}
 use Rattle.office.specs.Office.{Given, openOn}
 use Rattle.day.specs.Lines.{Appended, lastLine, sheetWord}
 use Rattle.day.specs.Day.{playFrom, PlayedOn, Day, ended, dayBy, dayOn, itemCount, indexSize, tableSize, runDay, Ran}

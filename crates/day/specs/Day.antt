@@ -13,8 +13,8 @@ use Rattle.circuit.specs.Offices.{bare}
 use Rattle.field.specs.Field.{cutAt, le16At}
 use Rattle.field.specs.declared.Cut.{Cut}
 use Rattle.field.specs.declared.Cut.the-variants.{Field, Short, Absent}
-use Rattle.sheet.specs.Read.{contentAt}
-use Rattle.sheet.specs.Index.{indexWidth}
+use Rattle.layout.specs.Read.{contentAt}
+use Rattle.layout.specs.Index.{indexWidth}
 use Rattle.table.specs.Record.{width}
 use Rattle.office.specs.Office.{Given, openOn, callOn}
 use Rattle.printer.specs.Printing.{textOf}

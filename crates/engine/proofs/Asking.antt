@@ -13,15 +13,15 @@ use Rattle.circuit.specs.Sheet.{size}
 use Rattle.circuit.specs.Table.{Table, isMarked, isNotice, markOf}
 use Rattle.circuit.specs.Machine.{lookUp, tell, clearMark, stepItem, catchUp}
 use Rattle.circuit.specs.Calls.{Call, step, ask, test, firstCause, tests, effect, noMark}
-use Rattle.sheet.specs.Opened.{sheetOf}
+use Rattle.layout.specs.Opened.{sheetOf}
 use Rattle.word.specs.Word.{Bytes}
 use Rattle.table.specs.Bytes.{encodeTable, decodeTable, LowestMarked}
 use Rattle.table.proofs.Tables.{encode-decodeTable}
 use Rattle.office.specs.Office.{callOn}
 use Rattle.item.proofs.Located.{size-most}
-use Rattle.solver.specs.Pass.{Lent, Leaves}
-use Rattle.solver.specs.Stepping.{Ready, Steps}
-use Rattle.solver.specs.Memo.{Found, Memo}
+use Rattle.looking.specs.Pass.{Lent, Leaves}
+use Rattle.stepping.specs.Stepping.{Ready, Steps}
+use Rattle.memo.specs.Memo.{Found, Memo}
 use Rattle.children.specs.Children.{places, lists, linkAll, Linked}
 use Rattle.children.proofs.Building.{sheet-linked}
 use Rattle.engine.specs.Entry.{entryOf, callLent}
@@ -31,8 +31,8 @@ use Rattle.engine.specs.declared.calls.Reading.{Reading}
 use Rattle.engine.specs.declared.enter.Entry.the-variants.{Items, Refused}
 use Rattle.engine.proofs.Entering.{entered, refused-call}
 use Rattle.engine.proofs.Calling.{refused-answer, accepted-answer}
-use Rattle.solver.proofs.Stepping.{ready-memo, noticed-step}
-use Rattle.solver.proofs.Sweeping.{quiet-caught}
+use Rattle.stepping.proofs.Stepping.{ready-memo, noticed-step}
+use Rattle.stepping.proofs.Sweeping.{quiet-caught}
 
 -- ---- step
 

@@ -15,10 +15,10 @@ use Rattle.circuit.specs.Table.{Cell, upd}
 use Rattle.circuit.specs.Machine.{storePosting, postCell, dropFigure, dropCell}
 use Rattle.circuit.specs.Calls.{Call, post, drop, Test, test, firstCause, tests, effect, noItem, notPostable, isNone, postedValue, postIt}
 use Rattle.circuit.proofs.RuleLaws.{and-true}
-use Rattle.sheet.specs.Opened.{itemsOf, placedFrom, sheetFrom, sheetRead, sheetOf, Located}
-use Rattle.sheet.specs.Read.{SheetRead, opens, refused, readSheet}
+use Rattle.layout.specs.Opened.{itemsOf, placedFrom, sheetFrom, sheetRead, sheetOf, Located}
+use Rattle.layout.specs.Read.{SheetRead, opens, refused, readSheet}
 use Rattle.sheet.specs.Check.{checkedOf}
-use Rattle.sheet.specs.Index.{indexWidth}
+use Rattle.layout.specs.Index.{indexWidth}
 use Rattle.sheet.specs.declared.Checked.the-variants.{Opens, Refused as Faulty}
 use Rattle.sheet.proofs.Located as checked
 use Rattle.item.specs.Item.{fieldItem}
@@ -33,7 +33,7 @@ use Rattle.table.specs.Bytes.{encodeTable, decodeTable, tableForm, tableLength,
 use Rattle.table.proofs.Rows.{below-true}
 use Rattle.table.proofs.Tables.{encode-decodeTable, encode-upd}
 use Rattle.office.specs.Office.{refusal, lengthsOff, indexWrong, tableWrong, callOn}
-use Rattle.solver.specs.Pass.{Lent}
+use Rattle.looking.specs.Pass.{Lent}
 use Rattle.engine.specs.Entry.{entryBy, measuredBy, measuredOf, entryOf, callLent}
 use Rattle.engine.proofs.Entering.{measured, entered, refused-call}
 use Rattle.engine.specs.Answers.{Answered, wrongItem}

@@ -13,14 +13,14 @@ use Rattle.circuit.specs.Sheet.{size}
 use Rattle.circuit.specs.Calls.{Call, Test, test, firstCause, tests, effect}
 use Rattle.circuit.specs.Offices.{Opening, opened}
 use Rattle.circuit.proofs.RuleLaws.{and-left, and-right}
-use Rattle.sheet.specs.Read.{SheetRead, opens, refused, readSheet}
-use Rattle.sheet.specs.Opened.{itemsOf, sheetRead, sheetFrom, placedFrom, sheetOf, Located}
-use Rattle.sheet.specs.Index.{indexWidth, indexBytes}
+use Rattle.layout.specs.Read.{SheetRead, opens, refused, readSheet}
+use Rattle.layout.specs.Opened.{itemsOf, sheetRead, sheetFrom, placedFrom, sheetOf, Located}
+use Rattle.layout.specs.Index.{indexWidth, indexBytes}
 use Rattle.item.proofs.Located.{sheet-size, size-most}
 use Rattle.table.specs.Record.{width}
 use Rattle.table.specs.Bytes.{encodeTable, decodeTable, tableForm, tableLength}
 use Rattle.office.specs.Office.{Given, refusal, accepted, lengthsOff, indexWrong, tableWrong, unlessRefused, effectOn, callOn, openOn}
-use Rattle.solver.specs.Pass.{Lent}
+use Rattle.looking.specs.Pass.{Lent}
 use Rattle.engine.specs.Entry.{entryBy, measuredBy, measuredOf, enteredBy, entryOf, callLent, Placing}
 use Rattle.engine.specs.declared.enter.Entry.the-variants.{Items, Refused}
 

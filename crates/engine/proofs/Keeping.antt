@@ -16,7 +16,7 @@ use Rattle.circuit.specs.Table.{Table, Cell, Mark, unk, held, upd, noticeIf}
 use Rattle.circuit.specs.Machine.{lookUp, looked, storeResult, keepFigure, keepCell}
 use Rattle.circuit.specs.Calls.{keep, test, firstCause, tests, effect, noItem}
 use Rattle.circuit.specs.Offices.{opened}
-use Rattle.sheet.specs.Opened.{sheetOf, Located}
+use Rattle.layout.specs.Opened.{sheetOf, Located}
 use Rattle.item.specs.Item.{fieldItem}
 use Rattle.item.specs.Offsets.{offsetBytes}
 use Rattle.item.proofs.Located.{located-item}
@@ -29,8 +29,8 @@ use Rattle.table.proofs.Rows.{rows-ext, rows-row, row-setRow, row-setRow-other}
 use Rattle.table.proofs.Records.{length-encodeCell}
 use Rattle.table.proofs.Tables.{encode-decodeTable, decode-setRow, setRow-form, record-fits}
 use Rattle.office.specs.Office.{openOn}
-use Rattle.solver.specs.Memo.{Found, remembered, Memo}
-use Rattle.solver.specs.Pass.{Lent, Leaves}
+use Rattle.memo.specs.Memo.{Found, remembered, Memo}
+use Rattle.looking.specs.Pass.{Lent, Leaves}
 use Rattle.engine.specs.Entry.{measuredOf, callLent}
 use Rattle.engine.specs.Answers.{Answered, Opened, Left, wrongItem, openingBy, firstCell}
 use Rattle.engine.specs.declared.calls.Answer.{Answer}

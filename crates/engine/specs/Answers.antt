@@ -10,7 +10,7 @@ use Rattle.circuit.specs.Sheet.{Sheet}
 use Rattle.circuit.specs.Table.{Table, Cell, unk, held, unmarked}
 use Rattle.circuit.specs.Calls.{notEntry, notFigure}
 use Rattle.circuit.specs.Offices.{Opening, bare, full}
-use Rattle.sheet.specs.Opened.{sheetOf}
+use Rattle.layout.specs.Opened.{sheetOf}
 use Rattle.table.specs.Bytes.{decodeTable, tableForm}
 use Rattle.office.specs.Office.{Given}
 use Rattle.engine.specs.declared.calls.Answer.{Answer}

@@ -6,8 +6,8 @@ use mathlib.Core.List.{List, [], _∷_}
 use lib.ListN.{length}
 use Rattle.circuit.specs.Sheet.{Sheet, size}
 use Rattle.circuit.specs.Calls.{Call, Test, test, firstCause, tests, effect}
-use Rattle.sheet.specs.Read.{Placed, SheetRead, opens, refused, readSheet}
-use Rattle.sheet.specs.Opened.{sheetRead, sheetOf, offsetsOf, Located}
+use Rattle.layout.specs.Read.{Placed, SheetRead, opens, refused, readSheet}
+use Rattle.layout.specs.Opened.{sheetRead, sheetOf, offsetsOf, Located}
 use Rattle.sheet.specs.Check.{levelsOf, readSoFar, over}
 use Rattle.table.specs.Bytes.{decodeTable}
 use Rattle.office.specs.Office.{Given, unlessRefused, effectOn, lengthsOff, indexWrong, tableWrong}

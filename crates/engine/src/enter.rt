@@ -3,7 +3,7 @@ ghost use mathlib.Core.Path.{_≡_};
 ghost use Prim.Native.Nat.{_*_, _≤_};
 ghost use lib.ListN.{length};
 ghost use Rattle.sheet.specs.Check.{mostItems};
-ghost use Rattle.sheet.specs.Opened.{sheetOf};
+ghost use Rattle.layout.specs.Opened.{sheetOf};
 ghost use Rattle.table.specs.Record.{width};
 ghost use Rattle.table.specs.Bytes.{tableForm};
 ghost use Rattle.engine.specs.Entry.{measuredOf, entryOf, Scanned, Placing};

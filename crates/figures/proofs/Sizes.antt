@@ -9,7 +9,7 @@ use lib.IntN.{ℤ, pos, negsuc, natAbs, _-ℤ_}
 use lib.Signed.{ltZ, mag, nonNeg}
 use mir.Syntax.{w64}
 use mir.Val.{Fits, SFits, toZ, ofZ}
-use Rattle.value.proofs.Shares.{not-below, not-less}
+use Rattle.rules.proofs.Shares.{not-below, not-less}
 use Rattle.value.proofs.Signed.{back, read}
 
 module _ (n : ℤ) (f : SFits w64 n) where

@@ -72,12 +72,12 @@ fn figure(text: &[u8], code: u8, n: usize, a: Value, b: Value, c: Value)
     numbers[2] = third.number_or_zero();
     write(text);
     write(b" = ");
-    let op = value::operation_of(code, n);
-    if value::is_refused(op) {
+    let op = rules::operation_of(code, n);
+    if rules::is_refused(op) {
         write(b"refused\n");
         return;
     }
-    write_value(value::apply(op, &kinds, &numbers, n));
+    write_value(rules::apply(op, &kinds, &numbers, n));
     write(b"\n");
 }
 

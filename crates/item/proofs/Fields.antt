@@ -13,13 +13,13 @@ use borrow.Author.Tests.{eqb-true, eqb-false, eq-eqb, ne-eqb}
 use Rattle.field.specs.Field.{lenAt, le16At, le16}
 use Rattle.circuit.specs.Rules.{Operation, operationOf, countAllowed, coded, allowed}
 use Rattle.circuit.specs.Sheet.{Item, entry, figure, isFigure, parentsOf, keptOf, spreadOf, defer, renew, forget}
-use Rattle.sheet.specs.Layout.{LayoutItem, entryField, figureField, figureTag, ruleAllowed, machineItem, spreadMeant, operationOr}
-use Rattle.sheet.specs.Read.{contentAt, itemIn, ruleIn, keepIn, spreadIn, parentCountIn, parentIn, parentsIn, nameIn}
-use Rattle.sheet.proofs.Scan.{allowed-operation}
-use Rattle.sheet.proofs.Items.{parents-count}
-use Rattle.sheet.proofs.IndexLaws.{parents-most}
-use Rattle.value.specs.Meaning.{operationMeaning}
-use Rattle.value.specs.declared.Operation.{Operation as Answer}
+use Rattle.layout.specs.Layout.{LayoutItem, entryField, figureField, figureTag, ruleAllowed, machineItem, spreadMeant, operationOr}
+use Rattle.layout.specs.Read.{contentAt, itemIn, ruleIn, keepIn, spreadIn, parentCountIn, parentIn, parentsIn, nameIn}
+use Rattle.layout.proofs.Scan.{allowed-operation}
+use Rattle.layout.proofs.Items.{parents-count}
+use Rattle.layout.proofs.IndexLaws.{parents-most}
+use Rattle.rules.specs.Operations.{operationMeaning}
+use Rattle.rules.specs.declared.Operation.{Operation as Answer}
 use Rattle.item.specs.Item.{fieldContent, fieldItem, ruleByte, keepByte, spreadByte, countByte, FigureField, ItemField, itemOperation, OperationRead, CountRead}
 
 -- the k-th of the first n parents

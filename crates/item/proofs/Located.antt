@@ -15,11 +15,11 @@ use Rattle.field.proofs.Cutting.{field-iff, content-length}
 use Rattle.circuit.specs.Rules.{Operation, countAllowed}
 use Rattle.circuit.specs.Circuit.{Listed}
 use Rattle.circuit.specs.Sheet.{Sheet, Item, entry, figure, size, itemAt, parentsOf, Ordered}
-use Rattle.sheet.specs.Layout.{LayoutItem, figureField, figureTag, ruleAllowed, keepAllowed, spreadAllowed, machineItem, machineSheet}
-use Rattle.sheet.specs.Read.{contentAt, countIn, ruleIn, keepIn, spreadIn, parentCountIn, parentsIn, nameIn, itemIn, lengthOrName, ruleWrong, Placed, headContent, SheetRead, opens, refused, readSheet, layoutOf}
-use Rattle.sheet.specs.Opened.{placedFrom, itemsOf, sheetRead, sheetFrom, sheetOf, offsetsOf, Located}
-use Rattle.sheet.proofs.Scan.{placedAt, offsetFrom, offset-placed, ItemRead, passes, scan-item, opened, opened-length, opened-count, opened-ordered, machine-item, and-left}
-use Rattle.sheet.proofs.Items.{figure-parts, parents-count}
+use Rattle.layout.specs.Layout.{LayoutItem, figureField, figureTag, ruleAllowed, keepAllowed, spreadAllowed, machineItem, machineSheet}
+use Rattle.layout.specs.Read.{contentAt, countIn, ruleIn, keepIn, spreadIn, parentCountIn, parentsIn, nameIn, itemIn, lengthOrName, ruleWrong, Placed, headContent, SheetRead, opens, refused, readSheet, layoutOf}
+use Rattle.layout.specs.Opened.{placedFrom, itemsOf, sheetRead, sheetFrom, sheetOf, offsetsOf, Located}
+use Rattle.layout.proofs.Scan.{placedAt, offsetFrom, offset-placed, ItemRead, passes, scan-item, opened, opened-length, opened-count, opened-ordered, machine-item, and-left}
+use Rattle.layout.proofs.Items.{figure-parts, parents-count}
 use Rattle.item.specs.Item.{fieldContent, fieldItem, ruleByte, countByte, FigureField, ItemField, itemOperation}
 use Rattle.item.proofs.Fields.{content-at, field-takes, count-read, count-not}
 

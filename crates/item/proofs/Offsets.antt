@@ -12,10 +12,10 @@ use lib.ListN.{length, getD, take, drop, set, length-set, length-take, drop-of-l
 use lib.Seq.{take-suc, take-suc-set, take-all, drop-cons, getD-take, length-take-le}
 use borrow.Author.Tests.{eqb-true, eqb-false, eq-eqb, ne-eqb}
 use Rattle.field.specs.Field.{le16At}
-use Rattle.sheet.specs.Read.{Placed}
-use Rattle.sheet.specs.Write.{concat}
-use Rattle.sheet.specs.Index.{bytes32, indexBytes}
-use Rattle.sheet.specs.Opened.{itemsOf, offsetsOf, Located}
+use Rattle.layout.specs.Read.{Placed}
+use Rattle.layout.specs.Write.{concat}
+use Rattle.layout.specs.Index.{bytes32, indexBytes}
+use Rattle.layout.specs.Opened.{itemsOf, offsetsOf, Located}
 use Rattle.item.specs.Offsets.{offsetBytes, sameBytes, fourAt, putOffset}
 
 -- The definition's bytes.

@@ -8,10 +8,10 @@ use lib.ListN.{length, getD}
 use Rattle.field.specs.Field.{lenAt}
 use Rattle.circuit.specs.Rules as rules
 use Rattle.circuit.specs.Sheet as circuit
-use Rattle.sheet.specs.Layout.{figureTag, ruleAllowed, machineItem}
-use Rattle.sheet.specs.Read.{contentAt, itemIn}
-use Rattle.value.specs.Meaning.{operationMeaning, allows}
-use Rattle.value.specs.declared.Operation.{Operation}
+use Rattle.layout.specs.Layout.{figureTag, ruleAllowed, machineItem}
+use Rattle.layout.specs.Read.{contentAt, itemIn}
+use Rattle.rules.specs.Operations.{operationMeaning, allows}
+use Rattle.rules.specs.declared.Operation.{Operation}
 use Rattle.item.specs.declared.Spread.{Spread}
 use Rattle.item.specs.declared.Spread.the-variants.{Defer, Renew, Forget}
 

@@ -4,7 +4,7 @@ use mathlib.Core.Bool.{Bool, true, false, _&&_}
 use mathlib.Core.List.{List, [], _∷_, _++_}
 use lib.Dec.{eqb}
 use lib.ListN.{getD, set}
-use Rattle.sheet.specs.Index.{bytes32}
+use Rattle.layout.specs.Index.{bytes32}
 
 -- each offset in four bytes, in order
 unfoldable pub offsetBytes : List ℕ → List ℕ

@@ -8,7 +8,7 @@ ghost use lib.ListN.{length, getD, take};
 ghost use Rattle.circuit.specs.Sheet as circuit;
 ghost use Rattle.item.specs.Item.{ItemField, fieldItem, spreadMeaning, OperationRead, CountRead};
 ghost use Rattle.item.specs.Offsets.{offsetBytes, sameBytes, fourAt, putOffset};
-ghost use Rattle.sheet.specs.Index.{bytes32};
+ghost use Rattle.layout.specs.Index.{bytes32};
 
 // What a stored figure does when a parent's change is told.
 pub enum Spread {
@@ -33,11 +33,11 @@ pub fn is_figure(s: &[u8], at: usize) -> bool
 }
 
 // A figure's operation.
-pub fn operation(s: &[u8], at: usize) -> value::Operation
+pub fn operation(s: &[u8], at: usize) -> rules::Operation
     requires { ⌜ ItemField (now s) at ⌝ ∗ ⌜ circuit.isFigure (fieldItem (now s) at) ≡ true ⌝ }
     ensures { λ r. ⌜ OperationRead (fieldItem (now (s .entry)) at) r ⌝ }
 {
-    value::operation_of(s[at + 3], wide(s[at + 6]))
+    rules::operation_of(s[at + 3], wide(s[at + 6]))
 }
 
 pub fn is_kept(s: &[u8], at: usize) -> bool

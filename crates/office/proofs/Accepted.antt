@@ -7,12 +7,12 @@ use lib.ListN.{length}
 use Rattle.circuit.specs.Sheet.{Sheet, size}
 use Rattle.circuit.specs.Calls.{Call, run}
 use Rattle.circuit.specs.Offices.{Opening}
-use Rattle.sheet.specs.Read.{Placed, opens, readSheet}
-use Rattle.sheet.specs.Opened.{sheetOf, itemsOf, placedFrom, sheetFrom, sheetRead}
-use Rattle.sheet.specs.Index.{indexBytes}
-use Rattle.sheet.proofs.Scan.{opened-ordered}
-use Rattle.sheet.proofs.Causes.{opens-faultless}
-use Rattle.sheet.proofs.IndexLaws.{index-length}
+use Rattle.layout.specs.Read.{Placed, opens, readSheet}
+use Rattle.layout.specs.Opened.{sheetOf, itemsOf, placedFrom, sheetFrom, sheetRead}
+use Rattle.layout.specs.Index.{indexBytes}
+use Rattle.layout.proofs.Scan.{opened-ordered}
+use Rattle.layout.proofs.Causes.{opens-faultless}
+use Rattle.layout.proofs.IndexLaws.{index-length}
 use Rattle.table.specs.Bytes.{encodeTable, tableForm}
 use Rattle.table.proofs.Tables.{length-encodeTable, encoded-tableForm}
 use Rattle.office.specs.Office.{openOn, runOn}

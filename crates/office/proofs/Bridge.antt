@@ -19,9 +19,9 @@ use Rattle.circuit.specs.Calls.{Call, post, keep, drop, step, ask, Test, test, 
 use Rattle.circuit.proofs.Fill.{Fill, Filling, stays, fills, Looks, upd-cases, look-right, work-right, keep-fill}
 use Rattle.circuit.proofs.Closure.{Closed, step-closed, catchUp-closed}
 use Rattle.circuit.proofs.Accepted.{accepted-effect, refused-table, keep-passed, drop-passed, step-passed, post-passed}
-use Rattle.sheet.specs.Read.{Placed, SheetRead, opens, readSheet}
-use Rattle.sheet.specs.Opened.{sheetRead}
-use Rattle.sheet.specs.Index.{indexWidth, indexBytes}
+use Rattle.layout.specs.Read.{Placed, SheetRead, opens, readSheet}
+use Rattle.layout.specs.Opened.{sheetRead}
+use Rattle.layout.specs.Index.{indexWidth, indexBytes}
 use Rattle.item.proofs.Offsets.{same-refl}
 use Rattle.table.specs.Record.{width, decodeCell}
 use Rattle.table.specs.Rows.{row}

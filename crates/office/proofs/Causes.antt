@@ -14,9 +14,9 @@ use Rattle.circuit.specs.Value.{null, num, limit, inRange, sameNumber}
 use Rattle.circuit.specs.Sheet.{Sheet, size, itemAt, isFigure, beyond}
 use Rattle.circuit.specs.Table.{unmarked, refresh, notice, unk, held, isMarked}
 use Rattle.circuit.specs.Calls.{postedValue, isNone}
-use Rattle.sheet.specs.Read.{Placed}
-use Rattle.sheet.specs.Index.{indexWidth, indexBytes}
-use Rattle.sheet.proofs.Tests.{Tells, holds, fails, tells-if, tells-and, Refutes, right, wrong, refutes-if, refutes-and, tells-not, refutes-tells, tells-eq, refutes-le}
+use Rattle.layout.specs.Read.{Placed}
+use Rattle.layout.specs.Index.{indexWidth, indexBytes}
+use Rattle.layout.proofs.Tests.{Tells, holds, fails, tells-if, tells-and, Refutes, right, wrong, refutes-if, refutes-and, tells-not, refutes-tells, tells-eq, refutes-le}
 use Rattle.table.specs.Rows.{row, allBelow}
 use Rattle.table.specs.Record.{width, kindIn, markIn, numberIn, decodeCell, valueCoded, allowed, codesForm, numberForm, recordForm}
 use Rattle.table.specs.Bytes.{tableForm, recordInForm}

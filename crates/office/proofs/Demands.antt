@@ -23,11 +23,11 @@ use Rattle.circuit.proofs.Sound.{Sound, run-sound, perform-sound}
 use Rattle.circuit.proofs.Offices.{two-offices, opened-sound}
 use Rattle.circuit.proofs.Retention.{retention}
 use Rattle.circuit.proofs.Accepted.{number-cause, post-passed}
-use Rattle.sheet.specs.Read.{Placed, Scan, going, stopped, placeField, goOn, judge, itemTests, lastTests, headTests, scanItem, scan, scanEnd, afterLast, scanLast, scanSheet, conclude, editionIn, countIn, headContent, SheetRead, opens, refused, readSheet, layoutOf}
-use Rattle.sheet.specs.Opened.{sheetFrom, sheetOf, sheetRead}
-use Rattle.sheet.specs.Index.{indexBytes}
-use Rattle.sheet.proofs.Scan.{opened-ordered}
-use Rattle.sheet.proofs.IndexLaws.{index-width}
+use Rattle.layout.specs.Read.{Placed, Scan, going, stopped, placeField, goOn, judge, itemTests, lastTests, headTests, scanItem, scan, scanEnd, afterLast, scanLast, scanSheet, conclude, editionIn, countIn, headContent, SheetRead, opens, refused, readSheet, layoutOf}
+use Rattle.layout.specs.Opened.{sheetFrom, sheetOf, sheetRead}
+use Rattle.layout.specs.Index.{indexBytes}
+use Rattle.layout.proofs.Scan.{opened-ordered}
+use Rattle.layout.proofs.IndexLaws.{index-width}
 use Rattle.field.specs.Field.{cutAt}
 use Rattle.field.specs.declared.Cut.{Cut}
 use Rattle.field.specs.declared.Cut.the-variants.{Field, Short, Absent}

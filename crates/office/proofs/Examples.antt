@@ -12,11 +12,11 @@ use Rattle.circuit.specs.Sheet.{Sheet, member}
 use Rattle.circuit.specs.Table.{Table}
 use Rattle.circuit.specs.Machine.{gather, workOut, lookFor, lookUp, work, storePosting, keepFigure, dropFigure, tellChild, tellBelow, tell, clearMark, stepItem, lowestMarked, catchUpIn, catchUp}
 use Rattle.circuit.specs.Offices.{bare, full}
-use Rattle.sheet.specs.Layout.{spreadMeant, machineItem}
-use Rattle.sheet.specs.Read.{refused, readSheet}
-use Rattle.sheet.specs.Write.{concat, writeSheet}
-use Rattle.sheet.specs.Index.{indexWidth, indexBytes}
-use Rattle.sheet.proofs.Examples.{reading, exampleBytes, head, entryA, end, figureOf, chain, gives-1, gives-2, gives-3, gives-4, gives-5, gives-6, gives-7}
+use Rattle.layout.specs.Layout.{spreadMeant, machineItem}
+use Rattle.layout.specs.Read.{refused, readSheet}
+use Rattle.layout.specs.Write.{concat, writeSheet}
+use Rattle.layout.specs.Index.{indexWidth, indexBytes}
+use Rattle.layout.proofs.Examples.{reading, exampleBytes, head, entryA, end, figureOf, chain, gives-1, gives-2, gives-3, gives-4, gives-5, gives-6, gives-7}
 use Rattle.table.specs.Rows.{rowsBelow, allBelow}
 use Rattle.table.specs.Record.{encodeCell, decodeCell, codesForm, numberForm, recordForm}
 use Rattle.table.specs.Bytes.{encodeTable, tableForm}

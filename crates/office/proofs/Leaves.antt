@@ -17,11 +17,11 @@ use Rattle.circuit.proofs.RuleLaws.{same-true, same-refl}
 use Rattle.circuit.proofs.Fill.{upd-same, upd-other}
 use Rattle.circuit.proofs.CatchUp.{asked-quiet}
 use Rattle.circuit.proofs.Accepted.{accepted-effect, effect-number}
-use Rattle.sheet.specs.Read.{Placed, opens, readSheet}
-use Rattle.sheet.specs.Opened.{sheetOf}
-use Rattle.sheet.proofs.Scan.{opened-ordered}
-use Rattle.sheet.proofs.Tests.{Tells, holds, fails, tells-eq}
-use Rattle.sheet.proofs.Causes.{opens-faultless}
+use Rattle.layout.specs.Read.{Placed, opens, readSheet}
+use Rattle.layout.specs.Opened.{sheetOf}
+use Rattle.layout.proofs.Scan.{opened-ordered}
+use Rattle.layout.proofs.Tests.{Tells, holds, fails, tells-eq}
+use Rattle.layout.proofs.Causes.{opens-faultless}
 use Rattle.word.specs.Word.{Bytes}
 use Rattle.table.specs.Rows.{row}
 use Rattle.table.specs.Record.{width, kindIn, markIn, numberIn, encodeCell}

@@ -24,17 +24,17 @@ use Rattle.circuit.proofs.Reading.{bare-look, quiet-look}
 use Rattle.circuit.proofs.Sound.{Sound, catchUp-sound}
 use Rattle.circuit.specs.Offices.{Opening, bare, full, opened}
 use Rattle.field.specs.Field.{Bytes}
-use Rattle.sheet.specs.Layout.{Layout, LayoutItem, entryField, figureField, machineItem, machineSheet}
-use Rattle.sheet.specs.Read.{Placed, opens, readSheet, layoutOf}
-use Rattle.sheet.specs.Write.{concat, within, writeSheet}
-use Rattle.sheet.specs.Places.{places}
-use Rattle.sheet.specs.Opened.{sheetOf, sheetFrom, placedFrom}
-use Rattle.sheet.specs.Index.{bytes32, indexBytes}
-use Rattle.sheet.proofs.Tests.{Tells, holds, fails, tells-eq}
-use Rattle.sheet.proofs.Exactly.{written-opens, places-layout, places-offset, opened-written, layout-unique}
-use Rattle.sheet.proofs.Causes.{opens-faultless}
-use Rattle.sheet.proofs.IndexLaws.{index-length, opened-entry}
-use Rattle.sheet.proofs.WrittenBytes.{Bytes-append}
+use Rattle.layout.specs.Layout.{Layout, LayoutItem, entryField, figureField, machineItem, machineSheet}
+use Rattle.layout.specs.Read.{Placed, opens, readSheet, layoutOf}
+use Rattle.layout.specs.Write.{concat, within, writeSheet}
+use Rattle.layout.specs.Places.{places}
+use Rattle.layout.specs.Opened.{sheetOf, sheetFrom, placedFrom}
+use Rattle.layout.specs.Index.{bytes32, indexBytes}
+use Rattle.layout.proofs.Tests.{Tells, holds, fails, tells-eq}
+use Rattle.layout.proofs.Exactly.{written-opens, places-layout, places-offset, opened-written, layout-unique}
+use Rattle.layout.proofs.Causes.{opens-faultless}
+use Rattle.layout.proofs.IndexLaws.{index-length, opened-entry}
+use Rattle.layout.proofs.WrittenBytes.{Bytes-append}
 use Rattle.table.specs.Rows.{row}
 use Rattle.table.specs.Record.{width, kindIn, markIn, numberIn, cellCoded, encodeCell, decodeCell}
 use Rattle.table.specs.Bytes.{encodeTable, decodeTable, Holdable}

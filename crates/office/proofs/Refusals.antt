@@ -13,11 +13,11 @@ use borrow.Author.Tests.{not-false}
 use Rattle.circuit.specs.Value.{Value, null, num, inRange, sameNumber, kindOf, numberOf}
 use Rattle.circuit.specs.Sheet.{Sheet, size, itemAt, isFigure}
 use Rattle.circuit.specs.Calls.{Call, post, keep, drop, step, ask, Test, firstCause, tests, postedValue, effect}
-use Rattle.sheet.specs.Read.{Placed, SheetRead, opens, refused, readSheet, layoutOf}
-use Rattle.sheet.specs.Opened.{sheetRead, sheetOf, sheetFrom, itemsOf, placedFrom}
-use Rattle.sheet.specs.Causes.{Faultless}
-use Rattle.sheet.proofs.Tests.{Tells, holds, fails, Refutes, right, wrong, tells-eq}
-use Rattle.sheet.proofs.Causes.{refused-exactly, opens-faultless, refused-number}
+use Rattle.layout.specs.Read.{Placed, SheetRead, opens, refused, readSheet, layoutOf}
+use Rattle.layout.specs.Opened.{sheetRead, sheetOf, sheetFrom, itemsOf, placedFrom}
+use Rattle.layout.specs.Causes.{Faultless}
+use Rattle.layout.proofs.Tests.{Tells, holds, fails, Refutes, right, wrong, tells-eq}
+use Rattle.layout.proofs.Causes.{refused-exactly, opens-faultless, refused-number}
 use Rattle.table.specs.Rows.{row}
 use Rattle.table.specs.Record.{width}
 use Rattle.table.specs.Bytes.{decodeTable, tableForm}

@@ -10,14 +10,14 @@ use borrow.Author.Tests.{eqb-true, eq-eqb}
 use Rattle.field.specs.Field.{lenAt}
 use Rattle.field.proofs.Cutting.{field-iff}
 use Rattle.circuit.specs.Sheet.{size, itemAt, isFigure}
-use Rattle.sheet.specs.Layout.{entryField, figureField, headTag, machineItem}
-use Rattle.sheet.specs.Read.{Placed, scan, headNext, headContent, countIn, ruleIn, keepIn, spreadIn, parentCountIn, parentsIn, nameIn, itemIn, opens, readSheet}
-use Rattle.sheet.specs.Opened.{sheetRead, sheetOf, itemsOf, placedFrom}
-use Rattle.sheet.specs.Index.{indexBytes, le32At}
-use Rattle.sheet.specs.Causes.{item, fieldOffset, itemCount, tagOf, Faultless}
-use Rattle.sheet.proofs.Scan.{offsetFrom, offset-placed, scan-prefix, scan-item, opened, opened-length, machine-item}
-use Rattle.sheet.proofs.Causes.{opens-faultless, count-same}
-use Rattle.sheet.proofs.IndexLaws.{index-length, opened-entry}
+use Rattle.layout.specs.Layout.{entryField, figureField, headTag, machineItem}
+use Rattle.layout.specs.Read.{Placed, scan, headNext, headContent, countIn, ruleIn, keepIn, spreadIn, parentCountIn, parentsIn, nameIn, itemIn, opens, readSheet}
+use Rattle.layout.specs.Opened.{sheetRead, sheetOf, itemsOf, placedFrom}
+use Rattle.layout.specs.Index.{indexBytes, le32At}
+use Rattle.layout.specs.Causes.{item, fieldOffset, itemCount, tagOf, Faultless}
+use Rattle.layout.proofs.Scan.{offsetFrom, offset-placed, scan-prefix, scan-item, opened, opened-length, machine-item}
+use Rattle.layout.proofs.Causes.{opens-faultless, count-same}
+use Rattle.layout.proofs.IndexLaws.{index-length, opened-entry}
 use Rattle.office.specs.Refusals.{SheetWords}
 use Rattle.office.proofs.Demands.{sized}
 use Rattle.office.proofs.Refusals.{opens-sheet}

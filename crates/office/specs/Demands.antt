@@ -14,7 +14,7 @@ use Rattle.circuit.specs.Calls.{Call, post, keep, drop, step, ask}
 use Rattle.circuit.specs.Fresh.{blank, freshRun, freshAsk}
 use Rattle.circuit.specs.Offices.{Opening}
 use Rattle.circuit.specs.Words.{Holds, LeadsTo, droppedIn}
-use Rattle.sheet.specs.Opened.{sheetOf}
+use Rattle.layout.specs.Opened.{sheetOf}
 use Rattle.table.specs.Rows.{row}
 use Rattle.table.specs.Record.{width, kindIn, markIn}
 use Rattle.table.specs.Bytes.{decodeTable}

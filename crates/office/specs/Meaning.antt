@@ -13,11 +13,11 @@ use Rattle.circuit.specs.Sheet.{Sheet, Ordered, Entries, size, itemAt, isFigure
 use Rattle.circuit.specs.Calls.{Call, post, keep, ask}
 use Rattle.circuit.specs.Offices.{Opening, bare, full}
 use Rattle.field.specs.Field.{Bytes}
-use Rattle.sheet.specs.Layout.{Layout, LayoutItem, entryField, figureField, machineSheet}
-use Rattle.sheet.specs.Write.{within, writeSheet}
-use Rattle.sheet.specs.Places.{offsetWritten}
-use Rattle.sheet.specs.Opened.{sheetOf}
-use Rattle.sheet.specs.Index.{le32At}
+use Rattle.layout.specs.Layout.{Layout, LayoutItem, entryField, figureField, machineSheet}
+use Rattle.layout.specs.Write.{within, writeSheet}
+use Rattle.layout.specs.Places.{offsetWritten}
+use Rattle.layout.specs.Opened.{sheetOf}
+use Rattle.layout.specs.Index.{le32At}
 use Rattle.table.specs.Rows.{row}
 use Rattle.table.specs.Record.{width, kindIn, markIn, numberIn}
 use Rattle.office.specs.Office.{Given, openOn, callOn}

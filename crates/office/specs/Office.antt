@@ -11,9 +11,9 @@ use Rattle.circuit.specs.Value.{Value, kindOf, numberOf}
 use Rattle.circuit.specs.Sheet.{Sheet}
 use Rattle.circuit.specs.Calls.{Call, Test, test, firstCause, tests, Outcome, effect}
 use Rattle.circuit.specs.Offices.{Opening, opened}
-use Rattle.sheet.specs.Read.{Placed, SheetRead, opens, refused, readSheet}
-use Rattle.sheet.specs.Opened.{sheetRead}
-use Rattle.sheet.specs.Index.{indexWidth, indexBytes}
+use Rattle.layout.specs.Read.{Placed, SheetRead, opens, refused, readSheet}
+use Rattle.layout.specs.Opened.{sheetRead}
+use Rattle.layout.specs.Index.{indexWidth, indexBytes}
 use Rattle.item.specs.Offsets.{sameBytes}
 use Rattle.table.specs.Record.{width}
 use Rattle.table.specs.Bytes.{encodeTable, decodeTable, tableForm}

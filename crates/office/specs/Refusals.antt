@@ -11,10 +11,10 @@ use Rattle.circuit.specs.Value.{limit}
 use Rattle.circuit.specs.Sheet.{Sheet, size, itemAt, isFigure}
 use Rattle.circuit.specs.Calls.{Call, post, keep, drop, step, ask}
 use Rattle.circuit.specs.Offices.{Opening}
-use Rattle.sheet.specs.Read.{Placed}
-use Rattle.sheet.specs.Opened.{sheetOf, itemsOf}
-use Rattle.sheet.specs.Index.{indexBytes, le32At}
-use Rattle.sheet.specs.Causes.{FirstFault, Faultless, item, itemCount, tagOf, offsetOf}
+use Rattle.layout.specs.Read.{Placed}
+use Rattle.layout.specs.Opened.{sheetOf, itemsOf}
+use Rattle.layout.specs.Index.{indexBytes, le32At}
+use Rattle.layout.specs.Causes.{FirstFault, Faultless, item, itemCount, tagOf, offsetOf}
 use Rattle.table.specs.Rows.{row}
 use Rattle.table.specs.Record.{width, kindIn, markIn, numberIn}
 use Rattle.office.specs.Office.{Given, openOn, callOn}

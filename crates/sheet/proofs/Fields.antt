@@ -15,8 +15,8 @@ use Rattle.field.specs.declared.Cut.the-variants.{Field, Short, Absent}
 use Rattle.field.proofs.Cut.{the-type}
 use Rattle.field.proofs.Cutting.{field-iff, content-length}
 use Rattle.circuit.specs.Calls.{Test, firstCause}
-use Rattle.sheet.specs.Layout.{headTag, lastTag, editionKnown, countAllowed}
-use Rattle.sheet.specs.Read.{contentAt, editionIn, countIn, headTests, lastTests, judge, Placed, going, scanLast, conclude}
+use Rattle.layout.specs.Layout.{headTag, lastTag, editionKnown, countAllowed}
+use Rattle.layout.specs.Read.{contentAt, editionIn, countIn, headTests, lastTests, judge, Placed, going, scanLast, conclude}
 use Rattle.sheet.specs.Check.{checkedOf}
 use Rattle.sheet.specs.declared.Checked.{Checked}
 use Rattle.sheet.specs.declared.Checked.the-variants.{Opens, Refused}

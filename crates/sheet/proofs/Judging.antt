@@ -9,14 +9,14 @@ use lib.ListN.{length, getD, List·getD-map}
 use lib.Seq.{getD-take}
 use borrow.Author.Tests.{ltb-true, lt-ltb, le-ltb, ne-eqb}
 use Rattle.circuit.specs.Calls.{firstCause}
-use Rattle.sheet.specs.Layout.{entryField, entryTag, figureTag, levelLimit, keepAllowed, spreadAllowed, ruleAllowed, nameAllowed, all, highest}
-use Rattle.sheet.specs.Read.{contentAt, ruleIn, keepIn, spreadIn, parentCountIn, parentsIn, nameIn, itemIn, Placed, placed, levelOf, itemLevel, lengthOrName, itemTests}
+use Rattle.layout.specs.Layout.{entryField, entryTag, figureTag, levelLimit, keepAllowed, spreadAllowed, ruleAllowed, nameAllowed, all, highest}
+use Rattle.layout.specs.Read.{contentAt, ruleIn, keepIn, spreadIn, parentCountIn, parentsIn, nameIn, itemIn, Placed, placed, levelOf, itemLevel, lengthOrName, itemTests}
 use Rattle.sheet.specs.Check.{judgedOf, judgedItem, LevelsAt, numbersAt, levelOver}
 use Rattle.sheet.specs.declared.Judged.the-variants.{Sound, Fault}
 use Rattle.sheet.proofs.Names.{part-length}
 use Rattle.sheet.proofs.Content.{content-at, parents-are, name-is}
-use Rattle.sheet.proofs.Items.{parents-count}
-use Rattle.sheet.proofs.Scan.{and-left, and-right}
+use Rattle.layout.proofs.Items.{parents-count}
+use Rattle.layout.proofs.Scan.{and-left, and-right}
 
 -- The levels of parents that are below the item, out of the array.
 module _ (levels : List ℕ) (ps : List Placed) (at : LevelsAt levels ps) where

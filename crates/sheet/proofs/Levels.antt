@@ -9,7 +9,7 @@ use lib.Dec.{ltb}
 use lib.ListN.{getD}
 use borrow.Author.Tests.{lt-ltb, le-ltb}
 use Rattle.field.specs.Field.{le16At}
-use Rattle.sheet.specs.Layout.{all, highest}
+use Rattle.layout.specs.Layout.{all, highest}
 use Rattle.sheet.specs.Check.{numbersAt, levelOver}
 use Rattle.sheet.proofs.Lists.{all-numbers-more, all-numbers-fail, highest-numbers-more}
 

@@ -5,16 +5,7 @@ pub mod Content
 pub mod Operations
 pub mod Judging
 pub mod Fields
-pub mod Scan
-pub mod Items
-pub mod Exactly
 pub mod Scanned
 pub mod Whole
 pub mod Located
-pub mod IndexLaws
-pub mod Tests
-pub mod Causes
-pub mod Examples
-pub mod Boundaries
 pub mod Highest
-pub mod WrittenBytes

@@ -10,7 +10,7 @@ use native.Mathlib.Nat.{add-suc}
 use lib.ListN.{length, getD, take, drop, set, length-append, length-drop}
 use lib.Seq.{take-suc, take-add, drop-cons, set-at, getD-drop, append-snoc}
 use Rattle.field.specs.Field.{le16At}
-use Rattle.sheet.specs.Layout.{all, highest}
+use Rattle.layout.specs.Layout.{all, highest}
 use Rattle.sheet.specs.Check.{over, numbersAt}
 
 pub and-false : (b : Bool) → b && false ≡ false

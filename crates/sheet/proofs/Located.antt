@@ -6,13 +6,13 @@ use native.Mathlib.Omega.{arith}
 use lib.ListN.{length, take, length-map}
 use lib.Seq.{take-at}
 use Rattle.circuit.specs.Sheet.{size}
-use Rattle.sheet.specs.Layout.{machineItem}
-use Rattle.sheet.specs.Read.{Placed, going, scan, editionIn, countIn, headContent, SheetRead, opens, refused, readSheet, layoutOf}
-use Rattle.sheet.specs.Opened.{placedFrom, itemsOf, sheetFrom, sheetOf, offsetsOf, Located}
+use Rattle.layout.specs.Layout.{machineItem}
+use Rattle.layout.specs.Read.{Placed, going, scan, editionIn, countIn, headContent, SheetRead, opens, refused, readSheet, layoutOf}
+use Rattle.layout.specs.Opened.{placedFrom, itemsOf, sheetFrom, sheetOf, offsetsOf, Located}
 use Rattle.sheet.specs.Check.{checkedOf, soundItems, readSoFar, over}
 use Rattle.sheet.specs.declared.Checked.{Checked}
 use Rattle.sheet.specs.declared.Checked.the-variants.{Opens, Refused}
-use Rattle.sheet.proofs.Scan.{HeadRead, head-judged, Opened, opened}
+use Rattle.layout.proofs.Scan.{HeadRead, head-judged, Opened, opened}
 use Rattle.sheet.proofs.Scanned.{sound-more}
 
 sound-all : (s : List ℕ) (edition k at : ℕ) (ps : List Placed) → scan s edition k ≡ going at ps → soundItems s edition k ≡ ps

@@ -6,8 +6,8 @@ use Prim.Native.Nat.{ℕ, _+_, _≤_, _<_}
 use native.Mathlib.Omega.{arith}
 use lib.ListN.{length, getD, length-take, length-drop}
 use borrow.Author.Tests.{le-leb, lt-leb}
-use Rattle.sheet.specs.Layout.{all, nameByte, nameAllowed, nameLimit}
-use Rattle.sheet.specs.Read.{contentAt}
+use Rattle.layout.specs.Layout.{all, nameByte, nameAllowed, nameLimit}
+use Rattle.layout.specs.Read.{contentAt}
 use Rattle.sheet.proofs.Lists.{all-part-fails}
 
 pub part-length : (s : List ℕ) (at len : ℕ) → at + len ≤ length s → length (contentAt s at len) ≡ len

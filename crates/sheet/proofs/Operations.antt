@@ -8,11 +8,11 @@ use native.Mathlib.Omega.{arith}
 use types.Run.{OneOf}
 use denote.Enum.Declared.{tagOf}
 use Rattle.circuit.specs.Rules.{operationOf}
-use Rattle.value.specs.Meaning.{operationMeaning}
-use Rattle.value.specs.declared.Operation.{Operation}
-use Rattle.value.specs.declared.Operation.the-variants.{Sum, Difference, Smallest, Largest, Share, Choice, Count, AtLeast, Refused}
-use Rattle.value.proofs.Operation.{the-type}
-use Rattle.sheet.specs.Layout.{isSome, ruleAllowed}
+use Rattle.rules.specs.Operations.{operationMeaning}
+use Rattle.rules.specs.declared.Operation.{Operation}
+use Rattle.rules.specs.declared.Operation.the-variants.{Sum, Difference, Smallest, Largest, Share, Choice, Count, AtLeast, Refused}
+use Rattle.rules.proofs.Operation.{the-type}
+use Rattle.layout.specs.Layout.{isSome, ruleAllowed}
 
 module _ (rule p : ℕ) where
   pub rule-refused : (o : Operation) → operationMeaning o ≡ operationOf rule p → o ≡ Refused → ruleAllowed rule p ≡ false

@@ -10,14 +10,14 @@ use lib.Seq.{take-at}
 use Rattle.field.specs.Field.{cutAt}
 use Rattle.field.specs.declared.Cut.the-variants.{Field}
 use Rattle.circuit.specs.Calls.{firstCause}
-use Rattle.sheet.specs.Read.{contentAt, itemIn, Placed, placed, itemLevel, itemTests, judge, going, stopped, scan, scanLast, conclude, goOn, placeField}
-use Rattle.sheet.specs.Opened.{offsetsOf}
+use Rattle.layout.specs.Read.{contentAt, itemIn, Placed, placed, itemLevel, itemTests, judge, going, stopped, scan, scanLast, conclude, goOn, placeField}
+use Rattle.layout.specs.Opened.{offsetsOf}
 use Rattle.sheet.specs.Check.{checkedOf, judgedOf, judgedItem, LevelsAt, levelsOf, over, latest, soundItems}
 use Rattle.sheet.specs.declared.Checked.{Checked}
 use Rattle.sheet.specs.declared.Checked.the-variants.{Refused}
 use Rattle.sheet.specs.declared.Judged.the-variants.{Sound, Fault}
 use Rattle.sheet.proofs.Lists.{over-more}
-use Rattle.sheet.proofs.Scan.{scan-length, scan-stopped}
+use Rattle.layout.proofs.Scan.{scan-length, scan-stopped}
 
 -- what an answer says of the lowest cause
 fault-is : (v level number : ℕ) → Fault number ≡ judgedOf v level → (k : ℕ) × (v ≡ suc k) × (number ≡ suc k)

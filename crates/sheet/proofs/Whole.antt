@@ -10,14 +10,14 @@ use borrow.Author.Tests.{leb-true}
 use Rattle.field.specs.Field.{cutAt, le16At}
 use Rattle.field.specs.declared.Cut.the-variants.{Field}
 use Rattle.field.proofs.Cutting.{field-iff}
-use Rattle.sheet.specs.Layout.{itemLimit, countAllowed}
-use Rattle.sheet.specs.Read.{editionIn, countIn, headContent, headTests, judge, scan, scanLast, scanSheet, conclude, readSheet}
-use Rattle.sheet.specs.Opened.{offsetsOf}
+use Rattle.layout.specs.Layout.{itemLimit, countAllowed}
+use Rattle.layout.specs.Read.{editionIn, countIn, headContent, headTests, judge, scan, scanLast, scanSheet, conclude, readSheet}
+use Rattle.layout.specs.Opened.{offsetsOf}
 use Rattle.sheet.specs.Check.{checkedOf, mostItems, soundItems, readSoFar, over, levelsOf}
 use Rattle.sheet.specs.declared.Checked.{Checked}
 use Rattle.sheet.specs.declared.Checked.the-variants.{Refused}
 use Rattle.sheet.proofs.Content.{content16}
-use Rattle.sheet.proofs.Scan.{HeadRead, head-read, and-right}
+use Rattle.layout.proofs.Scan.{HeadRead, head-read, and-right}
 
 -- what the check answers and leaves in its arrays
 abbrev pub Checks : List ℕ → Checked → (offsets offsets₀ levels levels₀ : List ℕ) → Type 0

@@ -7,9 +7,9 @@ use lib.Dec.{ltb}
 use lib.ListN.{length, getD, take, drop}
 use Rattle.field.specs.Field.{cutAt, le16At}
 use Rattle.circuit.specs.Calls.{firstCause}
-use Rattle.sheet.specs.Layout.{all, highest}
-use Rattle.sheet.specs.Read.{Placed, Scan, going, stopped, scan, SheetRead, opens, refused, readSheet, judge, headTests, itemTests, itemIn, itemLevel, headContent, editionIn, countIn}
-use Rattle.sheet.specs.Opened.{offsetsOf}
+use Rattle.layout.specs.Layout.{all, highest}
+use Rattle.layout.specs.Read.{Placed, Scan, going, stopped, scan, SheetRead, opens, refused, readSheet, judge, headTests, itemTests, itemIn, itemLevel, headContent, editionIn, countIn}
+use Rattle.layout.specs.Opened.{offsetsOf}
 use Rattle.sheet.specs.declared.Checked.{Checked}
 use Rattle.sheet.specs.declared.Checked.the-variants.{Opens, Refused}
 use Rattle.sheet.specs.declared.Judged.{Judged}

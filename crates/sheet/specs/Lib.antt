@@ -1,8 +1,1 @@
-pub mod Layout
-pub mod Read
-pub mod Write
-pub mod Index
 pub mod Check
-pub mod Places
-pub mod Causes
-pub mod Opened

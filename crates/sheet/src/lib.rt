@@ -5,9 +5,9 @@ ghost use mathlib.Core.List.{List};
 ghost use Prim.Native.Nat.{ℕ, _+_, _*_, _≤_, max};
 ghost use lib.ListN.{length};
 ghost use Rattle.circuit.specs.Calls.{firstCause};
-ghost use Rattle.sheet.specs.Layout.{figureTag, ruleAllowed, keepAllowed, spreadAllowed, nameAllowed};
-ghost use Rattle.sheet.specs.Read.{Placed, contentAt, headTests, going, scan, scanLast, conclude, readSheet};
-ghost use Rattle.sheet.specs.Opened.{offsetsOf};
+ghost use Rattle.layout.specs.Layout.{figureTag, ruleAllowed, keepAllowed, spreadAllowed, nameAllowed};
+ghost use Rattle.layout.specs.Read.{Placed, contentAt, headTests, going, scan, scanLast, conclude, readSheet};
+ghost use Rattle.layout.specs.Opened.{offsetsOf};
 ghost use Rattle.sheet.specs.Check.{checkedOf, judgedItem, LevelsAt, mostItems, soundItems, readSoFar, over, levelsOf, numbersAt, levelOver};
 
 pub mod limits;
@@ -27,7 +27,7 @@ use limits::PARENT_WIDTH;
 use limits::PARENTS_AT;
 use limits::RULE_AT;
 use limits::SPREAD_AT;
-use value::Operation;
+use rules::Operation;
 
 // What the check of a sheet gives: its edition and item count, or the number and the offset of its first fault.
 pub enum Checked {
@@ -92,7 +92,7 @@ fn level_over(s: &[u8], at: usize, p: usize, i: usize, levels: &[u8]) -> usize
 fn figure_allowed(edition: usize, rule: u8, keep: u8, spread: u8, p: usize) -> bool
     ensures { λ r. ⌜ r ≡ (ruleAllowed rule p && keepAllowed keep && spreadAllowed edition spread) ⌝ }
 {
-    let operation = value::operation_of(rule, p);
+    let operation = rules::operation_of(rule, p);
     if let Operation::Refused = operation {
         return false;
     }

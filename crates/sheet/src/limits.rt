@@ -1,6 +1,6 @@
 // The tags and limits of the layout, each once.
 ghost use mathlib.Core.Path.{_≡_};
-ghost use Rattle.sheet.specs.Layout.{editionKnown, itemLimit, countAllowed, keepAllowed, spreadAllowed, nameByte};
+ghost use Rattle.layout.specs.Layout.{editionKnown, itemLimit, countAllowed, keepAllowed, spreadAllowed, nameByte};
 
 pub const HEAD_TAG: u8 = 1;
 

@@ -1,8 +1,4 @@
-pub mod Signed
-pub mod Tallies
-pub mod Parents
 pub mod Cases
-pub mod Shares
-pub mod Operations
-pub mod Applying
+pub mod Parents
 pub mod PartsLaws
+pub mod Signed

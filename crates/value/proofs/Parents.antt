@@ -11,7 +11,7 @@ use lib.IntN.{ℤ, pos}
 use lib.ListN.{length, getD, set, length-append}
 use lib.Seq.{getD-set-same, getD-set-other}
 use mir.Syntax.{w64}
-use mir.Val.{SFits, toZ, ofZ}
+use mir.Val.{SFits}
 use Rattle.circuit.proofs.RuleLaws.{allWellFormed-snoc, and-left, and-right}
 use Rattle.circuit.specs.Value.{Value, null, out, num, wellFormed, kindOf, numberOf}
 use Rattle.circuit.specs.WellFormed.{allWellFormed}

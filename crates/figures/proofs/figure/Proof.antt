@@ -1,8 +1,9 @@
 -- `figures::figure` meets its contract. Assumes nothing.
 use mathlib.Core.Path.{sym, _∙_}
 use borrow.Author.Needs.{needs}
-use Rattle.value.specs.Meaning.{meaning, operationMeaning}
-use Rattle.value.proofs.Operations.{chosen-takes}
+use Rattle.value.specs.Meaning.{meaning}
+use Rattle.rules.specs.Operations.{operationMeaning}
+use Rattle.rules.proofs.Operations.{chosen-takes}
 use Rattle.figures.proofs.ThreeValues.{three-formed}
 use Rattle.figures.proofs.figure.Statement.{statement}
 use Rattle.figures.proofs.figure.Tie as tie

@@ -2,7 +2,7 @@
 use native.Mathlib.Omega.{arith}
 use mathlib.Core.Path.{sym, ap, _∙_}
 use Rattle.field.proofs.Cutting.{matched-field}
-use Rattle.sheet.specs.Read.{headTests, judge}
+use Rattle.layout.specs.Read.{headTests, judge}
 use Rattle.sheet.proofs.Fields.{missing}
 use Rattle.sheet.proofs.Whole.{head-refused, head-room, count-most, head-accepted}
 use borrow.Author.Needs.{needs}

@@ -5,12 +5,12 @@ use native.Mathlib.Omega.{arith}
 use mathlib.Core.Path.{_≡_, refl, sym, _∙_}
 use Prim.Native.Nat.{_-_, _≤_}
 use lib.ListN.{length, length-set}
-use Rattle.sheet.specs.Read.{itemTests, going, scan}
-use Rattle.sheet.specs.Opened.{offsetsOf}
+use Rattle.layout.specs.Read.{itemTests, going, scan}
+use Rattle.layout.specs.Opened.{offsetsOf}
 use Rattle.sheet.specs.Check.{over, levelsOf, soundItems}
 use Rattle.field.proofs.Cutting.{matched-field}
 use Rattle.sheet.proofs.Fields.{missing}
-use Rattle.sheet.proofs.Scan.{scan-length}
+use Rattle.layout.proofs.Scan.{scan-length}
 use Rattle.sheet.proofs.Scanned.{scan-missing, scan-fault, levels-at, stop, turn, finish}
 use Rattle.sheet.proofs.check_items.Statement.{statement}
 use Rattle.sheet.proofs.check_items.Tie as tie

@@ -1,6 +1,6 @@
 -- `sheet::check_last` meets its contract: at each `return` the tests that led there say what the scan gives. Assumes nothing.
 use mathlib.Core.Path.{sym, _∙_}
-use Rattle.sheet.specs.Read.{lastTests}
+use Rattle.layout.specs.Read.{lastTests}
 use Rattle.sheet.proofs.Fields.{missing, end-missing, end-tag, end-length, end-trailing, end-sound}
 use borrow.Author.Needs.{needs}
 use Rattle.sheet.proofs.check_last.Statement.{statement}

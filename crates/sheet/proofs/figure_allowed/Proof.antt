@@ -2,7 +2,7 @@
 use borrow.Author.Needs.{needs}
 use mathlib.Core.Path.{_≡_, sym, ap, ap₂, _∙_}
 use mathlib.Core.Bool.{true, false, _&&_}
-use Rattle.sheet.specs.Layout.{ruleAllowed, keepAllowed, spreadAllowed}
+use Rattle.layout.specs.Layout.{ruleAllowed, keepAllowed, spreadAllowed}
 use Rattle.sheet.proofs.Operations.{rule-refused, rule-taken}
 use Rattle.sheet.proofs.figure_allowed.Statement.{statement}
 use Rattle.sheet.proofs.figure_allowed.Tie as tie

@@ -4,7 +4,7 @@ use mathlib.Core.Path.{_≡_, sym, ap, ap₂, _∙_}
 use mathlib.Core.Bool.{true, false}
 use Rattle.field.specs.Field.{le16At}
 use Prim.Native.Nat.{_+_}
-use Rattle.sheet.specs.Layout.{editionKnown, countAllowed}
+use Rattle.layout.specs.Layout.{editionKnown, countAllowed}
 use Rattle.sheet.proofs.Fields.{head-tag, head-length, head-edition, head-count, head-sound}
 use borrow.Author.Needs.{needs}
 use Rattle.sheet.proofs.head_cause.Statement.{statement}

@@ -1,7 +1,7 @@
 -- `sheet::judge_figure` meets its contract: at each `return` the tests that led there say what the field's answer is. Assumes nothing.
 use borrow.Author.Tests.{not-true, not-false}
 use mathlib.Core.Path.{sym, _∙_}
-use Rattle.sheet.specs.Layout.{levelLimit}
+use Rattle.layout.specs.Layout.{levelLimit}
 use Rattle.sheet.proofs.Judging.{figure-short, figure-narrow, figure-unnamed, figure-unruled, figure-above, figure-high, figure-sound}
 use borrow.Author.Needs.{needs}
 use Rattle.sheet.proofs.judge_figure.Statement.{statement}

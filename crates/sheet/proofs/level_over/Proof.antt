@@ -8,7 +8,7 @@ use mathlib.Core.List.{map}
 use Prim.Native.Nat.{_-_, _≤_, max}
 use lib.Dec.{ltb}
 use lib.ListN.{getD}
-use Rattle.sheet.specs.Layout.{all, highest}
+use Rattle.layout.specs.Layout.{all, highest}
 use Rattle.sheet.specs.Check.{numbersAt}
 use Rattle.sheet.proofs.Levels.{below-more, highest-more, level-fails, level-passes}
 use Rattle.sheet.proofs.level_over.Statement.{statement}

@@ -6,7 +6,7 @@ use mathlib.Core.Path.{_≡_, refl, sym, ap, _∙_}
 use mathlib.Core.Bool.{true, _&&_}
 use Prim.Native.Nat.{_+_, _-_, _≤_}
 use lib.ListN.{getD, take, drop}
-use Rattle.sheet.specs.Layout.{all, nameByte, nameLimit}
+use Rattle.layout.specs.Layout.{all, nameByte, nameLimit}
 use Rattle.sheet.proofs.Lists.{all-part-more}
 use Rattle.sheet.proofs.Names.{name-empty, name-long, name-fails, name-passes}
 use Rattle.sheet.proofs.name_allowed.Statement.{statement}

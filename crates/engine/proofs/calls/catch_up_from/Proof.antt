@@ -12,7 +12,7 @@ use Rattle.engine.proofs.calls.catch_up_from.Tie as tie
 use Rattle.engine.proofs.calls.catch_up_from.Reads as reads
 use Rattle.engine.proofs.calls.catch_up_from.Lts as lts
 use Rattle.children.proofs.link.Reads as link-reads
-use Rattle.solver.proofs.step.catch_up.Reads as catch-up-reads
+use Rattle.stepping.proofs.catch_up.Reads as catch-up-reads
 
 slice-aggregate-link : tie.Need-slice-aggregate-link
 slice-aggregate-link c = search needs

@@ -5,7 +5,7 @@ use mathlib.Core.Path.{refl}
 use lib.IntN.{pos}
 use lib.ListN.{replicate}
 use Rattle.engine.proofs.Keeping.{same-all}
-use Rattle.solver.proofs.Sweeping.{lent-on}
+use Rattle.stepping.proofs.Sweeping.{lent-on}
 use Rattle.engine.proofs.Asking.{fresh-ready, caught-memo, caught-looked}
 use borrow.Author.Needs.{needs}
 use Rattle.engine.proofs.calls.caught_up.Statement.{statement}
@@ -13,7 +13,7 @@ use Rattle.engine.proofs.calls.caught_up.Tie as tie
 use Rattle.engine.proofs.calls.caught_up.Reads as reads
 use Rattle.engine.proofs.calls.caught_up.Lts as lts
 use Rattle.engine.proofs.calls.catch_up.Reads as catch-up-reads
-use Rattle.solver.proofs.look.look_up.Reads as look-up-reads
+use Rattle.looking.proofs.look_up.Reads as look-up-reads
 
 slice-aggregate-catch-up : tie.Need-slice-aggregate-catch-up
 slice-aggregate-catch-up c = search needs

@@ -1,6 +1,6 @@
 use Rattle.engine.proofs.Calling.{cause-beyond, cause-within}
 use Rattle.item.proofs.Located.{located-field, located-item}
-use Rattle.sheet.specs.Opened.{sheetOf}
+use Rattle.layout.specs.Opened.{sheetOf}
 use mathlib.Core.Bool.{true, false}
 use mathlib.Core.Path.{ap, _∙_}
 use native.Mathlib.Omega.{arith}

@@ -1,5 +1,5 @@
 use Rattle.engine.proofs.Keeping.{cause-figure, keep-item, keep-done}
-use Rattle.sheet.specs.Opened.{sheetOf}
+use Rattle.layout.specs.Opened.{sheetOf}
 use native.Mathlib.Omega.{arith}
 use borrow.Author.Needs.{needs}
 use Rattle.engine.proofs.calls.keep_lent.Statement.{statement}

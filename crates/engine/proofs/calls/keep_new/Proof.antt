@@ -1,9 +1,9 @@
 use Rattle.engine.proofs.Keeping.{same-all, fresh-memo, kept-stored}
 use Rattle.item.proofs.Located.{size-most}
-use Rattle.solver.specs.Memo.{seenMeaning}
+use Rattle.memo.specs.Memo.{seenMeaning}
 use Rattle.table.specs.Meaning.{markMeaning}
 use Rattle.table.specs.Bytes.{decodeTable}
-use Rattle.sheet.specs.Opened.{sheetOf}
+use Rattle.layout.specs.Opened.{sheetOf}
 use Prim.Native.Nat.{_+_}
 use mathlib.Core.Path.{refl}
 use native.Mathlib.Omega.{arith}
@@ -12,8 +12,8 @@ use Rattle.engine.proofs.calls.keep_new.Statement.{statement}
 use Rattle.engine.proofs.calls.keep_new.Tie as tie
 use Rattle.engine.proofs.calls.keep_new.Reads as reads
 use Rattle.engine.proofs.calls.keep_new.Lts as lts
-use Rattle.solver.proofs.look.look_up.Reads as look-up-reads
-use Rattle.solver.proofs.look.notice_if.Reads as notice-if-reads
+use Rattle.looking.proofs.look_up.Reads as look-up-reads
+use Rattle.looking.proofs.notice_if.Reads as notice-if-reads
 use Rattle.table.proofs.store_cell.Reads as store-cell-reads
 
 slice-aggregate-look-up : tie.Need-slice-aggregate-look-up

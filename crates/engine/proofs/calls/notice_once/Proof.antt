@@ -11,7 +11,7 @@ use Rattle.engine.proofs.calls.notice_once.Tie as tie
 use Rattle.engine.proofs.calls.notice_once.Reads as reads
 use Rattle.engine.proofs.calls.notice_once.Lts as lts
 use Rattle.children.proofs.link.Reads as link-reads
-use Rattle.solver.proofs.step.tell_and_clear.Reads as tell-and-clear-reads
+use Rattle.stepping.proofs.tell_and_clear.Reads as tell-and-clear-reads
 
 slice-aggregate-link : tie.Need-slice-aggregate-link
 slice-aggregate-link c = search needs

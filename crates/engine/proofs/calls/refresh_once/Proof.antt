@@ -7,7 +7,7 @@ use Rattle.engine.proofs.calls.refresh_once.Statement.{statement}
 use Rattle.engine.proofs.calls.refresh_once.Tie as tie
 use Rattle.engine.proofs.calls.refresh_once.Reads as reads
 use Rattle.engine.proofs.calls.refresh_once.Lts as lts
-use Rattle.solver.proofs.step.step_refresh.Reads as step-refresh-reads
+use Rattle.stepping.proofs.step_refresh.Reads as step-refresh-reads
 
 slice-aggregate-step-refresh : tie.Need-slice-aggregate-step-refresh
 slice-aggregate-step-refresh c = search needs

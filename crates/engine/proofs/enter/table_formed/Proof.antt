@@ -2,7 +2,7 @@ use Rattle.engine.proofs.Calling.{unformed-record, formed-record, forme
 use Rattle.item.proofs.Located.{located-field}
 use Rattle.table.specs.Bytes.{recordInForm}
 use Rattle.table.specs.Rows.{allBelow}
-use Rattle.sheet.specs.Opened.{sheetOf}
+use Rattle.layout.specs.Opened.{sheetOf}
 use borrow.Author.Tests.{not-true, not-false}
 use borrow.Author.Needs.{needs}
 use Prim.Native.Nat.{_≤_, _-_}

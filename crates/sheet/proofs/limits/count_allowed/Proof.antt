@@ -1,7 +1,7 @@
 -- `sheet::limits::count_allowed` meets its contract. Assumes nothing.
 use borrow.Author.Needs.{needs}
 use borrow.Author.Tests.{le-leb, lt-leb}
-use Rattle.sheet.specs.Layout.{countAllowed}
+use Rattle.layout.specs.Layout.{countAllowed}
 use Rattle.sheet.proofs.limits.count_allowed.Statement.{statement}
 use Rattle.sheet.proofs.limits.count_allowed.Tie as tie
 

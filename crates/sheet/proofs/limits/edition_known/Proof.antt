@@ -1,6 +1,6 @@
 -- `sheet::limits::edition_known` meets its contract. Assumes nothing.
 use mathlib.Core.Path.{refl}
-use Rattle.sheet.specs.Layout.{editionKnown}
+use Rattle.layout.specs.Layout.{editionKnown}
 use Rattle.sheet.proofs.limits.edition_known.Statement.{statement}
 use Rattle.sheet.proofs.limits.edition_known.Tie as tie
 

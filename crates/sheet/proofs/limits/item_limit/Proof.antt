@@ -1,6 +1,6 @@
 -- `sheet::limits::item_limit` meets its contract. Assumes nothing.
 use mathlib.Core.Path.{refl}
-use Rattle.sheet.specs.Layout.{itemLimit}
+use Rattle.layout.specs.Layout.{itemLimit}
 use Rattle.sheet.proofs.limits.item_limit.Statement.{statement}
 use Rattle.sheet.proofs.limits.item_limit.Tie as tie
 

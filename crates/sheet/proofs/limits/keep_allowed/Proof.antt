@@ -1,6 +1,6 @@
 -- `sheet::limits::keep_allowed` meets its contract. Assumes nothing.
 use mathlib.Core.Path.{refl}
-use Rattle.sheet.specs.Layout.{keepAllowed}
+use Rattle.layout.specs.Layout.{keepAllowed}
 use Rattle.sheet.proofs.limits.keep_allowed.Statement.{statement}
 use Rattle.sheet.proofs.limits.keep_allowed.Tie as tie
 

@@ -1,6 +1,6 @@
 -- `sheet::limits::spread_allowed` meets its contract. Assumes nothing.
 use mathlib.Core.Path.{refl}
-use Rattle.sheet.specs.Layout.{spreadAllowed}
+use Rattle.layout.specs.Layout.{spreadAllowed}
 use Rattle.sheet.proofs.limits.spread_allowed.Statement.{statement}
 use Rattle.sheet.proofs.limits.spread_allowed.Tie as tie
 

@@ -1,0 +1,7 @@
+pub mod Layout
+pub mod Read
+pub mod Write
+pub mod Index
+pub mod Places
+pub mod Causes
+pub mod Opened

@@ -1,0 +1,56 @@
+use Rattle.memo.specs.Memo.{seenMeaning}
+use Rattle.looking.proofs.Settling.{settled-kept, settled-remembered}
+use borrow.Author.Needs.{needs}
+use Rattle.looking.proofs.settle.Statement.{statement}
+use Rattle.looking.proofs.settle.Tie as tie
+use Rattle.looking.proofs.settle.Reads as reads
+use Rattle.looking.proofs.settle.Lts as lts
+use Rattle.looking.proofs.either.Reads as either-reads
+use Rattle.looking.proofs.notice_if.Reads as notice-if-reads
+use Rattle.memo.proofs.remember.Reads as remember-reads
+use Rattle.table.proofs.store_cell.Reads as store-cell-reads
+
+either-requires : tie.Need-either-requires
+either-requires c κs = search needs
+
+notice-if-requires : tie.Need-notice-if-requires
+notice-if-requires c κs = search needs
+
+store-cell-requires : tie.Need-store-cell-requires
+store-cell-requires c κs = search needs
+
+remember-requires : tie.Need-remember-requires
+remember-requires c κs = search needs
+
+same-length : tie.Need-same-length
+same-length c = search needs
+
+returns : tie.Need-returns
+returns c =
+    let a = c .before .before .before .before .before .before .before .before .before .before .args in
+    settled-kept (a .i) (a .generation) (a .kept) (a .noticed) (seenMeaning (a .worked)) (a .table .now) (a .tags .now) (a .numbers .now) _ (c .before .before .before .before .before .before .either .ensures) (c .before .before .before .before .before .if1 .taken) _ (c .before .before .before .notice-if .ensures) _ (c .before .before .store-cell .ensures)
+
+same-length-2 : tie.Need-same-length-2
+same-length-2 c = search needs
+
+same-length-3 : tie.Need-same-length-3
+same-length-3 c = search needs
+
+returns-2 : tie.Need-returns-2
+returns-2 c =
+    let a = c .before .before .before .before .before .before .before .before .before .before .before .args in
+    settled-remembered (a .i) (a .generation) (a .kept) (a .noticed) (seenMeaning (a .worked)) (a .table .now) (a .tags .now) (a .numbers .now) _ (c .before .before .before .before .before .before .before .either .ensures) (c .before .before .before .before .before .before .if1 .left) _ _ (c .before .before .before .remember .ensures .0) (c .before .before .before .remember .ensures .1)
+
+pub settle-spec : {M : Type 1} → statement M
+settle-spec =
+    tie.close
+    (tie.spec
+    either-requires
+    notice-if-requires
+    store-cell-requires
+    remember-requires
+    same-length
+    returns
+    same-length-2
+    same-length-3
+    returns-2)

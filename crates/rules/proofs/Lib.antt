@@ -1,0 +1,4 @@
+pub mod Applying
+pub mod Operations
+pub mod Pairs
+pub mod Shares

@@ -1,9 +1,0 @@
-pub mod Children
-pub mod Gathering
-pub mod Looking
-pub mod Recalling
-pub mod Renewing
-pub mod Settling
-pub mod Stepping
-pub mod Sweeping
-pub mod Telling

@@ -1,4 +1,0 @@
-pub mod Gathering
-pub mod Memo
-pub mod Pass
-pub mod Stepping

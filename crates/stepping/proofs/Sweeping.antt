@@ -1,0 +1,162 @@
+-- Catching up as one sweep, from what the code's calls ensure. Assumes nothing.
+use Prim.Native.Nat.{ℕ, zero, suc, _+_, _*_, _<_, _≤_}
+use native.Mathlib.Omega.{arith}
+use native.Mathlib.Numerals.{add-one}
+use mathlib.Core.Path.{_≡_, refl, sym, ap, subst, _∙_}
+use mathlib.Core.Bool.{Bool, true, false}
+use mathlib.Core.List.{List}
+use lib.IntN.{ℤ}
+use lib.ListN.{length}
+use Rattle.circuit.specs.Sheet.{Sheet, size}
+use Rattle.circuit.specs.Table.{Table, isMarked}
+use Rattle.circuit.specs.Machine.{stepIf, stepItem, stepMarked, sweepBelow, sweep, catchUp}
+use Rattle.circuit.proofs.CatchUp.{catchUp-sweep}
+use Rattle.layout.specs.Opened.{sheetOf}
+use Rattle.item.proofs.Located.{sheet-ordered, size-most}
+use Rattle.table.specs.Bytes.{decodeTable, tableForm, LowestMarked}
+use Rattle.memo.specs.Memo.{NoneFrom}
+use Rattle.looking.specs.Pass.{Lent}
+use Rattle.stepping.specs.Stepping.{Ready, Steps}
+use Rattle.stepping.proofs.Stepping.{still-older}
+
+module _ {s offsets t : List ℕ} (lent : Lent s offsets t) (i : ℕ) (b : Bool) (tests : b ≡ isMarked (decodeTable t i)) where
+  pub marked-steps : b ≡ true → {generation : ℕ} {t₂ tags₂ : List ℕ} → Steps s generation (stepItem (sheetOf s) (decodeTable t) i) t₂ tags₂
+      → Steps s generation (stepMarked (sheetOf s) (decodeTable t) i) t₂ tags₂
+  unfolding stepMarked
+  marked-steps e {generation} {t₂} {tags₂} steps =
+      subst (λ x. Steps s generation (stepIf x (sheetOf s) (decodeTable t) i) t₂ tags₂) (sym e ∙ tests) steps
+
+  stays-so : b ≡ false → decodeTable t ≡ stepMarked (sheetOf s) (decodeTable t) i
+  unfolding stepMarked
+  stays-so e = ap (λ x. stepIf x (sheetOf s) (decodeTable t) i) (sym e ∙ tests)
+
+  pub unmarked-stays : b ≡ false → {tags : List ℕ} {generation : ℕ} → NoneFrom 0 tags generation → Steps s generation (stepMarked (sheetOf s) (decodeTable t) i) t tags
+  unmarked-stays e {tags} {generation} older =
+      record { table-is = stays-so e; formed = lent .formed; older = still-older tags generation older }
+
+  -- an item that is not marked is not stepped a second time either
+  pub unmarked-twice : b ≡ false → {tags : List ℕ} (generation : ℕ) → NoneFrom 0 tags (generation + 1)
+      → Steps s (generation + 1) (stepMarked (sheetOf s) (stepMarked (sheetOf s) (decodeTable t) i) i) t tags
+  unmarked-twice e {tags} generation older =
+      record { table-is = stays-so e ∙ ap (λ T. stepMarked (sheetOf s) T i) (stays-so e); formed = lent .formed; older = still-older tags (generation + 1) older }
+
+-- what is lent after a step, and the next generation
+pub lent-on : {s offsets t : List ℕ} → Lent s offsets t → (t₁ : List ℕ) → length t₁ ≡ length t → tableForm (sheetOf s) t₁ ≡ true → Lent s offsets t₁
+lent-on lent t₁ len formed =
+    record { located = lent .located; room = lent .room; length-is = len ∙ lent .length-is; formed = formed }
+
+pub ready-on : {s tags : List ℕ} {numbers : List ℤ} {generation : ℕ} → Ready s tags numbers generation → (tags₁ : List ℕ) (numbers₁ : List ℤ)
+    → length tags₁ ≡ length tags → length numbers₁ ≡ length numbers → generation + 1 < 2_147_483_648 → NoneFrom 0 tags₁ (generation + 1)
+    → Ready s tags₁ numbers₁ (generation + 1)
+ready-on ready tags₁ numbers₁ a b few older =
+    record { tag-room = omega (arith, ready .tag-room); number-room = omega (arith, ready .number-room); generations = few; older = older }
+
+-- the second step of an item
+module _ {s offsets t tags : List ℕ} {numbers : List ℤ} {generation : ℕ} (lent : Lent s offsets t) (ready : Ready s tags numbers (generation + 1)) (i : ℕ)
+    (b : Bool) (tests : b ≡ isMarked (decodeTable t i)) (e : b ≡ true)
+    (t₁ tags₁ : List ℕ) (numbers₁ : List ℤ) (len : length t₁ ≡ length t) (tags-len : length tags₁ ≡ length tags) (numbers-len : length numbers₁ ≡ length numbers)
+    (first : Steps s generation (stepItem (sheetOf s) (decodeTable t) i) t₁ tags₁) where
+  pub second-lent : Lent s offsets t₁
+  second-lent = lent-on lent t₁ len (first .formed)
+
+  pub second-ready : Ready s tags₁ numbers₁ (generation + 1)
+  second-ready =
+      record { tag-room = omega (arith, ready .tag-room); number-room = omega (arith, ready .number-room); generations = ready .generations; older = first .older }
+
+  pub stepped-twice : {t₂ tags₂ : List ℕ} → Steps s (generation + 1) (stepMarked (sheetOf s) (decodeTable t₁) i) t₂ tags₂
+      → Steps s (generation + 1) (stepMarked (sheetOf s) (stepMarked (sheetOf s) (decodeTable t) i) i) t₂ tags₂
+  stepped-twice {t₂} {tags₂} steps =
+      subst (λ T. Steps s (generation + 1) (stepMarked (sheetOf s) T i) t₂ tags₂) (marked-steps lent i b tests e first .table-is) steps
+
+-- a generation may begin where the one after it may, and nothing of it is remembered
+pub ready-before : {s tags : List ℕ} {numbers : List ℤ} {generation : ℕ} → Ready s tags numbers (generation + 1) → NoneFrom 0 tags generation → Ready s tags numbers generation
+ready-before ready older =
+    record { tag-room = ready .tag-room; number-room = ready .number-room; generations = omega (arith, ready .generations); older = older }
+
+pub ready-after : {s tags : List ℕ} {numbers : List ℤ} {generation : ℕ} → Ready s tags numbers generation → generation + 1 < 2_147_483_648 → Ready s tags numbers (generation + 1)
+ready-after {s} {tags} {numbers} {generation} ready few =
+    record { tag-room = ready .tag-room; number-room = ready .number-room; generations = few; older = still-older tags generation (ready .older) }
+
+-- below the lowest marked item a sweep changes nothing
+sweep-none : (S : Sheet) (T : Table) (k : ℕ) → ((i : ℕ) → i < k → isMarked (T i) ≡ false) → sweepBelow S T k ≡ T
+unfolding sweepBelow stepMarked
+sweep-none S T zero none = refl
+sweep-none S T (suc k) none =
+    let here : isMarked (T k) ≡ false = none k (omega arith) in
+    let below : sweepBelow S T k ≡ T = sweep-none S T k (λ i h. none i (omega arith)) in
+    ap (λ U. stepIf (isMarked (stepIf (isMarked (U k)) S U k k)) S (stepIf (isMarked (U k)) S U k) k) below
+    ∙ ap (λ x. stepIf (isMarked (stepIf x S T k k)) S (stepIf x S T k) k) here
+    ∙ ap (λ x. stepIf x S T k) here
+
+-- the loop over the items
+pub record Sweeping (s offsets t₀ tags₀ : List ℕ) (numbers₀ : List ℤ) (n i : ℕ) (t tags : List ℕ) (numbers : List ℤ) : Type 0 where
+  pub lent : Lent s offsets t
+  pub n-is : n ≡ size (sheetOf s)
+  pub within : i ≤ n
+  pub table-is : decodeTable t ≡ sweepBelow (sheetOf s) (decodeTable t₀) i
+  pub ready : Ready s tags numbers (2 * i + 1)
+  pub t-length : length t ≡ length t₀
+  pub tags-length : length tags ≡ length tags₀
+  pub numbers-length : length numbers ≡ length numbers₀
+
+pub sweeping-start : {s offsets t tags : List ℕ} {numbers : List ℤ} {n first : ℕ} → Lent s offsets t → Ready s tags numbers (2 * first + 1) → n ≡ size (sheetOf s)
+    → LowestMarked (decodeTable t) n first → Sweeping s offsets t tags numbers n first t tags numbers
+sweeping-start {s} {offsets} {t} {tags} {numbers} {n} {first} lent ready n-is lowest =
+    record {
+      lent = lent;
+      n-is = n-is;
+      within = lowest .within;
+      table-is = sym (sweep-none (sheetOf s) (decodeTable t) first (lowest .none-below));
+      ready = ready;
+      t-length = refl;
+      tags-length = refl;
+      numbers-length = refl;
+    }
+
+module _ {s offsets t₀ tags₀ : List ℕ} {numbers₀ : List ℤ} {n i : ℕ} {t tags : List ℕ} {numbers : List ℤ}
+    (inv : Sweeping s offsets t₀ tags₀ numbers₀ n i t tags numbers) (more : i < n) where
+  few : 2 * i + 1 + 1 + 1 < 2_147_483_648
+  few = omega (arith, size-most s, inv .n-is)
+
+  pub sweeping-ready : Ready s tags numbers (2 * i + 1 + 1)
+  sweeping-ready = ready-after (inv .ready) (omega (arith, few))
+
+  pub sweeping-next : (t₂ tags₂ : List ℕ) (numbers₂ : List ℤ) → length t₂ ≡ length t → length tags₂ ≡ length tags → length numbers₂ ≡ length numbers
+      → Steps s (2 * i + 1 + 1) (stepMarked (sheetOf s) (stepMarked (sheetOf s) (decodeTable t) i) i) t₂ tags₂
+      → Sweeping s offsets t₀ tags₀ numbers₀ n (i + 1) t₂ tags₂ numbers₂
+  unfolding sweepBelow
+  sweeping-next t₂ tags₂ numbers₂ a b c steps =
+      record {
+        lent = lent-on (inv .lent) t₂ a (steps .formed);
+        n-is = inv .n-is;
+        within = omega arith;
+        table-is =
+            steps .table-is
+            ∙ ap (λ T. stepMarked (sheetOf s) (stepMarked (sheetOf s) T i) i) (inv .table-is)
+            ∙ ap (sweepBelow (sheetOf s) (decodeTable t₀)) (sym (add-one i));
+        ready = subst (Ready s tags₂ numbers₂) (omega arith) (ready-on sweeping-ready tags₂ numbers₂ b c few (steps .older));
+        t-length = a ∙ inv .t-length;
+        tags-length = b ∙ inv .tags-length;
+        numbers-length = c ∙ inv .numbers-length;
+      }
+
+pub sweeping-done : {s offsets t₀ tags₀ : List ℕ} {numbers₀ : List ℤ} {n i : ℕ} {t tags : List ℕ} {numbers : List ℤ}
+    → Sweeping s offsets t₀ tags₀ numbers₀ n i t tags numbers → n ≤ i → Steps s (2 * n) (catchUp (sheetOf s) (decodeTable t₀)) t tags
+unfolding sweep
+sweeping-done {s} {offsets} {t₀} {tags₀} {numbers₀} {n} {i} {t} {tags} {numbers} inv h =
+    record {
+      table-is = inv .table-is ∙ ap (sweepBelow (sheetOf s) (decodeTable t₀)) (end ∙ inv .n-is) ∙ sym (catchUp-sweep (sheetOf s) (sheet-ordered s) (decodeTable t₀));
+      formed = inv .lent .formed;
+      older = subst (λ k. NoneFrom 0 tags (2 * k + 1)) end (inv .ready .older);
+    }
+  where
+    end : i ≡ n
+    end = omega (arith, inv .within)
+
+-- where no item is marked, catching up changes nothing
+pub quiet-caught : {s offsets t : List ℕ} {n first : ℕ} → Lent s offsets t → n ≡ size (sheetOf s) → LowestMarked (decodeTable t) n first → n ≤ first
+    → decodeTable t ≡ catchUp (sheetOf s) (decodeTable t)
+unfolding sweep
+quiet-caught {s} {offsets} {t} {n} {first} lent n-is lowest h =
+    sym (catchUp-sweep (sheetOf s) (sheet-ordered s) (decodeTable t)
+    ∙ sweep-none (sheetOf s) (decodeTable t) (size (sheetOf s)) (λ i l. lowest .none-below i (omega (arith, lowest .within))))

@@ -1,0 +1,48 @@
+-- `step::tell_and_clear` meets its contract. Assumes nothing.
+use Rattle.stepping.proofs.Stepping.{ready-memo, clear-steps}
+use mathlib.Core.Path.{_∙_}
+use borrow.Author.Needs.{needs}
+use Rattle.stepping.proofs.tell_and_clear.Statement.{statement}
+use Rattle.stepping.proofs.tell_and_clear.Tie as tie
+use Rattle.stepping.proofs.tell_and_clear.Reads as reads
+use Rattle.stepping.proofs.tell_and_clear.Lts as lts
+use Rattle.stepping.proofs.clear_mark.Reads as clear-mark-reads
+use Rattle.telling.proofs.tell_children.Reads as tell-children-reads
+
+tell-children-requires : tie.Need-tell-children-requires
+tell-children-requires c κs =
+    let q = c .before .before .before .before .before .before .before .before .before .pre in
+    (q .0, (ready-memo (q .1 .0) _, (q .1 .0 .older, (q .1 .1 .0, q .1 .1 .1))))
+
+clear-mark-requires : tie.Need-clear-mark-requires
+clear-mark-requires c κs =
+    search needs
+
+same-length : tie.Need-same-length
+same-length c =
+    search needs
+
+same-length-2 : tie.Need-same-length-2
+same-length-2 c =
+    search needs
+
+same-length-3 : tie.Need-same-length-3
+same-length-3 c =
+    search needs
+
+returns : tie.Need-returns
+returns c =
+    let q = c .before .before .before .before .before .before .before .before .before .before .before .before .before .before .before .before .before .before .before .pre in
+    let l = c .before .before .before .before .before .before .before .before .before .tell-children in
+    clear-steps _ (q .1 .1 .1) (l .kept .1 .1 .0 ∙ q .0 .length-is) (l .ensures) _ (c .before .before .clear-mark .ensures)
+
+pub tell-and-clear-spec : {M : Type 1} → statement M
+tell-and-clear-spec =
+    tie.close
+    (tie.spec
+    tell-children-requires
+    clear-mark-requires
+    same-length
+    same-length-2
+    same-length-3
+    returns)

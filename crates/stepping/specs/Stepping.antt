@@ -1,0 +1,25 @@
+-- What stepping and catching up are lent below the refusals, and what they leave. Assumes nothing.
+use Prim.Native.Nat.{ℕ, _+_, _<_, _≤_}
+use mathlib.Core.Path.{_≡_}
+use mathlib.Core.Bool.{true}
+use mathlib.Core.List.{List}
+use lib.IntN.{ℤ}
+use lib.ListN.{length}
+use Rattle.circuit.specs.Sheet.{size}
+use Rattle.circuit.specs.Table.{Table}
+use Rattle.layout.specs.Opened.{sheetOf}
+use Rattle.table.specs.Bytes.{decodeTable, tableForm}
+use Rattle.memo.specs.Memo.{NoneFrom}
+
+-- Before a generation: both arrays have room, and nothing of the generation or a later one is remembered.
+pub record Ready (s : List ℕ) (tags : List ℕ) (numbers : List ℤ) (generation : ℕ) : Type 0 where
+  pub tag-room : size (sheetOf s) ≤ length tags
+  pub number-room : size (sheetOf s) ≤ length numbers
+  pub generations : generation < 2_147_483_648
+  pub older : NoneFrom 0 tags generation
+
+-- After a step: the table is U, in form, and the next generation may begin.
+pub record Steps (s : List ℕ) (generation : ℕ) (U : Table) (t′ tags′ : List ℕ) : Type 0 where
+  pub table-is : decodeTable t′ ≡ U
+  pub formed : tableForm (sheetOf s) t′ ≡ true
+  pub older : NoneFrom 0 tags′ (generation + 1)

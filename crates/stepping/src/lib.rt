@@ -1,0 +1,233 @@
+// Stepping an item and catching up.
+ghost use mathlib.Core.Path.{_≡_};
+ghost use mathlib.Core.Bool.{false};
+ghost use Prim.Native.Nat.{_+_, _*_, _<_, _≤_};
+ghost use lib.ListN.{length};
+ghost use Rattle.circuit.specs.Sheet.{size};
+ghost use Rattle.circuit.specs.Machine.{tell, clearCell, clearMark, stepItem, stepMarked, catchUp};
+ghost use Rattle.circuit.specs.Table.{markOf, isNotice};
+ghost use Rattle.layout.specs.Opened.{sheetOf};
+ghost use Rattle.table.specs.Bytes.{decodeTable, LowestMarked};
+ghost use Rattle.table.specs.Rows.{setRow};
+ghost use Rattle.table.specs.Record.{width, encodeCell};
+ghost use Rattle.children.specs.Children.{Linked};
+ghost use Rattle.memo.specs.Memo.{NoneFrom};
+ghost use Rattle.looking.specs.Pass.{Lent};
+ghost use Rattle.stepping.specs.Stepping.{Ready, Steps};
+use table::Cell;
+use table::Mark;
+
+fn clear_mark(table: &mut [u8], i: usize)
+    requires { ⌜ width * i + width ≤ length (now table) ⌝ }
+    ensures { λ _. ⌜ now (table .exit) ≡ setRow width (now (table .entry)) i (encodeCell (clearCell (decodeTable (now (table .entry)) i))) ⌝ }
+{
+    match table::read_cell(table, i) {
+        Cell::Unk(_) => {
+            table::store_cell(table, i, Cell::Unk(false));
+        }
+        Cell::Held(value, _) => {
+            table::store_cell(table, i, Cell::Held(value, Mark::Unmarked));
+        }
+    }
+}
+
+// The step of a notice: the children are told, and then the mark is cleared.
+pub fn tell_and_clear(
+    sheet: &[u8],
+    offsets: &[usize],
+    table: &mut [u8],
+    tags: &mut [u64],
+    numbers: &mut [i64],
+    heads: &[u16],
+    links: &[u16],
+    generation: u64,
+    i: usize,
+)
+    requires { ⌜ Lent (now sheet) (now offsets) (now table) ⌝ ∗ ⌜ Ready (now sheet) (now tags) (now numbers) generation ⌝ ∗ ⌜ Linked (sheetOf (now sheet)) (now heads) (now links) ⌝ ∗ ⌜ i < size (sheetOf (now sheet)) ⌝ }
+    ensures { λ _. ⌜ Steps (now (sheet .entry)) generation (clearMark (tell (sheetOf (now (sheet .entry))) (decodeTable (now (table .entry))) i) i) (now (table .exit)) (now (tags .exit)) ⌝ }
+{
+    telling::tell_children(
+        sheet,
+        offsets,
+        table,
+        tags,
+        numbers,
+        heads,
+        links,
+        generation,
+        i,
+    );
+    clear_mark(table, i);
+}
+
+// Steps item i, which has no notice: a refresh works it out anew.
+pub fn step_refresh(
+    sheet: &[u8],
+    offsets: &[usize],
+    table: &mut [u8],
+    tags: &mut [u64],
+    numbers: &mut [i64],
+    generation: u64,
+    i: usize,
+)
+    requires { ⌜ Lent (now sheet) (now offsets) (now table) ⌝ ∗ ⌜ Ready (now sheet) (now tags) (now numbers) generation ⌝ ∗ ⌜ i < size (sheetOf (now sheet)) ⌝ ∗ ⌜ isNotice (markOf (decodeTable (now table) i)) ≡ false ⌝ }
+    ensures { λ _. ⌜ Steps (now (sheet .entry)) generation (stepItem (sheetOf (now (sheet .entry))) (decodeTable (now (table .entry))) i) (now (table .exit)) (now (tags .exit)) ⌝ }
+{
+    match table::read_cell(table, i) {
+        Cell::Unk(_) => {}
+        Cell::Held(value, mark) => match mark {
+            Mark::Unmarked => {}
+            Mark::Refresh => {
+                telling::renew(
+                    sheet,
+                    offsets,
+                    table,
+                    tags,
+                    numbers,
+                    generation,
+                    i,
+                    value,
+                    Mark::Unmarked,
+                );
+            }
+            Mark::Notice => {}
+        },
+    }
+}
+
+// Steps item i, if it is marked.
+fn step_item(
+    sheet: &[u8],
+    offsets: &[usize],
+    table: &mut [u8],
+    tags: &mut [u64],
+    numbers: &mut [i64],
+    heads: &[u16],
+    links: &[u16],
+    generation: u64,
+    i: usize,
+)
+    requires { ⌜ Lent (now sheet) (now offsets) (now table) ⌝ ∗ ⌜ Ready (now sheet) (now tags) (now numbers) generation ⌝ ∗ ⌜ Linked (sheetOf (now sheet)) (now heads) (now links) ⌝ ∗ ⌜ i < size (sheetOf (now sheet)) ⌝ }
+    ensures { λ _. ⌜ Steps (now (sheet .entry)) generation (stepItem (sheetOf (now (sheet .entry))) (decodeTable (now (table .entry))) i) (now (table .exit)) (now (tags .exit)) ⌝ }
+{
+    if table::is_noticed(table, i) {
+        tell_and_clear(
+            sheet,
+            offsets,
+            table,
+            tags,
+            numbers,
+            heads,
+            links,
+            generation,
+            i,
+        );
+    } else {
+        step_refresh(sheet, offsets, table, tags, numbers, generation, i);
+    }
+}
+
+// Steps item i if it is marked.
+fn step_marked(
+    sheet: &[u8],
+    offsets: &[usize],
+    table: &mut [u8],
+    tags: &mut [u64],
+    numbers: &mut [i64],
+    heads: &[u16],
+    links: &[u16],
+    generation: u64,
+    i: usize,
+)
+    requires { ⌜ Lent (now sheet) (now offsets) (now table) ⌝ ∗ ⌜ Ready (now sheet) (now tags) (now numbers) generation ⌝ ∗ ⌜ Linked (sheetOf (now sheet)) (now heads) (now links) ⌝ ∗ ⌜ i < size (sheetOf (now sheet)) ⌝ }
+    ensures { λ _. ⌜ Steps (now (sheet .entry)) generation (stepMarked (sheetOf (now (sheet .entry))) (decodeTable (now (table .entry))) i) (now (table .exit)) (now (tags .exit)) ⌝ }
+{
+    if table::is_marked(table, i) {
+        step_item(
+            sheet,
+            offsets,
+            table,
+            tags,
+            numbers,
+            heads,
+            links,
+            generation,
+            i,
+        );
+    }
+}
+
+// Steps item i while it is marked: twice at most. The second step is of the next generation.
+fn step_twice(
+    sheet: &[u8],
+    offsets: &[usize],
+    table: &mut [u8],
+    tags: &mut [u64],
+    numbers: &mut [i64],
+    heads: &[u16],
+    links: &[u16],
+    generation: u64,
+    i: usize,
+)
+    requires { ⌜ Lent (now sheet) (now offsets) (now table) ⌝ ∗ ⌜ Ready (now sheet) (now tags) (now numbers) (generation + 1) ⌝ ∗ ⌜ NoneFrom 0 (now tags) generation ⌝ ∗ ⌜ Linked (sheetOf (now sheet)) (now heads) (now links) ⌝ ∗ ⌜ i < size (sheetOf (now sheet)) ⌝ }
+    ensures { λ _. ⌜ Steps (now (sheet .entry)) (generation + 1) (stepMarked (sheetOf (now (sheet .entry))) (stepMarked (sheetOf (now (sheet .entry))) (decodeTable (now (table .entry))) i) i) (now (table .exit)) (now (tags .exit)) ⌝ }
+{
+    if table::is_marked(table, i) {
+        step_item(
+            sheet,
+            offsets,
+            table,
+            tags,
+            numbers,
+            heads,
+            links,
+            generation,
+            i,
+        );
+        step_marked(
+            sheet,
+            offsets,
+            table,
+            tags,
+            numbers,
+            heads,
+            links,
+            generation + 1,
+            i,
+        );
+    }
+}
+
+// Catches up: one ascending sweep, in which each item is stepped while it is marked. No item below `first` is marked. A step is
+// a generation of the memo, from 1 on.
+pub fn catch_up(
+    sheet: &[u8],
+    offsets: &[usize],
+    table: &mut [u8],
+    tags: &mut [u64],
+    numbers: &mut [i64],
+    heads: &[u16],
+    links: &[u16],
+    first: usize,
+    n: usize,
+)
+    requires { ⌜ Lent (now sheet) (now offsets) (now table) ⌝ ∗ ⌜ Ready (now sheet) (now tags) (now numbers) (2 * first + 1) ⌝ ∗ ⌜ Linked (sheetOf (now sheet)) (now heads) (now links) ⌝ ∗ ⌜ n ≡ size (sheetOf (now sheet)) ⌝ ∗ ⌜ LowestMarked (decodeTable (now table)) n first ⌝ }
+    ensures { λ _. ⌜ Steps (now (sheet .entry)) (2 * n) (catchUp (sheetOf (now (sheet .entry))) (decodeTable (now (table .entry)))) (now (table .exit)) (now (tags .exit)) ⌝ }
+{
+    let mut i = first;
+    while i < n {
+        let generation = (2 * i + 1) as u64;
+        step_twice(
+            sheet,
+            offsets,
+            table,
+            tags,
+            numbers,
+            heads,
+            links,
+            generation,
+            i,
+        );
+        i += 1;
+    }
+}

@@ -1,0 +1,39 @@
+use Rattle.tally.proofs.Taking.{next-fits, count-first, count-next}
+use borrow.Author.Needs.{needs}
+use Rattle.tally.proofs.count_in.Statement.{statement}
+use Rattle.tally.proofs.count_in.Tie as tie
+use Rattle.tally.proofs.count_in.Reads as reads
+use Rattle.tally.proofs.count_in.Lts as lts
+use Rattle.tally.proofs.greater.Reads as greater-reads
+use Rattle.tally.proofs.lesser.Reads as lesser-reads
+use Rattle.tally.proofs.plus.Reads as plus-reads
+
+returns : tie.Need-returns
+returns c =
+    let s = c .before .before .before .before in
+    count-first (s .args .t) (s .args .n) (s .fits .n) (c .if1 .taken)
+
+plus-requires : tie.Need-plus-requires
+plus-requires c κs =
+    let s = c .before .before .before .before in
+    next-fits (s .args .t) (s .args .n) (s .pre .0) (s .pre .1) (search needs) (s .fits .n)
+
+lesser-requires : tie.Need-lesser-requires
+lesser-requires c κs = search needs
+
+greater-requires : tie.Need-greater-requires
+greater-requires c κs = search needs
+
+add-t12 : tie.Need-add-t12
+add-t12 c = search needs
+
+returns-2 : tie.Need-returns-2
+returns-2 c =
+    let s = c .before .before .before .before .before .before .before in
+    count-next (s .args .t) (s .args .n) (s .pre .0) (s .pre .1) (search needs) (s .fits .n) (c .before .before .plus .result)
+    (c .before .lesser .result) (c .greater .result) (search needs) (search needs) (search needs) (c .before .before .before .if1 .left)
+    (search needs) (search needs) (c .before .before .plus .ensures) (c .before .lesser .ensures) (c .greater .ensures)
+
+pub count-in-spec : {M : Type 1} → statement M
+count-in-spec =
+    tie.close (tie.spec returns plus-requires lesser-requires greater-requires add-t12 returns-2)

@@ -1,0 +1,120 @@
+-- Telling a child, from what the code's calls ensure. Assumes nothing.
+use Prim.Native.Nat.{ℕ, _<_}
+use native.Mathlib.Omega.{arith}
+use mathlib.Core.Path.{_≡_, refl, sym, ap, subst, _∙_}
+use mathlib.Core.Bool.{Bool, true, false}
+use mathlib.Core.List.{List}
+use lib.IntN.{ℤ}
+use lib.ListN.{getD}
+use Rattle.circuit.specs.Value.{Value, wellFormed}
+use Rattle.circuit.specs.Sheet.{Sheet, Spread, defer, renew, forget, size, itemAt, isFigure, spreadOf}
+use Rattle.circuit.specs.Table.{Table, Cell, Mark, unmarked, refresh, notice, unk, held, upd, valueIn}
+use Rattle.circuit.specs.Machine.{work, renewed, refreshCleared, tellStored, tellCell, tellChild}
+use Rattle.layout.specs.Opened.{sheetOf}
+use Rattle.item.specs.Item.{fieldItem, spreadMeaning}
+use Rattle.item.proofs.Located.{sheet-ordered, located-item}
+use Rattle.table.specs.Rows.{setRow}
+use Rattle.table.specs.Record.{width, encodeCell, mayHold}
+use Rattle.table.specs.Bytes.{decodeTable}
+use Rattle.table.specs.Meaning.{markMeaning, cellMeaning}
+use Rattle.table.specs.declared.Cell.the-variants.{Unk, Held}
+use Rattle.table.proofs.Tables.{decode-setRow, setRow-form, holdable-wellFormed}
+use Rattle.value.specs.Meaning.{meaning}
+use Rattle.memo.specs.Memo.{Memo, NoneFrom}
+use Rattle.looking.specs.Pass.{Lent}
+use Rattle.telling.specs.Telling.{Moves, Renewable, toldBy}
+use Rattle.telling.specs.declared.Told.{Told}
+use Rattle.telling.specs.declared.Told.the-variants.{Forgets, Refreshes, Renews}
+use Rattle.looking.proofs.Looking.{lent-holdable, lent-fits}
+use Rattle.telling.proofs.Renewing.{memo-store}
+
+-- what each answer of `told_by` means for the machine's telling
+tell-forgets : (sp : Spread) (m : Mark) (S : Sheet) (T : Table) (c : ℕ) (v : Value) → toldBy sp m ≡ Forgets → tellStored sp S T c v m ≡ upd T c (unk true)
+tell-forgets defer unmarked S T c v e = let bad : _≡_ {A = ℕ} 0 1 = cc in absurd (omega arith)
+tell-forgets defer refresh S T c v e = let bad : _≡_ {A = ℕ} 0 1 = cc in absurd (omega arith)
+tell-forgets defer notice S T c v e = let bad : _≡_ {A = ℕ} 0 1 = cc in absurd (omega arith)
+tell-forgets renew m S T c v e = let bad : _≡_ {A = ℕ} 0 1 = cc in absurd (omega arith)
+tell-forgets forget m S T c v e = refl
+
+tell-refreshes : (sp : Spread) (m : Mark) (S : Sheet) (T : Table) (c : ℕ) (v : Value) → toldBy sp m ≡ Refreshes → tellStored sp S T c v m ≡ upd T c (held v refresh)
+tell-refreshes defer unmarked S T c v e = refl
+tell-refreshes defer refresh S T c v e = refl
+tell-refreshes defer notice S T c v e = let bad : _≡_ {A = ℕ} 0 1 = cc in absurd (omega arith)
+tell-refreshes renew m S T c v e = let bad : _≡_ {A = ℕ} 0 1 = cc in absurd (omega arith)
+tell-refreshes forget m S T c v e = let bad : _≡_ {A = ℕ} 0 1 = cc in absurd (omega arith)
+
+tell-renews : (sp : Spread) (m : Mark) (S : Sheet) (T : Table) (c : ℕ) (v : Value) → toldBy sp m ≡ Renews → tellStored sp S T c v m ≡ renewed c v (refreshCleared m) (work S T c)
+tell-renews defer unmarked S T c v e = let bad : _≡_ {A = ℕ} 0 1 = cc in absurd (omega arith)
+tell-renews defer refresh S T c v e = let bad : _≡_ {A = ℕ} 0 1 = cc in absurd (omega arith)
+tell-renews defer notice S T c v e = refl
+tell-renews renew m S T c v e = refl
+tell-renews forget m S T c v e = let bad : _≡_ {A = ℕ} 0 1 = cc in absurd (omega arith)
+
+-- a figure may be UNK, or hold a well-formed value
+figure-may : (f : Bool) (x : Cell) → f ≡ true → wellFormed (valueIn x) ≡ true → mayHold f x ≡ true
+figure-may true x e h = h
+figure-may false x e h = let bad : _≡_ {A = ℕ} 0 1 = cc in absurd (omega arith)
+
+module _ {s offsets t tags : List ℕ} {numbers : List ℤ} {generation c : ℕ} (lent : Lent s offsets t)
+    (memo : Memo (sheetOf s) (decodeTable t) tags numbers generation) (none-from : NoneFrom c tags generation)
+    (low : c < size (sheetOf s)) (figured : isFigure (itemAt (sheetOf s) c) ≡ true) where
+  -- a cell that the figure may hold is stored
+  cell-moves : (x : Cell) → wellFormed (valueIn x) ≡ true → (t₂ : List ℕ) → t₂ ≡ setRow width t c (encodeCell x)
+      → Moves s generation c (upd (decodeTable t) c x) t₂ tags numbers
+  cell-moves x formed t₂ e =
+      record {
+        table-is = ap decodeTable e ∙ decode-setRow t c x (lent-fits lent c low) formed;
+        formed = rw e (setRow-form (sheetOf s) t c x (lent .length-is) (lent .formed) low (figure-may (isFigure (itemAt (sheetOf s) c)) x figured formed));
+        memo = memo-store (sheetOf s) (sheet-ordered s) (decodeTable t) c x tags numbers generation none-from memo;
+        fresh = none-from;
+      }
+
+  module _ (cell : Rattle.table.specs.declared.Cell.Cell) (reads : cellMeaning cell ≡ decodeTable t c) where
+    pub told-unk : (noticed : Bool) → cell ≡ Unk noticed → (t₂ : List ℕ) → t₂ ≡ setRow width t c (encodeCell (unk true))
+        → Moves s generation c (tellChild (sheetOf s) (decodeTable t) c) t₂ tags numbers
+    unfolding tellChild
+    told-unk noticed e t₂ stored =
+        subst (λ U. Moves s generation c U t₂ tags numbers)
+        (ap (tellCell (sheetOf s) (decodeTable t) c) (sym (sym reads ∙ ap cellMeaning e)))
+        (cell-moves (unk true) refl t₂ stored)
+
+    module _ (v : Rattle.value.specs.declared.Value.Value) (m : Rattle.table.specs.declared.Mark.Mark) (is : cell ≡ Held v m) where
+      holds-v : decodeTable t c ≡ held (meaning v) (markMeaning m)
+      holds-v = sym reads ∙ ap cellMeaning is
+
+      pub told-renewable : Renewable s t c (meaning v)
+      told-renewable = record { low = low; figured = figured; mark = markMeaning m; holds = holds-v }
+
+      v-formed : wellFormed (meaning v) ≡ true
+      v-formed = subst (λ x. wellFormed (valueIn x) ≡ true) holds-v (holdable-wellFormed (sheetOf s) (decodeTable t) (lent-holdable lent) c low)
+
+      module _ (sp : Rattle.item.specs.declared.Spread.Spread) (spreads : spreadMeaning sp ≡ spreadOf (fieldItem s (getD offsets c 0)))
+          (told : Told) (tells : told ≡ toldBy (spreadMeaning sp) (markMeaning m)) where
+        child-told : tellChild (sheetOf s) (decodeTable t) c ≡ tellStored (spreadMeaning sp) (sheetOf s) (decodeTable t) c (meaning v) (markMeaning m)
+        unfolding tellChild
+        child-told =
+            ap (tellCell (sheetOf s) (decodeTable t) c) holds-v
+            ∙ ap (λ x. tellStored x (sheetOf s) (decodeTable t) c (meaning v) (markMeaning m)) (sym (spreads ∙ ap spreadOf (located-item s offsets (lent .located) c low)))
+
+        pub told-forgets : told ≡ Forgets → (t₂ : List ℕ) → t₂ ≡ setRow width t c (encodeCell (unk true))
+            → Moves s generation c (tellChild (sheetOf s) (decodeTable t) c) t₂ tags numbers
+        told-forgets e t₂ stored =
+            subst (λ U. Moves s generation c U t₂ tags numbers)
+            (sym (child-told ∙ tell-forgets (spreadMeaning sp) (markMeaning m) (sheetOf s) (decodeTable t) c (meaning v) (sym tells ∙ e)))
+            (cell-moves (unk true) refl t₂ stored)
+
+        pub told-refreshes : told ≡ Refreshes → (t₂ : List ℕ) → t₂ ≡ setRow width t c (encodeCell (held (meaning v) refresh))
+            → Moves s generation c (tellChild (sheetOf s) (decodeTable t) c) t₂ tags numbers
+        told-refreshes e t₂ stored =
+            subst (λ U. Moves s generation c U t₂ tags numbers)
+            (sym (child-told ∙ tell-refreshes (spreadMeaning sp) (markMeaning m) (sheetOf s) (decodeTable t) c (meaning v) (sym tells ∙ e)))
+            (cell-moves (held (meaning v) refresh) v-formed t₂ stored)
+
+        pub told-renews : told ≡ Renews → (k : Mark) → k ≡ refreshCleared (markMeaning m) → (t₂ tags₂ : List ℕ) (numbers₂ : List ℤ)
+            → Moves s generation c (renewed c (meaning v) k (work (sheetOf s) (decodeTable t) c)) t₂ tags₂ numbers₂
+            → Moves s generation c (tellChild (sheetOf s) (decodeTable t) c) t₂ tags₂ numbers₂
+        told-renews e k cleared t₂ tags₂ numbers₂ moves =
+            subst (λ U. Moves s generation c U t₂ tags₂ numbers₂)
+            (ap (λ x. renewed c (meaning v) x (work (sheetOf s) (decodeTable t) c)) cleared
+            ∙ sym (child-told ∙ tell-renews (spreadMeaning sp) (markMeaning m) (sheetOf s) (decodeTable t) c (meaning v) (sym tells ∙ e)))
+            moves

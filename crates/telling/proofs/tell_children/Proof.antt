@@ -1,0 +1,119 @@
+-- `step::tell_children` meets its contract. The loop's invariant: the children below some item are told, and the edge leads to the
+-- next. Assumes nothing.
+use native.Mathlib.Omega.{arith}
+use borrow.Author.Needs.{needs}
+use Rattle.item.proofs.Located.{size-most, located-narrow}
+use Rattle.children.proofs.Linking.{left}
+use Rattle.telling.proofs.Children.{Telling, telling-start, telling-memo, child-low, child-figure, child-fresh, edge-low, telling-less, telling-next, telling-done}
+use Rattle.telling.proofs.tell_children.Statement.{statement}
+use Rattle.telling.proofs.tell_children.Tie as tie
+use Rattle.telling.proofs.tell_children.Reads as reads
+use Rattle.telling.proofs.tell_children.Lts as lts
+use Rattle.telling.proofs.tell_child.Reads as tell-child-reads
+use Rattle.telling.proofs.wide.Reads as wide-reads
+
+abbrev Inv-loop : tie.InvT-loop
+Inv-loop sheet offsets table₀ tags₀ numbers₀ heads links generation i edge₀ table tags numbers edge =
+    Telling sheet offsets table₀ tags₀ numbers₀ generation i edge table tags numbers
+
+abbrev μ-loop : tie.MeasureT-loop
+μ-loop sheet offsets table₀ tags₀ numbers₀ heads links generation i edge₀ table tags numbers edge = left links edge
+
+mul-wide : tie.Need-mul-wide Inv-loop μ-loop
+mul-wide c =
+    let a = c .before .before .before .before .before .before in
+    record { fits = omega (arith, size-most (a .args .sheet .now), a .pre .1 .1 .1 .1) }
+
+shared-slice-read-wide : tie.Need-shared-slice-read-wide Inv-loop μ-loop
+shared-slice-read-wide c =
+    let a = c .before .before .before .before .before .before .before in
+    omega (arith, a .pre .1 .1 .1 .0 .head-room, a .pre .1 .1 .1 .1)
+
+wide-requires : tie.Need-wide-requires Inv-loop μ-loop
+wide-requires c κs =
+    search needs
+
+loop-holds : tie.Need-loop-holds Inv-loop μ-loop
+loop-holds c =
+    let q = c .before .before .before .before .before .before .before .before .pre in
+    telling-start (q .0) (q .1 .0) (q .1 .1 .0) (q .1 .1 .1 .0) (q .1 .1 .1 .1) _ (c .wide .ensures)
+
+tell-child-requires : tie.Need-tell-child-requires Inv-loop μ-loop
+tell-child-requires c κs =
+    let inv = c .before .before .before .before .loop .inv in
+    let more = c .before .before .before .loop-test .taken in
+    (inv .lent, (telling-memo inv, (child-fresh inv more, (child-low inv more, child-figure inv more))))
+
+mul-wide-2 : tie.Need-mul-wide-2 Inv-loop μ-loop
+mul-wide-2 c =
+    let a = c .before .before .before .before .before .before .before .before .before .before .before .before .before .before .before .before .before .before .before in
+    let inv = c .before .before .before .before .before .before .before .before .before .before .loop .inv in
+    let more = c .before .before .before .before .before .before .before .before .before .loop-test .taken in
+    let narrow = located-narrow (a .args .sheet .now) (a .args .offsets .now) (inv .lent .located) _ (child-low inv more) in
+    record { fits = omega (arith, size-most (a .args .sheet .now), child-low inv more) }
+
+shared-slice-read-wide-2 : tie.Need-shared-slice-read-wide-2 Inv-loop μ-loop
+shared-slice-read-wide-2 c =
+    let a = c .before .before .before .before .before .before .before .before .before .before .before .before .before .before .before .before .before .before .before .before in
+    let inv = c .before .before .before .before .before .before .before .before .before .before .before .loop .inv in
+    let more = c .before .before .before .before .before .before .before .before .before .before .loop-test .taken in
+    let narrow = located-narrow (a .args .sheet .now) (a .args .offsets .now) (inv .lent .located) _ (child-low inv more) in
+    edge-low inv more (a .pre .1 .1 .1 .0) narrow
+
+wide-requires-2 : tie.Need-wide-requires-2 Inv-loop μ-loop
+wide-requires-2 c κs =
+    search needs
+
+loop-less : tie.Need-loop-less Inv-loop μ-loop
+loop-less c =
+    let a = c .before .before .before .before .before .before .before .before .before .before .before .before .before .before .before .before .before .before .before .before .before in
+    let inv = c .before .before .before .before .before .before .before .before .before .before .before .before .loop .inv in
+    let more = c .before .before .before .before .before .before .before .before .before .before .before .loop-test .taken in
+    let narrow = located-narrow (a .args .sheet .now) (a .args .offsets .now) (inv .lent .located) _ (child-low inv more) in
+    telling-less inv more (a .pre .1 .1 .1 .0) narrow _ (c .wide2 .ensures)
+
+loop-again : tie.Need-loop-again Inv-loop μ-loop
+loop-again c =
+    let a = c .before .before .before .before .before .before .before .before .before .before .before .before .before .before .before .before .before .before .before .before .before in
+    let inv = c .before .before .before .before .before .before .before .before .before .before .before .before .loop .inv in
+    let more = c .before .before .before .before .before .before .before .before .before .before .before .loop-test .taken in
+    let narrow = located-narrow (a .args .sheet .now) (a .args .offsets .now) (inv .lent .located) _ (child-low inv more) in
+    let l = c .before .before .before .before .before .before .before .tell-child in
+    telling-next inv more (a .pre .1 .1 .1 .0) narrow _ _ _ (l .kept .1 .1 .0) (l .kept .1 .1 .1 .0) (l .kept .1 .1 .1 .1 .0) (l .ensures) _ (c .wide2 .ensures)
+
+same-length : tie.Need-same-length Inv-loop μ-loop
+same-length c =
+    c .before .loop .inv .t-length
+
+same-length-2 : tie.Need-same-length-2 Inv-loop μ-loop
+same-length-2 c =
+    c .before .loop .inv .tags-length
+
+same-length-3 : tie.Need-same-length-3 Inv-loop μ-loop
+same-length-3 c =
+    c .before .loop .inv .numbers-length
+
+returns : tie.Need-returns Inv-loop μ-loop
+returns c =
+    telling-done (c .before .loop .inv) (c .loop-test .left)
+
+pub tell-children-spec : {M : Type 1} → statement M
+tell-children-spec =
+    tie.close
+    (tie.spec
+    Inv-loop
+    μ-loop
+    mul-wide
+    shared-slice-read-wide
+    wide-requires
+    loop-holds
+    tell-child-requires
+    mul-wide-2
+    shared-slice-read-wide-2
+    wide-requires-2
+    loop-less
+    loop-again
+    same-length
+    same-length-2
+    same-length-3
+    returns)

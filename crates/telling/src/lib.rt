@@ -1,0 +1,157 @@
+// Telling the children of an item.
+ghost use mathlib.Core.Path.{_≡_};
+ghost use mathlib.Core.Bool.{true};
+ghost use Prim.Native.Nat.{_<_};
+ghost use Rattle.circuit.specs.Sheet.{size, itemAt, isFigure};
+ghost use Rattle.circuit.specs.Machine.{work, renewed, refreshCleared, tellChild, tell};
+ghost use Rattle.layout.specs.Opened.{sheetOf};
+ghost use Rattle.value.specs.Meaning.{meaning};
+ghost use Rattle.item.specs.Item.{spreadMeaning};
+ghost use Rattle.table.specs.Bytes.{decodeTable};
+ghost use Rattle.table.specs.Meaning.{markMeaning};
+ghost use Rattle.children.specs.Children.{Linked};
+ghost use Rattle.memo.specs.Memo.{Memo, NoneFrom};
+ghost use Rattle.looking.specs.Pass.{Lent};
+ghost use Rattle.telling.specs.Telling.{Moves, Renewable, toldBy};
+use children::PLACES;
+use item::Spread;
+use table::Cell;
+use table::Mark;
+use value::Value;
+
+// What a stored child does when it is told: it forgets its value, is to be refreshed, or is worked out anew.
+pub enum Told {
+    Forgets,
+    Refreshes,
+    Renews,
+}
+
+fn told_by(spread: Spread, mark: Mark) -> Told
+    ensures { λ r. ⌜ r ≡ toldBy (spreadMeaning spread) (markMeaning mark) ⌝ }
+{
+    match spread {
+        Spread::Defer => match mark {
+            Mark::Unmarked => Told::Refreshes,
+            Mark::Refresh => Told::Refreshes,
+            Mark::Notice => Told::Renews,
+        },
+        Spread::Renew => Told::Renews,
+        Spread::Forget => Told::Forgets,
+    }
+}
+
+// The mark with a refresh cleared.
+fn refresh_cleared(mark: Mark) -> Mark
+    ensures { λ r. ⌜ markMeaning r ≡ refreshCleared (markMeaning mark) ⌝ }
+{
+    match mark {
+        Mark::Unmarked => Mark::Unmarked,
+        Mark::Refresh => Mark::Unmarked,
+        Mark::Notice => Mark::Notice,
+    }
+}
+
+// Works item i out anew, which holds a value: a different result is stored with notice, and an equal one leaves the value with
+// the mark.
+pub fn renew(
+    sheet: &[u8],
+    offsets: &[usize],
+    table: &mut [u8],
+    tags: &mut [u64],
+    numbers: &mut [i64],
+    generation: u64,
+    i: usize,
+    value: Value,
+    mark: Mark,
+)
+    requires { ⌜ Lent (now sheet) (now offsets) (now table) ⌝ ∗ ⌜ Memo (sheetOf (now sheet)) (decodeTable (now table)) (now tags) (now numbers) generation ⌝ ∗ ⌜ NoneFrom i (now tags) generation ⌝ ∗ ⌜ Renewable (now sheet) (now table) i (meaning value) ⌝ }
+    ensures { λ _. ⌜ Moves (now (sheet .entry)) generation i (renewed i (meaning value) (markMeaning mark) (work (sheetOf (now (sheet .entry))) (decodeTable (now (table .entry))) i)) (now (table .exit)) (now (tags .exit)) (now (numbers .exit)) ⌝ }
+{
+    let worked = looking::work_out(sheet, offsets, table, tags, numbers, generation, i);
+    let fresh = worked.value;
+    if Value::same(value, fresh) {
+        table::store_cell(table, i, Cell::Held(value, mark));
+    } else {
+        table::store_cell(table, i, Cell::Held(fresh, Mark::Notice));
+    }
+}
+
+// Tells child c that a parent has changed.
+fn tell_child(
+    sheet: &[u8],
+    offsets: &[usize],
+    table: &mut [u8],
+    tags: &mut [u64],
+    numbers: &mut [i64],
+    generation: u64,
+    c: usize,
+)
+    requires { ⌜ Lent (now sheet) (now offsets) (now table) ⌝ ∗ ⌜ Memo (sheetOf (now sheet)) (decodeTable (now table)) (now tags) (now numbers) generation ⌝ ∗ ⌜ NoneFrom c (now tags) generation ⌝ ∗ ⌜ c < size (sheetOf (now sheet)) ⌝ ∗ ⌜ isFigure (itemAt (sheetOf (now sheet)) c) ≡ true ⌝ }
+    ensures { λ _. ⌜ Moves (now (sheet .entry)) generation c (tellChild (sheetOf (now (sheet .entry))) (decodeTable (now (table .entry))) c) (now (table .exit)) (now (tags .exit)) (now (numbers .exit)) ⌝ }
+{
+    match table::read_cell(table, c) {
+        Cell::Unk(_) => {
+            table::store_cell(table, c, Cell::Unk(true));
+        }
+        Cell::Held(value, mark) => {
+            match told_by(item::spread_of(sheet, offsets[c]), mark) {
+                Told::Forgets => {
+                    table::store_cell(table, c, Cell::Unk(true));
+                }
+                Told::Refreshes => {
+                    table::store_cell(table, c, Cell::Held(value, Mark::Refresh));
+                }
+                Told::Renews => {
+                    renew(
+                        sheet,
+                        offsets,
+                        table,
+                        tags,
+                        numbers,
+                        generation,
+                        c,
+                        value,
+                        refresh_cleared(mark),
+                    );
+                }
+            }
+        }
+    }
+}
+
+fn wide(edge: u16) -> usize
+    ensures { λ r. ⌜ r ≡ edge ⌝ }
+{
+    edge as usize
+}
+
+// Tells the children of item i, lowest first, by their list. They have higher numbers.
+pub fn tell_children(
+    sheet: &[u8],
+    offsets: &[usize],
+    table: &mut [u8],
+    tags: &mut [u64],
+    numbers: &mut [i64],
+    heads: &[u16],
+    links: &[u16],
+    generation: u64,
+    i: usize,
+)
+    requires { ⌜ Lent (now sheet) (now offsets) (now table) ⌝ ∗ ⌜ Memo (sheetOf (now sheet)) (decodeTable (now table)) (now tags) (now numbers) generation ⌝ ∗ ⌜ NoneFrom 0 (now tags) generation ⌝ ∗ ⌜ Linked (sheetOf (now sheet)) (now heads) (now links) ⌝ ∗ ⌜ i < size (sheetOf (now sheet)) ⌝ }
+    ensures { λ _. ⌜ Moves (now (sheet .entry)) generation (size (sheetOf (now (sheet .entry)))) (tell (sheetOf (now (sheet .entry))) (decodeTable (now (table .entry))) i) (now (table .exit)) (now (tags .exit)) (now (numbers .exit)) ⌝ }
+{
+    let mut edge = wide(heads[i]);
+    while edge != 0 {
+        tell_child(
+            sheet,
+            offsets,
+            table,
+            tags,
+            numbers,
+            generation,
+            edge / PLACES,
+        );
+        edge = wide(links[edge]);
+    }
+}
+
