@@ -12,6 +12,9 @@ ghost use Rattle.children.specs.Children.{places, lists, linkPlaces, hea
 // The most parents that an item lists.
 pub const PLACES: usize = 16;
 
+// Room for the edges of every item.
+pub const EDGE_LIMIT: usize = PLACES * sheet::limits::ITEM_LIMIT;
+
 // Each edge of an item is linked to the edge that heads the list of its parent. The edges begin at `first`.
 fn link_places(s: &[u8], at: usize, heads: &[u16], links: &mut [u16], first: usize)
     requires { ⌜ ItemField (now s) at ⌝ ∗ ⌜ ((k : ℕ) → k < length (parentsOf (fieldItem (now s) at)) → getD (parentsOf (fieldItem (now s) at)) k 0 < length (now heads)) ⌝ ∗ ⌜ first + places ≤ length (now links) ⌝ }

@@ -1,10 +1,1 @@
-pub mod Storing
-pub mod Reading
-pub mod Playing
 pub mod Running
-pub mod Laws
-pub mod Faults
-pub mod Example
-pub mod Asking
-pub mod Room
-pub mod Causes

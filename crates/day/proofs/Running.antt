@@ -1,5 +1,5 @@
 -- The whole day: the opening, the calls, and the parts of index and table that are lent on. Assumes nothing.
-use Prim.Native.Nat.{ℕ, zero, suc, _+_, _-_, _*_, _≤_, _<_, min}
+use Prim.Native.Nat.{ℕ, zero, suc, _*_, _≤_, _<_, min}
 use mathlib.Core.Path.{_≡_, refl, sym, ap, _∙_}
 use mathlib.Core.Bool.{Bool, true, false}
 use mathlib.Core.List.{List, [], _∷_, _++_}
@@ -11,9 +11,9 @@ use lib.Seq.{take-all, length-take-le}
 use Rattle.circuit.specs.Offices.{bare}
 use Rattle.layout.specs.Index.{indexWidth}
 use Rattle.office.specs.Office.{Given, openOn}
-use Rattle.day.specs.Lines.{Appended, lastLine, sheetWord}
-use Rattle.day.specs.Day.{playFrom, PlayedOn, Day, ended, dayBy, dayOn, itemCount, indexSize, tableSize, runDay, Ran}
-use Rattle.day.proofs.Storing.{appended-front, appended-count}
+use Rattle.day_meaning.specs.Lines.{Appended, lastLine, sheetWord}
+use Rattle.day_meaning.specs.Day.{playFrom, PlayedOn, Day, ended, dayBy, dayOn, itemCount, indexSize, tableSize, runDay, Ran}
+use Rattle.day_meaning.proofs.Storing.{appended-front, appended-count}
 
 ran-as : {e e′ : Day} {out x t out′ : List ℕ} {count : ℕ} → e ≡ e′ → Ran e out count x t out′ → Ran e′ out count x t out′
 ran-as e r = rw e at r

@@ -3,23 +3,25 @@
 ghost use Rattle.circuit.specs.Calls as calls;
 ghost use Rattle.circuit.specs.Offices.{bare, full};
 ghost use Rattle.office.specs.Office.{openOn, callOn};
-ghost use Rattle.engine.specs.Answers.{Answered, Opened, Read};
+ghost use Rattle.admission.specs.Answers.{Answered};
+ghost use Rattle.call_open.specs.Opening.{Opened};
+ghost use Rattle.call_ask.specs.Asking.{Asked};
 ghost use Rattle.printer.specs.Contract.{PrintsCode};
-use engine::calls::Answer;
-use engine::calls::Reading;
+use admission::Answer;
+use call_ask::Reading;
 
 #[no_mangle]
 pub extern "C" fn rozhinal_open_bare(sheet: &[u8], index: &mut [u8], table: &mut [u8]) -> Answer
     ensures { λ r. ⌜ Opened (openOn bare (now (sheet .entry)) (now (index .entry)) (now (table .entry))) r (now (index .exit)) (now (table .exit)) ⌝ }
 {
-    engine::calls::open_bare(sheet, index, table)
+    call_open::open_bare(sheet, index, table)
 }
 
 #[no_mangle]
 pub extern "C" fn rozhinal_open_full(sheet: &[u8], index: &mut [u8], table: &mut [u8]) -> Answer
     ensures { λ r. ⌜ Opened (openOn full (now (sheet .entry)) (now (index .entry)) (now (table .entry))) r (now (index .exit)) (now (table .exit)) ⌝ }
 {
-    engine::calls::open_full(sheet, index, table)
+    call_open::open_full(sheet, index, table)
 }
 
 #[no_mangle]
@@ -33,35 +35,35 @@ pub extern "C" fn rozhinal_post(
 ) -> Answer
     ensures { λ r. ⌜ Answered (callOn (now (sheet .entry)) (now (index .entry)) (now (table .entry)) (calls.post item kind number)) r (now (table .exit)) ⌝ }
 {
-    engine::calls::post(sheet, index, table, item, kind, number)
+    call_post::post(sheet, index, table, item, kind, number)
 }
 
 #[no_mangle]
 pub extern "C" fn rozhinal_keep(sheet: &[u8], index: &[u8], table: &mut [u8], item: u64) -> Answer
     ensures { λ r. ⌜ Answered (callOn (now (sheet .entry)) (now (index .entry)) (now (table .entry)) (calls.keep item)) r (now (table .exit)) ⌝ }
 {
-    engine::calls::keep(sheet, index, table, item)
+    call_keep::keep(sheet, index, table, item)
 }
 
 #[no_mangle]
 pub extern "C" fn rozhinal_drop(sheet: &[u8], index: &[u8], table: &mut [u8], item: u64) -> Answer
     ensures { λ r. ⌜ Answered (callOn (now (sheet .entry)) (now (index .entry)) (now (table .entry)) (calls.drop item)) r (now (table .exit)) ⌝ }
 {
-    engine::calls::drop_figure(sheet, index, table, item)
+    call_keep::drop_figure(sheet, index, table, item)
 }
 
 #[no_mangle]
 pub extern "C" fn rozhinal_step(sheet: &[u8], index: &[u8], table: &mut [u8], item: u64) -> Answer
     ensures { λ r. ⌜ Answered (callOn (now (sheet .entry)) (now (index .entry)) (now (table .entry)) (calls.step item)) r (now (table .exit)) ⌝ }
 {
-    engine::calls::step(sheet, index, table, item)
+    call_step::step(sheet, index, table, item)
 }
 
 #[no_mangle]
 pub extern "C" fn rozhinal_ask(sheet: &[u8], index: &[u8], table: &mut [u8], item: u64) -> Reading
-    ensures { λ r. ⌜ Read (callOn (now (sheet .entry)) (now (index .entry)) (now (table .entry)) (calls.ask item)) r (now (table .exit)) ⌝ }
+    ensures { λ r. ⌜ Asked (callOn (now (sheet .entry)) (now (index .entry)) (now (table .entry)) (calls.ask item)) r (now (table .exit)) ⌝ }
 {
-    engine::calls::ask(sheet, index, table, item)
+    call_ask::ask(sheet, index, table, item)
 }
 
 #[no_mangle]

@@ -6,7 +6,7 @@ use Rattle.day_main.proofs.show_day.Statement.{statement}
 use Rattle.day_main.proofs.show_day.Tie as tie
 use Rattle.day_main.proofs.show_day.Reads as reads
 use Rattle.day_main.proofs.show_day.Lts as lts
-use Rattle.day.proofs.run.run_day.Reads as run-day-reads
+use Rattle.day.proofs.run_day.Reads as run-day-reads
 use Rattle.io.proofs.write_all.Reads as write-all-reads
 
 run-day-requires : tie.Need-run-day-requires

@@ -4,7 +4,7 @@ use borrow.Author.Needs.{needs}
 use Rattle.circuit.specs.Calls.{post}
 use Rattle.value.proofs.Signed.{back}
 use Rattle.office.specs.Office.{callOn}
-use Rattle.engine.specs.Answers.{Answered}
+use Rattle.admission.specs.Answers.{Answered}
 use Rattle.rozhinal.proofs.rozhinal_post.Statement.{statement}
 use Rattle.rozhinal.proofs.rozhinal_post.Tie as tie
 

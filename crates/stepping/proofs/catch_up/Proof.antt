@@ -5,9 +5,6 @@ use Rattle.item.proofs.Located.{size-most}
 use Rattle.stepping.proofs.Sweeping.{Sweeping, sweeping-start, sweeping-ready, sweeping-next, sweeping-done}
 use Rattle.stepping.proofs.catch_up.Statement.{statement}
 use Rattle.stepping.proofs.catch_up.Tie as tie
-use Rattle.stepping.proofs.catch_up.Reads as reads
-use Rattle.stepping.proofs.catch_up.Lts as lts
-use Rattle.stepping.proofs.step_twice.Reads as step-twice-reads
 
 abbrev Inv-loop : tie.InvT-loop
 Inv-loop sheet offsets table₀ tags₀ numbers₀ heads links first n i₀ table tags numbers i =

@@ -2,10 +2,6 @@ use Rattle.stepping.proofs.Clearing.{cleared-unk, cleared-held}
 use borrow.Author.Needs.{needs}
 use Rattle.stepping.proofs.clear_mark.Statement.{statement}
 use Rattle.stepping.proofs.clear_mark.Tie as tie
-use Rattle.stepping.proofs.clear_mark.Reads as reads
-use Rattle.stepping.proofs.clear_mark.Lts as lts
-use Rattle.table.proofs.read_cell.Reads as read-cell-reads
-use Rattle.table.proofs.store_cell.Reads as store-cell-reads
 
 read-cell-requires : tie.Need-read-cell-requires
 read-cell-requires c κs = search needs

@@ -4,11 +4,6 @@ use Rattle.stepping.proofs.Stepping.{steps-noticed}
 use borrow.Author.Needs.{needs}
 use Rattle.stepping.proofs.step_item.Statement.{statement}
 use Rattle.stepping.proofs.step_item.Tie as tie
-use Rattle.stepping.proofs.step_item.Reads as reads
-use Rattle.stepping.proofs.step_item.Lts as lts
-use Rattle.stepping.proofs.step_refresh.Reads as step-refresh-reads
-use Rattle.stepping.proofs.tell_and_clear.Reads as tell-and-clear-reads
-use Rattle.table.proofs.is_noticed.Reads as is-noticed-reads
 
 is-noticed-requires : tie.Need-is-noticed-requires
 is-noticed-requires c κs = search needs

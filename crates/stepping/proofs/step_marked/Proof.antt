@@ -3,10 +3,6 @@ use Rattle.stepping.proofs.Sweeping.{marked-steps, unmarked-stays}
 use borrow.Author.Needs.{needs}
 use Rattle.stepping.proofs.step_marked.Statement.{statement}
 use Rattle.stepping.proofs.step_marked.Tie as tie
-use Rattle.stepping.proofs.step_marked.Reads as reads
-use Rattle.stepping.proofs.step_marked.Lts as lts
-use Rattle.stepping.proofs.step_item.Reads as step-item-reads
-use Rattle.table.proofs.is_marked.Reads as is-marked-reads
 
 is-marked-requires : tie.Need-is-marked-requires
 is-marked-requires c κs = search needs

@@ -3,10 +3,6 @@ use Rattle.stepping.proofs.Stepping.{ready-memo, nothing-above, step-un
 use borrow.Author.Needs.{needs}
 use Rattle.stepping.proofs.step_refresh.Statement.{statement}
 use Rattle.stepping.proofs.step_refresh.Tie as tie
-use Rattle.stepping.proofs.step_refresh.Reads as reads
-use Rattle.stepping.proofs.step_refresh.Lts as lts
-use Rattle.telling.proofs.renew.Reads as renew-reads
-use Rattle.table.proofs.read_cell.Reads as read-cell-reads
 
 read-cell-requires : tie.Need-read-cell-requires
 read-cell-requires c κs = search needs

@@ -3,11 +3,6 @@ use Rattle.stepping.proofs.Sweeping.{second-lent, second-ready, stepped
 use borrow.Author.Needs.{needs}
 use Rattle.stepping.proofs.step_twice.Statement.{statement}
 use Rattle.stepping.proofs.step_twice.Tie as tie
-use Rattle.stepping.proofs.step_twice.Reads as reads
-use Rattle.stepping.proofs.step_twice.Lts as lts
-use Rattle.stepping.proofs.step_item.Reads as step-item-reads
-use Rattle.stepping.proofs.step_marked.Reads as step-marked-reads
-use Rattle.table.proofs.is_marked.Reads as is-marked-reads
 
 is-marked-requires : tie.Need-is-marked-requires
 is-marked-requires c κs = search needs

@@ -4,10 +4,6 @@ use mathlib.Core.Path.{_∙_}
 use borrow.Author.Needs.{needs}
 use Rattle.stepping.proofs.tell_and_clear.Statement.{statement}
 use Rattle.stepping.proofs.tell_and_clear.Tie as tie
-use Rattle.stepping.proofs.tell_and_clear.Reads as reads
-use Rattle.stepping.proofs.tell_and_clear.Lts as lts
-use Rattle.stepping.proofs.clear_mark.Reads as clear-mark-reads
-use Rattle.telling.proofs.tell_children.Reads as tell-children-reads
 
 tell-children-requires : tie.Need-tell-children-requires
 tell-children-requires c κs =

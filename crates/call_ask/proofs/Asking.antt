@@ -1,0 +1,68 @@
+-- Ask: its own test, and what it gives and leaves. Assumes nothing.
+use Prim.Native.Nat.{ℕ, _+_, _*_, _≤_, _<_}
+use native.Mathlib.Omega.{arith}
+use mathlib.Core.Path.{_≡_, refl, sym, ap, subst, _∙_}
+use mathlib.Core.List.{List}
+use lib.IntN.{ℤ, pos}
+use lib.ListN.{length}
+use borrow.Author.Tests.{le-leb, lt-leb}
+use Rattle.circuit.specs.Value.{Value}
+use Rattle.circuit.specs.Sheet.{size}
+use Rattle.circuit.specs.Table.{Table}
+use Rattle.circuit.specs.Machine.{lookUp, catchUp}
+use Rattle.circuit.specs.Calls.{Call, ask, firstCause, tests, effect}
+use Rattle.layout.specs.Opened.{sheetOf}
+use Rattle.word.specs.Word.{Bytes}
+use Rattle.table.specs.Bytes.{encodeTable, decodeTable}
+use Rattle.table.proofs.Tables.{encode-decodeTable}
+use Rattle.office.specs.Office.{callOn}
+use Rattle.item.proofs.Located.{size-most}
+use Rattle.looking.specs.Pass.{Lent, Leaves}
+use Rattle.stepping.specs.Stepping.{Ready, Steps}
+use Rattle.memo.specs.Memo.{Found, Memo}
+use Rattle.admission.specs.Admission.{admittedOf, callLent}
+use Rattle.call_ask.specs.Asking.{Asked, ReadingOf, LookedUp}
+use Rattle.call_ask.specs.declared.Reading.{Reading}
+use Rattle.admission.specs.declared.Admitted.the-variants.{Items, Refused}
+use Rattle.admission.proofs.Admission.{admitted, refused-call}
+use Rattle.stepping.proofs.Stepping.{ready-memo}
+
+-- ---- ask
+
+module _ {s offsets t : List ℕ} (lent : Lent s offsets t) (x : List ℕ) (n item : ℕ) (count-is : n ≡ size (sheetOf s)) (r : Reading) where
+  pub ask-refused : n ≤ item → r .number ≡ 11 → r .offset ≡ 0 → r .kind ≡ 0 → r .value ≡ pos 0 → Asked (callLent (sheetOf s) x t (ask item)) r t
+  unfolding tests firstCause
+  ask-refused h a b k v =
+      rw (le-leb (size (sheetOf s)) item (omega arith)) (record { number-is = a; offset-is = b; kind-is = k; value-is = v; table-is = refl })
+
+  pub ask-done : item < n → (t₂ : List ℕ) (v : Value) → Bytes t₂ → length t₂ ≡ length t
+      → LookedUp s (lookUp (sheetOf s) (catchUp (sheetOf s) (decodeTable t)) item) v t₂ → ReadingOf v r → Asked (callLent (sheetOf s) x t (ask item)) r t₂
+  unfolding tests firstCause effect
+  ask-done h t₂ v bytes len l q =
+      rw (lt-leb (size (sheetOf s)) item (omega arith)) (record {
+        number-is = q .number-is;
+        offset-is = q .offset-is;
+        kind-is = q .kind-is ∙ ap Rattle.circuit.specs.Value.kindOf (l .value-is);
+        value-is = q .value-is ∙ ap Rattle.circuit.specs.Value.numberOf (l .value-is);
+        table-is = sym (encode-decodeTable (sheetOf s) t₂ bytes (len ∙ lent .length-is) (l .formed)) ∙ ap (encodeTable (sheetOf s)) (l .table-is);
+      })
+
+pub refused-read : (s x t : List ℕ) (c : Call) (k at : ℕ) → Refused k at ≡ admittedOf s x t → (r : Reading) → r .number ≡ k → r .offset ≡ at
+    → r .kind ≡ 0 → r .value ≡ pos 0 → Asked (callOn s x t c) r t
+refused-read s x t c k at e r a b d v =
+    rw (refused-call s x t c k at e) (record { number-is = a; offset-is = b; kind-is = d; value-is = v; table-is = refl })
+
+pub admitted-read : (s x t t′ : List ℕ) (c : Call) (n : ℕ) → Items n ≡ admittedOf s x t → (r : Reading) → Asked (callLent (sheetOf s) x t c) r t′ → Asked (callOn s x t c) r t′
+admitted-read s x t t′ c n e r h = rw (admitted s x t n e .call c) h
+
+-- the look-up after catching up is of a generation of its own
+pub caught-memo : {s tags : List ℕ} {numbers : List ℤ} → Ready s tags numbers 1 → {n : ℕ} → n ≡ size (sheetOf s) → {U : Table} {t₁ : List ℕ} (tags₁ : List ℕ) (numbers₁ : List ℤ)
+    → length tags₁ ≡ length tags → length numbers₁ ≡ length numbers → Steps s (2 * n) U t₁ tags₁ → (T : Table) → Memo (sheetOf s) T tags₁ numbers₁ (2 * n + 1)
+caught-memo {s} {tags} {numbers} ready {n} n-is tags₁ numbers₁ a b steps T =
+    ready-memo (record { tag-room = omega (arith, ready .tag-room); number-room = omega (arith, ready .number-room); generations = omega (arith, size-most s); older = steps .older }) T
+
+-- what a look-up after catching up gives
+pub caught-looked : (s : List ℕ) {t₁ : List ℕ} (T : Table) → decodeTable t₁ ≡ T → {tags : List ℕ} {generation b : ℕ} (i : ℕ) {f : Found} {t₂ tags₂ : List ℕ} {numbers₂ : List ℤ}
+    → Leaves s t₁ tags generation b (lookUp (sheetOf s) (decodeTable t₁) i) f t₂ tags₂ numbers₂ → LookedUp s (lookUp (sheetOf s) T i) (f .value) t₂
+caught-looked s {t₁} T is i {f} {t₂} looks =
+    subst (λ U. LookedUp s (lookUp (sheetOf s) U i) (f .value) t₂) is (record { value-is = looks .value-is; table-is = looks .table-is; formed = looks .formed })

@@ -1,0 +1,90 @@
+// The call ask.
+ghost use mathlib.Core.Path.{_≡_};
+ghost use mathlib.Core.List.{List};
+ghost use Prim.Native.Nat.{ℕ, _+_, _*_, _<_};
+ghost use Rattle.circuit.specs.Sheet.{size};
+ghost use lib.IntN.{pos};
+ghost use Rattle.circuit.specs.Machine as machine;
+ghost use Rattle.circuit.specs.Calls as machine_calls;
+ghost use Rattle.value.specs.Meaning.{meaning};
+ghost use Rattle.layout.specs.Opened.{sheetOf};
+ghost use Rattle.table.specs.Bytes.{decodeTable};
+ghost use Rattle.office.specs.Office.{callOn};
+ghost use Rattle.call_ask.specs.Asking.{Asked, ReadingOf, LookedUp};
+ghost use Rattle.admission.specs.Admission.{Placing, callLent};
+ghost use Rattle.looking.specs.Pass.{Lent};
+use admission::Admitted;
+use value::Value;
+
+// What an ask gives: an answer, and the kind and the number of the item's value.
+#[repr(C)]
+pub struct Reading {
+    pub number: u64,
+    pub offset: u64,
+    pub kind: u64,
+    pub value: i64,
+}
+
+// Catches up, and looks item i up in the generation after those of the steps.
+fn caught_up(sheet: &[u8], offsets: &[usize], table: &mut [u8], n: usize, i: usize) -> Value
+    requires { ⌜ Lent (now sheet) (now offsets) (now table) ⌝ ∗ ⌜ n ≡ size (sheetOf (now sheet)) ⌝ ∗ ⌜ i < n ⌝ }
+    ensures { λ r. ⌜ LookedUp (now (sheet .entry)) (machine.lookUp (sheetOf (now (sheet .entry))) (machine.catchUp (sheetOf (now (sheet .entry))) (decodeTable (now (table .entry)))) i) (meaning r) (now (table .exit)) ⌝ }
+{
+    let mut tags = [0u64; sheet::limits::ITEM_LIMIT];
+    let mut numbers = [0i64; sheet::limits::ITEM_LIMIT];
+    catching::catch_up(sheet, offsets, table, &mut tags, &mut numbers, n);
+    let seen = looking::look_up(
+        sheet,
+        offsets,
+        table,
+        &mut tags,
+        &mut numbers,
+        (2 * n + 1) as u64,
+        i,
+    );
+    seen.value
+}
+
+fn read_value(value: Value) -> Reading
+    ensures { λ r. ⌜ ReadingOf (meaning value) r ⌝ }
+{
+    Reading {
+        number: 0,
+        offset: 0,
+        kind: value.kind() as u64,
+        value: value.number_or_zero(),
+    }
+}
+
+// The reading of a refused ask.
+fn refuse(number: u64, offset: usize) -> Reading
+    ensures { λ r. ⌜ (r .number ≡ number) × (r .offset ≡ offset) × (r .kind ≡ 0) × (r .value ≡ pos 0) ⌝ }
+{
+    Reading {
+        number,
+        offset: offset as u64,
+        kind: 0,
+        value: 0,
+    }
+}
+
+fn ask_lent(sheet: &[u8], offsets: &[usize], table: &mut [u8], n: usize, item: u64) -> Reading
+    requires { ⌜ Placing (now sheet) (now offsets) n ⌝ ∗ ⌜ Lent (now sheet) (now offsets) (now table) ⌝ }
+    ensures { λ r. ⌜ ((x : List ℕ) → Asked (callLent (sheetOf (now (sheet .entry))) x (now (table .entry)) (machine_calls.ask item)) r (now (table .exit))) ⌝ }
+{
+    if item >= n as u64 {
+        return refuse(11, 0);
+    }
+    read_value(caught_up(sheet, offsets, table, n, item as usize))
+}
+
+pub fn ask(sheet: &[u8], index: &[u8], table: &mut [u8], item: u64) -> Reading
+    ensures { λ r. ⌜ Asked (callOn (now (sheet .entry)) (now (index .entry)) (now (table .entry)) (machine_calls.ask item)) r (now (table .exit)) ⌝ }
+{
+    let mut offsets = [0usize; sheet::limits::ITEM_LIMIT];
+    let mut levels = [0u8; sheet::limits::ITEM_LIMIT];
+    match admission::admit(sheet, index, table, &mut offsets, &mut levels) {
+        Admitted::Refused { number, offset } => refuse(number, offset),
+        Admitted::Items(n) => ask_lent(sheet, &offsets, table, n, item),
+    }
+}

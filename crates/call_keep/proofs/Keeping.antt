@@ -1,0 +1,111 @@
+-- Keep and drop: their own tests; a figure is looked up with a memo in which nothing is remembered, and stored; a drop stores a
+-- cell. Assumes nothing.
+use Prim.Native.Nat.{ℕ, _≤_, _<_}
+use native.Mathlib.Omega.{arith}
+use mathlib.Core.Path.{_≡_, refl, sym, ap, ap₂, _∙_}
+use mathlib.Core.Bool.{Bool, true, false}
+use mathlib.Core.List.{List, [], _∷_}
+use mathlib.Core.Option.{Option, none, some}
+use lib.IntN.{ℤ}
+use lib.ListN.{length, getD}
+use borrow.Author.Tests.{leb-false, not-false}
+use Rattle.circuit.specs.Value.{Value}
+use Rattle.circuit.specs.Sheet.{Sheet, size, itemAt, isFigure}
+use Rattle.circuit.specs.Table.{Table, Cell, Mark, unk, held, upd, noticeIf}
+use Rattle.circuit.specs.Machine.{lookUp, looked, storeResult, keepFigure, keepCell, dropFigure, dropCell}
+use Rattle.circuit.specs.Calls.{keep, test, firstCause, tests, effect, noItem, drop}
+use Rattle.layout.specs.Opened.{sheetOf}
+use Rattle.word.specs.Word.{Bytes}
+use Rattle.table.specs.Rows.{row, setRow}
+use Rattle.table.specs.Record.{width, encodeCell, mayHold, decodeCell}
+use Rattle.table.specs.Bytes.{encodeTable, decodeTable, tableForm, tableLength}
+use Rattle.table.proofs.Tables.{encode-decodeTable, decode-setRow, setRow-form, record-fits}
+use Rattle.memo.specs.Memo.{Found, remembered, Memo}
+use Rattle.looking.specs.Pass.{Lent, Leaves}
+use Rattle.admission.specs.Admission.{callLent}
+use Rattle.admission.specs.Answers.{Answered, Left, wrongItem}
+use Rattle.admission.specs.declared.Answer.{Answer}
+use Rattle.admission.proofs.Admitting.{first-two, past-two, refused-answer, accepted-answer, stored-encoded}
+
+
+
+pub fresh-memo : (S : Sheet) (T : Table) (tags : List ℕ) (numbers : List ℤ) → size S ≤ 1024 → length tags ≡ 1024 → length numbers ≡ 1024
+    → ((j : ℕ) → getD tags j 0 ≡ 0) → Memo S T tags numbers 1
+unfolding remembered
+fresh-memo S T tags numbers most a b z =
+    record { tag-room = omega arith; number-room = omega arith; generations = omega arith; young = λ j. omega (arith, z j); right = nothing }
+  where
+    nothing : (j : ℕ) (f : Found) → remembered tags numbers 1 j ≡ some f → lookUp S T j ≡ looked T (f .value) (f .flag)
+    nothing j f e = let q : _≡_ {A = Option Found} none (some f) = rw (z j) at e in let bad : _≡_ {A = ℕ} 0 1 = cc in absurd (omega arith)
+
+-- ---- keeping
+
+module _ {s offsets t : List ℕ} (lent : Lent s offsets t) (i : ℕ) (low : i < size (sheetOf s)) where
+  pub kept-stored : isFigure (itemAt (sheetOf s) i) ≡ true → {tags tags′ : List ℕ} {numbers′ : List ℤ} {generation b : ℕ} (f : Found) (t₁ t₂ : List ℕ)
+      → Leaves s t tags generation b (lookUp (sheetOf s) (decodeTable t) i) f t₁ tags′ numbers′ → length t₁ ≡ length t
+      → (m : Mark) → m ≡ noticeIf (f .flag) → t₂ ≡ setRow width t₁ i (encodeCell (held (f .value) m))
+      → Left s (storeResult i (lookUp (sheetOf s) (decodeTable t) i)) t₂
+  kept-stored fig f t₁ t₂ l len m mark e =
+      let n : length t₁ ≡ tableLength (sheetOf s) = len ∙ lent .length-is in
+      let fits = record-fits (sheetOf s) t₁ i n low in
+      let holds : mayHold (isFigure (itemAt (sheetOf s) i)) (held (f .value) m) ≡ true = rw fig (l .value-formed) in
+      record {
+        table-is =
+            ap decodeTable e ∙ decode-setRow t₁ i (held (f .value) m) fits (l .value-formed)
+            ∙ ap₂ (λ T c. upd T i c) (l .table-is) (ap₂ held (l .value-is) (mark ∙ ap noticeIf (l .flag-is)));
+        formed = ap (tableForm (sheetOf s)) e ∙ setRow-form (sheetOf s) t₁ i (held (f .value) m) n (l .formed) low holds;
+      }
+
+  pub kept-held : (v : Value) (m : Mark) → decodeTable t i ≡ held v m → Left s (keepFigure (sheetOf s) (decodeTable t) i) t
+  unfolding keepFigure
+  kept-held v m e = record { table-is = sym (ap (keepCell (sheetOf s) (decodeTable t) i) e); formed = lent .formed }
+
+  pub kept-unk : (f : Bool) (t′ : List ℕ) → decodeTable t i ≡ unk f → Left s (storeResult i (lookUp (sheetOf s) (decodeTable t) i)) t′
+      → Left s (keepFigure (sheetOf s) (decodeTable t) i) t′
+  unfolding keepFigure
+  kept-unk f t′ e l = record { table-is = l .table-is ∙ sym (ap (keepCell (sheetOf s) (decodeTable t) i) e); formed = l .formed }
+
+-- a call whose tests of the item hold nothing
+both-false : (a b : Bool) (k : ℕ) → k ≡ firstCause (test 11 a ∷ test 12 b ∷ []) → k ≡ 0 → (a ≡ false) × (b ≡ false)
+unfolding firstCause
+both-false true b k e h = absurd (omega arith)
+both-false false true k e h = absurd (omega arith)
+both-false false false k e h = (refl, refl)
+
+pub cause-figure : (S : Sheet) (item cause : ℕ) → cause ≡ firstCause (test 11 (noItem S item) ∷ test 12 (wrongItem true S item) ∷ []) → cause ≡ 0
+    → (item < size S) × (isFigure (itemAt S item) ≡ true)
+cause-figure S item cause e h =
+    let p = both-false (noItem S item) (wrongItem true S item) cause e h in
+    (leb-false (size S) item (p .0), not-false (isFigure (itemAt S item)) (p .1))
+
+module _ {s offsets t : List ℕ} (lent : Lent s offsets t) (x : List ℕ) (item : ℕ) (cause : ℕ)
+    (cause-is : cause ≡ firstCause (test 11 (noItem (sheetOf s) item) ∷ test 12 (wrongItem true (sheetOf s) item) ∷ [])) (r : Answer) (offset-is : r .offset ≡ 0) where
+  pub keep-item : (cause ≡ 0 → ⊥) → r .number ≡ cause → Answered (callLent (sheetOf s) x t (keep item)) r t
+  unfolding tests
+  keep-item h n = refused-answer (sheetOf s) x t (keep item) r cause (first-two _ _ _ cause cause-is h) h n offset-is
+
+  pub keep-done : cause ≡ 0 → (t′ : List ℕ) → Bytes t′ → length t′ ≡ length t → Left s (keepFigure (sheetOf s) (decodeTable t) item) t′ → r .number ≡ 0
+      → Answered (callLent (sheetOf s) x t (keep item)) r t′
+  unfolding tests firstCause effect
+  keep-done h t′ bytes len l n =
+      let p = past-two (noItem (sheetOf s) item) (wrongItem true (sheetOf s) item) [] cause cause-is h in
+      accepted-answer (sheetOf s) x t t′ (keep item) r (p .1) n offset-is
+      (sym (encode-decodeTable (sheetOf s) t′ bytes (len ∙ lent .length-is) (l .formed)) ∙ ap (encodeTable (sheetOf s)) (l .table-is))
+
+-- ---- drop
+
+module _ {s offsets t : List ℕ} (lent : Lent s offsets t) (bytes : Bytes t) (x : List ℕ) (item : ℕ) (cause : ℕ)
+    (cause-is : cause ≡ firstCause (test 11 (noItem (sheetOf s) item) ∷ test 12 (wrongItem true (sheetOf s) item) ∷ [])) (r : Answer) (offset-is : r .offset ≡ 0) where
+  pub drop-item : (cause ≡ 0 → ⊥) → r .number ≡ cause → Answered (callLent (sheetOf s) x t (drop item)) r t
+  unfolding tests
+  drop-item h n = refused-answer (sheetOf s) x t (drop item) r cause (first-two _ _ _ cause cause-is h) h n offset-is
+
+  pub drop-stored : cause ≡ 0 → (t′ : List ℕ) (c : Cell)
+      → c ≡ dropCell (decodeCell (row width t item)) → t′ ≡ setRow width t item (encodeCell c) → r .number ≡ 0
+      → Answered (callLent (sheetOf s) x t (drop item)) r t′
+  unfolding tests firstCause effect dropFigure
+  drop-stored h t′ c f g n =
+      let p = past-two (noItem (sheetOf s) item) (wrongItem true (sheetOf s) item) [] cause cause-is h in
+      let low : item < size (sheetOf s) = leb-false (size (sheetOf s)) item (p .0) in
+      accepted-answer (sheetOf s) x t t′ (drop item) r (p .1) n offset-is
+      (g ∙ ap (λ d. setRow width t item (encodeCell d)) f ∙ stored-encoded lent bytes item _ low)

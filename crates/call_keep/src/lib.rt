@@ -1,0 +1,110 @@
+// The calls keep and drop.
+ghost use mathlib.Core.Path.{_≡_};
+ghost use mathlib.Core.Bool.{true, false};
+ghost use mathlib.Core.List.{List};
+ghost use Prim.Native.Nat.{ℕ, _<_};
+ghost use Rattle.circuit.specs.Sheet.{size, itemAt, isFigure};
+ghost use Rattle.circuit.specs.Machine as machine;
+ghost use Rattle.circuit.specs.Calls as machine_calls;
+ghost use Rattle.layout.specs.Opened.{sheetOf};
+ghost use Rattle.table.specs.Bytes.{decodeTable};
+ghost use Rattle.table.specs.Meaning.{markMeaning, cellMeaning};
+ghost use Rattle.office.specs.Office.{callOn};
+ghost use Rattle.admission.specs.Answers.{Answered, Left};
+ghost use Rattle.admission.specs.Admission.{Placing, callLent};
+ghost use Rattle.looking.specs.Pass.{Lent};
+use admission::Admitted;
+use admission::Answer;
+use table::Cell;
+use table::Mark;
+
+// Whether a dropped cell has a notice.
+fn dropped_mark(mark: Mark) -> bool
+    ensures { λ r. ⌜ r ≡ machine.droppedMark (markMeaning mark) ⌝ }
+{
+    match mark {
+        Mark::Unmarked => false,
+        Mark::Refresh => true,
+        Mark::Notice => true,
+    }
+}
+
+// The cell after a drop: a refresh becomes a notice.
+fn dropped_cell(cell: Cell) -> Cell
+    ensures { λ r. ⌜ cellMeaning r ≡ machine.dropCell (cellMeaning cell) ⌝ }
+{
+    match cell {
+        Cell::Unk(noticed) => Cell::Unk(noticed),
+        Cell::Held(_, mark) => Cell::Unk(dropped_mark(mark)),
+    }
+}
+
+fn drop_lent(sheet: &[u8], offsets: &[usize], table: &mut [u8], n: usize, item: u64) -> Answer
+    requires { ⌜ Placing (now sheet) (now offsets) n ⌝ ∗ ⌜ Lent (now sheet) (now offsets) (now table) ⌝ }
+    ensures { λ r. ⌜ ((x : List ℕ) → Answered (callLent (sheetOf (now (sheet .entry))) x (now (table .entry)) (machine_calls.drop item)) r (now (table .exit))) ⌝ }
+{
+    let cause = admission::item_cause(sheet, offsets, n, item, true);
+    if cause != 0 {
+        return admission::give(cause, 0);
+    }
+    let i = item as usize;
+    let cell = dropped_cell(table::read_cell(table, i));
+    table::store_cell(table, i, cell);
+    admission::give(0, 0)
+}
+
+pub fn drop_figure(sheet: &[u8], index: &[u8], table: &mut [u8], item: u64) -> Answer
+    ensures { λ r. ⌜ Answered (callOn (now (sheet .entry)) (now (index .entry)) (now (table .entry)) (machine_calls.drop item)) r (now (table .exit)) ⌝ }
+{
+    let mut offsets = [0usize; sheet::limits::ITEM_LIMIT];
+    let mut levels = [0u8; sheet::limits::ITEM_LIMIT];
+    match admission::admit(sheet, index, table, &mut offsets, &mut levels) {
+        Admitted::Refused { number, offset } => admission::give(number, offset),
+        Admitted::Items(n) => drop_lent(sheet, &offsets, table, n, item),
+    }
+}
+
+// A figure that is not stored is looked up and stored.
+fn keep_new(sheet: &[u8], offsets: &[usize], table: &mut [u8], i: usize)
+    requires { ⌜ Lent (now sheet) (now offsets) (now table) ⌝ ∗ ⌜ i < size (sheetOf (now sheet)) ⌝ ∗ ⌜ isFigure (itemAt (sheetOf (now sheet)) i) ≡ true ⌝ }
+    ensures { λ _. ⌜ Left (now (sheet .entry)) (machine.storeResult i (machine.lookUp (sheetOf (now (sheet .entry))) (decodeTable (now (table .entry))) i)) (now (table .exit)) ⌝ }
+{
+    let mut tags = [0u64; sheet::limits::ITEM_LIMIT];
+    let mut numbers = [0i64; sheet::limits::ITEM_LIMIT];
+    let seen = looking::look_up(sheet, offsets, table, &mut tags, &mut numbers, 1, i);
+    let value = seen.value;
+    table::store_cell(table, i, Cell::Held(value, looking::notice_if(seen.flag)));
+}
+
+fn keep_cell(sheet: &[u8], offsets: &[usize], table: &mut [u8], i: usize)
+    requires { ⌜ Lent (now sheet) (now offsets) (now table) ⌝ ∗ ⌜ i < size (sheetOf (now sheet)) ⌝ ∗ ⌜ isFigure (itemAt (sheetOf (now sheet)) i) ≡ true ⌝ }
+    ensures { λ _. ⌜ Left (now (sheet .entry)) (machine.keepFigure (sheetOf (now (sheet .entry))) (decodeTable (now (table .entry))) i) (now (table .exit)) ⌝ }
+{
+    match table::read_cell(table, i) {
+        Cell::Held(_, _) => {}
+        Cell::Unk(_) => keep_new(sheet, offsets, table, i),
+    }
+}
+
+fn keep_lent(sheet: &[u8], offsets: &[usize], table: &mut [u8], n: usize, item: u64) -> Answer
+    requires { ⌜ Placing (now sheet) (now offsets) n ⌝ ∗ ⌜ Lent (now sheet) (now offsets) (now table) ⌝ }
+    ensures { λ r. ⌜ ((x : List ℕ) → Answered (callLent (sheetOf (now (sheet .entry))) x (now (table .entry)) (machine_calls.keep item)) r (now (table .exit))) ⌝ }
+{
+    let cause = admission::item_cause(sheet, offsets, n, item, true);
+    if cause != 0 {
+        return admission::give(cause, 0);
+    }
+    keep_cell(sheet, offsets, table, item as usize);
+    admission::give(0, 0)
+}
+
+pub fn keep(sheet: &[u8], index: &[u8], table: &mut [u8], item: u64) -> Answer
+    ensures { λ r. ⌜ Answered (callOn (now (sheet .entry)) (now (index .entry)) (now (table .entry)) (machine_calls.keep item)) r (now (table .exit)) ⌝ }
+{
+    let mut offsets = [0usize; sheet::limits::ITEM_LIMIT];
+    let mut levels = [0u8; sheet::limits::ITEM_LIMIT];
+    match admission::admit(sheet, index, table, &mut offsets, &mut levels) {
+        Admitted::Refused { number, offset } => admission::give(number, offset),
+        Admitted::Items(n) => keep_lent(sheet, &offsets, table, n, item),
+    }
+}

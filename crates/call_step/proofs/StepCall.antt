@@ -1,0 +1,72 @@
+-- Step: its own tests, and what it leaves. Assumes nothing.
+use Prim.Native.Nat.{ℕ, _≤_, _<_}
+use native.Mathlib.Omega.{arith}
+use mathlib.Core.Path.{_≡_, refl, sym, ap, subst, _∙_}
+use mathlib.Core.Bool.{Bool, true, false, cond, not}
+use mathlib.Core.List.{List, [], _∷_}
+use lib.Dec.{leb}
+use lib.ListN.{length}
+use borrow.Author.Tests.{le-leb, lt-leb, leb-false}
+use Rattle.circuit.specs.Sheet.{size}
+use Rattle.circuit.specs.Table.{Table, isMarked, isNotice, markOf}
+use Rattle.circuit.specs.Machine.{tell, clearMark, stepItem}
+use Rattle.circuit.specs.Calls.{step, test, firstCause, tests, effect, noMark}
+use Rattle.layout.specs.Opened.{sheetOf}
+use Rattle.word.specs.Word.{Bytes}
+use Rattle.table.specs.Bytes.{encodeTable, decodeTable}
+use Rattle.table.proofs.Tables.{encode-decodeTable}
+use Rattle.looking.specs.Pass.{Lent}
+use Rattle.admission.specs.Admission.{callLent}
+use Rattle.admission.specs.Answers.{Answered, Left}
+use Rattle.admission.specs.declared.Answer.{Answer}
+use Rattle.admission.proofs.Admitting.{refused-answer, accepted-answer}
+use Rattle.stepping.proofs.Stepping.{noticed-step}
+
+-- ---- step
+
+abbrev markAt : Bool → ℕ
+markAt true = 0
+markAt false = 14
+
+module _ (T : Table) (n item : ℕ) where
+  pub mark-beyond : n ≤ item → 11 ≡ firstCause (test 11 (leb n item) ∷ test 14 (noMark T item) ∷ [])
+  unfolding firstCause
+  mark-beyond h = rw (le-leb n item h)
+
+  pub mark-within : (b bv : Bool) → item < n → b ≡ isMarked (T item) → b ≡ bv → markAt bv ≡ firstCause (test 11 (leb n item) ∷ test 14 (noMark T item) ∷ [])
+  unfolding firstCause
+  mark-within b bv h e q = rw (lt-leb n item h) (go bv ∙ ap (λ w. cond (not w) 14 0) (sym q ∙ e))
+    where
+      go : (w : Bool) → markAt w ≡ cond (not w) 14 0
+      go true = refl
+      go false = refl
+
+past-mark : (a b : Bool) (k : ℕ) → k ≡ firstCause (test 11 a ∷ test 14 b ∷ []) → k ≡ 0 → a ≡ false
+unfolding firstCause
+past-mark true b k e h = absurd (omega arith)
+past-mark false b k e h = refl
+
+pub mark-low : (T : Table) (n item cause : ℕ) → cause ≡ firstCause (test 11 (leb n item) ∷ test 14 (noMark T item) ∷ []) → cause ≡ 0 → item < n
+mark-low T n item cause e h = leb-false n item (past-mark (leb n item) (noMark T item) cause e h)
+
+module _ {s offsets t : List ℕ} (lent : Lent s offsets t) (x : List ℕ) (n item cause : ℕ) (count-is : n ≡ size (sheetOf s))
+    (cause-is : cause ≡ firstCause (test 11 (leb n item) ∷ test 14 (noMark (decodeTable t) item) ∷ [])) (r : Answer) (offset-is : r .offset ≡ 0) where
+  step-cause : firstCause (tests (sheetOf s) (decodeTable t) (step item)) ≡ cause
+  unfolding tests
+  step-cause = sym (cause-is ∙ ap (λ m. firstCause (test 11 (leb m item) ∷ test 14 (noMark (decodeTable t) item) ∷ [])) count-is)
+
+  pub step-refused : (cause ≡ 0 → ⊥) → r .number ≡ cause → Answered (callLent (sheetOf s) x t (step item)) r t
+  step-refused h k = refused-answer (sheetOf s) x t (step item) r cause step-cause h k offset-is
+
+  pub step-done : cause ≡ 0 → (t′ : List ℕ) → Bytes t′ → length t′ ≡ length t → Left s (stepItem (sheetOf s) (decodeTable t) item) t′ → r .number ≡ 0
+      → Answered (callLent (sheetOf s) x t (step item)) r t′
+  unfolding effect
+  step-done h t′ bytes len l k =
+      accepted-answer (sheetOf s) x t t′ (step item) r (step-cause ∙ h) k offset-is
+      (sym (encode-decodeTable (sheetOf s) t′ bytes (len ∙ lent .length-is) (l .formed)) ∙ ap (encodeTable (sheetOf s)) (l .table-is))
+
+-- the step of a notice, from what telling and clearing leave
+pub left-noticed : (s t : List ℕ) (i : ℕ) (b : Bool) → b ≡ isNotice (markOf (decodeTable t i)) → b ≡ true → (t₂ : List ℕ)
+    → Left s (clearMark (tell (sheetOf s) (decodeTable t) i) i) t₂ → Left s (stepItem (sheetOf s) (decodeTable t) i) t₂
+left-noticed s t i b tests e t₂ left =
+    subst (λ U. Left s U t₂) (sym (noticed-step (sheetOf s) (decodeTable t) i (sym tests ∙ e))) left

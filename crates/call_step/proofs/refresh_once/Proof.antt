@@ -1,0 +1,36 @@
+-- `calls::refresh_once` meets its contract. Assumes nothing.
+use mathlib.Core.Path.{refl}
+use Rattle.stepping.proofs.Starting.{same-all, fresh-ready}
+use borrow.Author.Needs.{needs}
+use Rattle.call_step.proofs.refresh_once.Statement.{statement}
+use Rattle.call_step.proofs.refresh_once.Tie as tie
+
+slice-aggregate-step-refresh : tie.Need-slice-aggregate-step-refresh
+slice-aggregate-step-refresh c = search needs
+
+slice-aggregate-step-refresh-2 : tie.Need-slice-aggregate-step-refresh-2
+slice-aggregate-step-refresh-2 c = search needs
+
+step-refresh-requires : tie.Need-step-refresh-requires
+step-refresh-requires c κs =
+    let a = c .before .before .before .before .before .before .args in
+    let p = c .before .before .before .before .before .before .pre in
+    (p .0, (fresh-ready (a .sheet .now) _ _ refl refl (same-all 0 1024), (p .1 .0, p .1 .1)))
+
+same-length : tie.Need-same-length
+same-length c = search needs
+
+returns : tie.Need-returns
+returns c =
+    let e = c .before .before .before .before .step-refresh .ensures in
+    record { table-is = e .table-is; formed = e .formed }
+
+pub refresh-once-spec : {M : Type 1} → statement M
+refresh-once-spec =
+    tie.close
+    (tie.spec
+    slice-aggregate-step-refresh
+    slice-aggregate-step-refresh-2
+    step-refresh-requires
+    same-length
+    returns)

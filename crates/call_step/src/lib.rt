@@ -1,0 +1,104 @@
+// The call step.
+ghost use mathlib.Core.Path.{_≡_};
+ghost use mathlib.Core.Bool.{false};
+ghost use mathlib.Core.List.{List, [], _∷_};
+ghost use Prim.Native.Nat.{ℕ, _*_, _<_};
+ghost use lib.ListN.{length};
+ghost use Rattle.circuit.specs.Sheet.{size};
+ghost use lib.Dec.{leb};
+ghost use Rattle.circuit.specs.Machine as machine;
+ghost use Rattle.circuit.specs.Calls as machine_calls;
+ghost use Rattle.circuit.specs.Calls.{firstCause, test};
+ghost use Rattle.circuit.specs.Table.{markOf, isNotice};
+ghost use Rattle.layout.specs.Opened.{sheetOf};
+ghost use Rattle.table.specs.Record.{width};
+ghost use Rattle.table.specs.Bytes.{decodeTable};
+ghost use Rattle.office.specs.Office.{callOn};
+ghost use Rattle.admission.specs.Answers.{Answered, Left};
+ghost use Rattle.admission.specs.Admission.{Placing, callLent};
+ghost use Rattle.looking.specs.Pass.{Lent};
+use admission::Admitted;
+use admission::Answer;
+
+// 11 where there is no such item, 14 where it has no mark; 0 otherwise.
+fn mark_cause(table: &[u8], n: usize, item: u64) -> u64
+    requires { ⌜ length (now table) ≡ width * n ⌝ }
+    ensures { λ r. ⌜ r ≡ firstCause (test 11 (leb n item) ∷ test 14 (machine_calls.noMark (decodeTable (now (table .entry))) item) ∷ []) ⌝ }
+{
+    if item >= n as u64 {
+        return 11;
+    }
+    if table::is_marked(table, item as usize) {
+        0
+    } else {
+        14
+    }
+}
+
+// The step of a notice: the children are told by their list.
+fn notice_once(sheet: &[u8], offsets: &[usize], table: &mut [u8], n: usize, i: usize)
+    requires { ⌜ Lent (now sheet) (now offsets) (now table) ⌝ ∗ ⌜ n ≡ size (sheetOf (now sheet)) ⌝ ∗ ⌜ i < n ⌝ }
+    ensures { λ _. ⌜ Left (now (sheet .entry)) (machine.clearMark (machine.tell (sheetOf (now (sheet .entry))) (decodeTable (now (table .entry))) i) i) (now (table .exit)) ⌝ }
+{
+    let mut tags = [0u64; sheet::limits::ITEM_LIMIT];
+    let mut numbers = [0i64; sheet::limits::ITEM_LIMIT];
+    let mut heads = [0u16; sheet::limits::ITEM_LIMIT];
+    let mut links = [0u16; children::EDGE_LIMIT];
+    children::link(sheet, offsets, n, &mut heads, &mut links);
+    stepping::tell_and_clear(
+        sheet,
+        offsets,
+        table,
+        &mut tags,
+        &mut numbers,
+        &heads,
+        &links,
+        1,
+        i,
+    );
+}
+
+// The step of a refresh.
+fn refresh_once(sheet: &[u8], offsets: &[usize], table: &mut [u8], i: usize)
+    requires { ⌜ Lent (now sheet) (now offsets) (now table) ⌝ ∗ ⌜ i < size (sheetOf (now sheet)) ⌝ ∗ ⌜ isNotice (markOf (decodeTable (now table) i)) ≡ false ⌝ }
+    ensures { λ _. ⌜ Left (now (sheet .entry)) (machine.stepItem (sheetOf (now (sheet .entry))) (decodeTable (now (table .entry))) i) (now (table .exit)) ⌝ }
+{
+    let mut tags = [0u64; sheet::limits::ITEM_LIMIT];
+    let mut numbers = [0i64; sheet::limits::ITEM_LIMIT];
+    stepping::step_refresh(sheet, offsets, table, &mut tags, &mut numbers, 1, i);
+}
+
+// One step.
+fn step_once(sheet: &[u8], offsets: &[usize], table: &mut [u8], n: usize, i: usize)
+    requires { ⌜ Lent (now sheet) (now offsets) (now table) ⌝ ∗ ⌜ n ≡ size (sheetOf (now sheet)) ⌝ ∗ ⌜ i < n ⌝ }
+    ensures { λ _. ⌜ Left (now (sheet .entry)) (machine.stepItem (sheetOf (now (sheet .entry))) (decodeTable (now (table .entry))) i) (now (table .exit)) ⌝ }
+{
+    if table::is_noticed(table, i) {
+        notice_once(sheet, offsets, table, n, i);
+    } else {
+        refresh_once(sheet, offsets, table, i);
+    }
+}
+
+fn step_lent(sheet: &[u8], offsets: &[usize], table: &mut [u8], n: usize, item: u64) -> Answer
+    requires { ⌜ Placing (now sheet) (now offsets) n ⌝ ∗ ⌜ Lent (now sheet) (now offsets) (now table) ⌝ }
+    ensures { λ r. ⌜ ((x : List ℕ) → Answered (callLent (sheetOf (now (sheet .entry))) x (now (table .entry)) (machine_calls.step item)) r (now (table .exit))) ⌝ }
+{
+    let cause = mark_cause(table, n, item);
+    if cause != 0 {
+        return admission::give(cause, 0);
+    }
+    step_once(sheet, offsets, table, n, item as usize);
+    admission::give(0, 0)
+}
+
+pub fn step(sheet: &[u8], index: &[u8], table: &mut [u8], item: u64) -> Answer
+    ensures { λ r. ⌜ Answered (callOn (now (sheet .entry)) (now (index .entry)) (now (table .entry)) (machine_calls.step item)) r (now (table .exit)) ⌝ }
+{
+    let mut offsets = [0usize; sheet::limits::ITEM_LIMIT];
+    let mut levels = [0u8; sheet::limits::ITEM_LIMIT];
+    match admission::admit(sheet, index, table, &mut offsets, &mut levels) {
+        Admitted::Refused { number, offset } => admission::give(number, offset),
+        Admitted::Items(n) => step_lent(sheet, &offsets, table, n, item),
+    }
+}

@@ -1,0 +1,56 @@
+// Catching up: the lowest marked item is stepped until none is marked.
+ghost use mathlib.Core.Path.{_≡_};
+ghost use Prim.Native.Nat.{_*_, _<_};
+ghost use Rattle.circuit.specs.Sheet.{size};
+ghost use Rattle.circuit.specs.Machine as machine;
+ghost use Rattle.layout.specs.Opened.{sheetOf};
+ghost use Rattle.table.specs.Bytes.{decodeTable, LowestMarked};
+ghost use Rattle.looking.specs.Pass.{Lent};
+ghost use Rattle.stepping.specs.Stepping.{Ready, Steps};
+
+// Steps until no item is marked, from the lowest on.
+fn catch_up_from(
+    sheet: &[u8],
+    offsets: &[usize],
+    table: &mut [u8],
+    tags: &mut [u64],
+    numbers: &mut [i64],
+    first: usize,
+    n: usize,
+)
+    requires { ⌜ Lent (now sheet) (now offsets) (now table) ⌝ ∗ ⌜ Ready (now sheet) (now tags) (now numbers) 1 ⌝ ∗ ⌜ n ≡ size (sheetOf (now sheet)) ⌝ ∗ ⌜ LowestMarked (decodeTable (now table)) n first ⌝ ∗ ⌜ first < n ⌝ }
+    ensures { λ _. ⌜ Steps (now (sheet .entry)) (2 * n) (machine.catchUp (sheetOf (now (sheet .entry))) (decodeTable (now (table .entry)))) (now (table .exit)) (now (tags .exit)) ⌝ }
+{
+    let mut heads = [0u16; sheet::limits::ITEM_LIMIT];
+    let mut links = [0u16; children::EDGE_LIMIT];
+    children::link(sheet, offsets, n, &mut heads, &mut links);
+    stepping::catch_up(
+        sheet,
+        offsets,
+        table,
+        tags,
+        numbers,
+        &heads,
+        &links,
+        first,
+        n,
+    );
+}
+
+// Steps until no item is marked. The child lists are built only where one is.
+pub fn catch_up(
+    sheet: &[u8],
+    offsets: &[usize],
+    table: &mut [u8],
+    tags: &mut [u64],
+    numbers: &mut [i64],
+    n: usize,
+)
+    requires { ⌜ Lent (now sheet) (now offsets) (now table) ⌝ ∗ ⌜ Ready (now sheet) (now tags) (now numbers) 1 ⌝ ∗ ⌜ n ≡ size (sheetOf (now sheet)) ⌝ }
+    ensures { λ _. ⌜ Steps (now (sheet .entry)) (2 * n) (machine.catchUp (sheetOf (now (sheet .entry))) (decodeTable (now (table .entry)))) (now (table .exit)) (now (tags .exit)) ⌝ }
+{
+    let first = table::lowest_marked(table, n);
+    if first < n {
+        catch_up_from(sheet, offsets, table, tags, numbers, first, n);
+    }
+}

@@ -1,0 +1,43 @@
+-- `day::run::reading_line` meets its contract. Assumes nothing.
+use mathlib.Core.Path.{sym, ap, _∙_}
+use mir.Syntax.{w64}
+use mir.ValLaws.{toZ-ofZ}
+use Rattle.printer.specs.Printing.{textOf}
+use Rattle.value.specs.Meaning.{partsOf}
+use Rattle.day_meaning.specs.Lines.{askLine}
+use Rattle.day_meaning.specs.Day.{readingLine}
+use Rattle.day_meaning.proofs.Storing.{appended-as}
+use Rattle.day_meaning.proofs.Playing.{reading-refused}
+use borrow.Author.Needs.{needs}
+use Rattle.day.proofs.reading_line.Statement.{statement}
+use Rattle.day.proofs.reading_line.Tie as tie
+
+ask-line-requires : tie.Need-ask-line-requires
+ask-line-requires c κs = search needs
+
+same-length : tie.Need-same-length
+same-length c = search needs
+
+returns : tie.Need-returns
+returns c =
+    let call = c .before .before in
+    let start = call .before .before .before .before .before .before in
+    appended-as (ap (λ z. askLine (start .args .item) (textOf (partsOf (start .args .r .kind) z))) (toZ-ofZ w64 (start .args .r .value) (record { sfits = call .before .struct-told .given .1 .1 .1 .0 .1 }))
+    ∙ ap (λ n. readingLine (start .args .item) n (textOf (partsOf (start .args .r .kind) (start .args .r .value)))) (sym (call .before .before .before .if1 .taken)))
+    (call .ask-line .ensures)
+
+no-line-requires : tie.Need-no-line-requires
+no-line-requires c κs = search needs
+
+same-length-2 : tie.Need-same-length-2
+same-length-2 c = search needs
+
+returns-2 : tie.Need-returns-2
+returns-2 c =
+    let call = c .before .before in
+    appended-as (reading-refused _ _ _ (call .before .before .if1 .left)) (call .no-line .ensures)
+
+pub reading-line-spec : {M : Type 1} → statement M
+reading-line-spec =
+    tie.close
+    (tie.spec ask-line-requires same-length returns no-line-requires same-length-2 returns-2)

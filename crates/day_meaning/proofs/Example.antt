@@ -1,0 +1,61 @@
+-- The example of a day: its whole output, computed from the definition. Assumes nothing.
+use Prim.Native.Nat.{ℕ}
+use mathlib.Core.Path.{_≡_, refl}
+use mathlib.Core.List.{List, [], _∷_}
+use Rattle.circuit.specs.Calls.{postedValue, firstCause, tests, effect}
+use Rattle.circuit.specs.Machine.{gather, workOut, lookFor, lookUp, work, storePosting, keepFigure, dropFigure, tellChild, tellBelow, tell, clearMark, stepItem, lowestMarked, catchUpIn, catchUp}
+use Rattle.circuit.specs.Rules.{coded, maxParents, oneOrMore, countAllowed as parentsAllowed, operationOf, numbers, total, least, greatest, whole, anyOut, apply}
+use Rattle.circuit.specs.Sheet.{member}
+use Rattle.circuit.specs.Value.{limit, inRange}
+use Rattle.layout.specs.Index.{indexWidth, indexBytes}
+use Rattle.layout.specs.Layout.{editionKnown, itemLimit, countAllowed, levelLimit, keepAllowed, spreadAllowed, nameLimit, all, nameAllowed, highest, spreadMeant, machineItem}
+use Rattle.layout.specs.Read.{parentsIn, itemIn, lengthOrName, headTests, itemTests, lastTests, scan, scanSheet, readSheet}
+use Rattle.layout.specs.Write.{concat}
+use Rattle.table.specs.Bytes.{encodeTable, tableForm}
+use Rattle.table.specs.Record.{encodeCell, decodeCell, codesForm, numberForm, recordForm}
+use Rattle.table.specs.Rows.{rowsBelow, allBelow}
+use Rattle.word.specs.Word.{leAt, leBytes}
+use Rattle.field.specs.Field.{cutAt}
+use Rattle.printer.specs.Decimal.{digitsUpTo, digits, decimal}
+use Rattle.value.specs.Meaning.{partsOf}
+use Rattle.office.specs.Office.{callOn, openOn}
+use Rattle.item.specs.Offsets.{sameBytes}
+use Rattle.day_meaning.specs.Day.{playFrom, itemCount, dayOn, runDay}
+use Rattle.day_meaning.specs.Orders.{postIn, callIn, orderOf}
+
+-- five items: A, L and S are entries, T is the sum of A and S, B is T minus L
+abbrev pub exampleSheet : List ℕ
+exampleSheet =
+    1 ∷ 4 ∷ 0 ∷ 1 ∷ 0 ∷ 5 ∷ 0 ∷ 2 ∷ 1 ∷ 0 ∷ 65 ∷ 2 ∷ 1 ∷ 0 ∷ 76 ∷ 2
+    ∷ 1 ∷ 0 ∷ 83 ∷ 3 ∷ 9 ∷ 0 ∷ 1 ∷ 1 ∷ 0 ∷ 2 ∷ 0 ∷ 0 ∷ 2 ∷ 0 ∷ 84 ∷ 3
+    ∷ 9 ∷ 0 ∷ 2 ∷ 0 ∷ 0 ∷ 2 ∷ 3 ∷ 0 ∷ 1 ∷ 0 ∷ 66 ∷ 4 ∷ 0 ∷ 0 ∷ []
+
+-- post 0 with 1000, post 1 with 300, ask 4, post 2 with -200, ask 4, drop 0, ask 9
+abbrev pub exampleDay : List ℕ
+exampleDay =
+    16 ∷ 11 ∷ 0 ∷ 0 ∷ 0 ∷ 3 ∷ 232 ∷ 3 ∷ 0 ∷ 0 ∷ 0 ∷ 0 ∷ 0 ∷ 0 ∷ 16 ∷ 11
+    ∷ 0 ∷ 1 ∷ 0 ∷ 3 ∷ 44 ∷ 1 ∷ 0 ∷ 0 ∷ 0 ∷ 0 ∷ 0 ∷ 0 ∷ 17 ∷ 2 ∷ 0 ∷ 4
+    ∷ 0 ∷ 16 ∷ 11 ∷ 0 ∷ 2 ∷ 0 ∷ 3 ∷ 56 ∷ 255 ∷ 255 ∷ 255 ∷ 255 ∷ 255 ∷ 255 ∷ 255 ∷ 17
+    ∷ 2 ∷ 0 ∷ 4 ∷ 0 ∷ 19 ∷ 2 ∷ 0 ∷ 0 ∷ 0 ∷ 17 ∷ 2 ∷ 0 ∷ 9 ∷ 0 ∷ []
+
+abbrev zeros20 : List ℕ
+zeros20 = 0 ∷ 0 ∷ 0 ∷ 0 ∷ 0 ∷ 0 ∷ 0 ∷ 0 ∷ 0 ∷ 0 ∷ 0 ∷ 0 ∷ 0 ∷ 0 ∷ 0 ∷ 0
+    ∷ 0 ∷ 0 ∷ 0 ∷ 0 ∷ []
+
+abbrev zeros50 : List ℕ
+zeros50 =
+    0 ∷ 0 ∷ 0 ∷ 0 ∷ 0 ∷ 0 ∷ 0 ∷ 0 ∷ 0 ∷ 0 ∷ 0 ∷ 0 ∷ 0 ∷ 0 ∷ 0 ∷ 0
+    ∷ 0 ∷ 0 ∷ 0 ∷ 0 ∷ 0 ∷ 0 ∷ 0 ∷ 0 ∷ 0 ∷ 0 ∷ 0 ∷ 0 ∷ 0 ∷ 0 ∷ 0 ∷ 0
+    ∷ 0 ∷ 0 ∷ 0 ∷ 0 ∷ 0 ∷ 0 ∷ 0 ∷ 0 ∷ 0 ∷ 0 ∷ 0 ∷ 0 ∷ 0 ∷ 0 ∷ 0 ∷ 0
+    ∷ 0 ∷ 0 ∷ []
+
+-- OK, OK, ASK 4 700, OK, ASK 4 500, NO 12, NO 11
+abbrev pub exampleOutput : List ℕ
+exampleOutput =
+    79 ∷ 75 ∷ 10 ∷ 79 ∷ 75 ∷ 10 ∷ 65 ∷ 83 ∷ 75 ∷ 32 ∷ 52 ∷ 32 ∷ 55 ∷ 48 ∷ 48 ∷ 10
+    ∷ 79 ∷ 75 ∷ 10 ∷ 65 ∷ 83 ∷ 75 ∷ 32 ∷ 52 ∷ 32 ∷ 53 ∷ 48 ∷ 48 ∷ 10 ∷ 78 ∷ 79 ∷ 32
+    ∷ 49 ∷ 50 ∷ 10 ∷ 78 ∷ 79 ∷ 32 ∷ 49 ∷ 49 ∷ 10 ∷ []
+
+pub example : runDay exampleSheet exampleDay zeros20 zeros50 .text ≡ exampleOutput
+unfolding partsOf postedValue firstCause tests effect gather workOut lookFor lookUp work storePosting keepFigure dropFigure tellChild tellBelow tell clearMark stepItem lowestMarked catchUpIn catchUp coded maxParents oneOrMore parentsAllowed operationOf numbers total least greatest whole anyOut apply member limit inRange indexWidth indexBytes editionKnown itemLimit countAllowed levelLimit keepAllowed spreadAllowed nameLimit all nameAllowed highest spreadMeant machineItem parentsIn itemIn lengthOrName headTests itemTests lastTests scan scanSheet readSheet concat encodeTable tableForm encodeCell decodeCell codesForm numberForm recordForm rowsBelow allBelow leAt leBytes cutAt digitsUpTo digits decimal sameBytes callOn openOn playFrom itemCount dayOn runDay postIn callIn orderOf
+example = refl

@@ -1,0 +1,206 @@
+-- How long a day's text is: at most 6 bytes for each byte of the log, and 13 more. Assumes nothing.
+use Prim.Native.Nat.{ℕ, zero, suc, _+_, _-_, _*_, _≤_, _<_}
+use mathlib.Core.Path.{_≡_, refl, sym, ap, _∙_}
+use mathlib.Core.Bool.{Bool, true, false, cond, _&&_}
+use mathlib.Core.List.{List, [], _∷_, _++_}
+use mathlib.Core.Option.{Option, none, some}
+use native.Mathlib.Omega.{arith}
+use borrow.Author.Tests.{eqb-true}
+use lib.Dec.{eqb}
+use lib.ListN.{length, getD, length-append, length-take}
+use lib.ListN
+use lib.Seq.{getD-take, getD-drop}
+use Rattle.circuit.specs.Offices.{bare}
+use Rattle.circuit.specs.Calls.{Call, post, keep, drop, step, ask, Test, test, firstCause, tests, Outcome, effect}
+use Rattle.field.specs.Field.{cutAt, Bytes}
+use Rattle.field.specs.declared.Cut.{Cut}
+use Rattle.field.specs.declared.Cut.the-variants.{Field, Short, Absent}
+use Rattle.field.proofs.Cutting.{FieldAt, field-iff, le16-small}
+use Rattle.layout.specs.Read.{Placed, opens, readSheet, contentAt}
+use Rattle.layout.specs.Opened.{sheetRead}
+use Rattle.table.specs.Bytes.{decodeTable}
+use Rattle.office.specs.Office.{Given, openOn, callOn, callTests, unlessRefused, effectOn}
+use Rattle.office.proofs.Demands.{opening-opens}
+use Rattle.printer.specs.Decimal.{digits}
+use Rattle.printer.specs.Printing.{textOf}
+use Rattle.value.specs.Meaning.{partsOf}
+use Rattle.printer.proofs.Digits.{length-at-most}
+use Rattle.printer.proofs.Meaning.{part-small}
+use Rattle.day_meaning.specs.Lines.{noLine, askLine, space, lineEnd}
+use Rattle.day_meaning.specs.Orders.{itemIn, kindIn, numberIn, kindAllowed, postIn, callIn, orderOf}
+use Rattle.day_meaning.specs.Day.{answerLine, readingLine, lineOf, faultLine, playFrom, dayOn}
+use Rattle.day_meaning.proofs.Storing.{part-whole}
+use Rattle.day_meaning.proofs.Playing.{play-absent, play-short, play-fault, play-call}
+
+abbrev itemOf : Call → ℕ
+itemOf (post i kind z) = i
+itemOf (keep i) = i
+itemOf (drop i) = i
+itemOf (step i) = i
+itemOf (ask i) = i
+
+-- a field that orders a call has at least 2 bytes, the first of which are the item
+pub record Ordering (content : List ℕ) (c : Call) : Type 0 where
+  pub two : 2 ≤ length content
+  pub item : itemOf c ≡ itemIn content
+
+call-ordering : (call : ℕ → Call) (content : List ℕ) (c : Call) → ((i : ℕ) → itemOf (call i) ≡ i) → callIn call content ≡ some c → Ordering content c
+unfolding callIn
+call-ordering call content c named = go (eqb (length content) 2) refl
+  where
+    go : (b : Bool) → eqb (length content) 2 ≡ b → cond b (some (call (itemIn content))) none ≡ some c → Ordering content c
+    go true e h =
+        let two : length content ≡ 2 = eqb-true (length content) 2 e in
+        let same : call (itemIn content) ≡ c = cc in
+        record { two = omega arith; item = ap itemOf (sym same) ∙ named (itemIn content) }
+    go false e h = let z : _≡_ {A = ℕ} 0 1 = cc in absurd (omega arith)
+
+post-ordering : (content : List ℕ) (c : Call) → postIn content ≡ some c → Ordering content c
+unfolding postIn
+post-ordering content c = go (eqb (length content) 11) (kindAllowed (kindIn content) (numberIn content)) refl
+  where
+    go : (b k : Bool) → eqb (length content) 11 ≡ b → cond (b && k) (some (post (itemIn content) (kindIn content) (numberIn content))) none ≡ some c → Ordering content c
+    go true true e h =
+        let eleven : length content ≡ 11 = eqb-true (length content) 11 e in
+        let same : post (itemIn content) (kindIn content) (numberIn content) ≡ c = cc in
+        record { two = omega arith; item = ap itemOf (sym same) }
+    go true false e h = let z : _≡_ {A = ℕ} 0 1 = cc in absurd (omega arith)
+    go false true e h = let z : _≡_ {A = ℕ} 0 1 = cc in absurd (omega arith)
+    go false false e h = let z : _≡_ {A = ℕ} 0 1 = cc in absurd (omega arith)
+
+ordering : (tag : ℕ) (content : List ℕ) (c : Call) → orderOf tag content ≡ some c → Ordering content c
+unfolding orderOf
+ordering tag content c = a (eqb tag 16) (eqb tag 17) (eqb tag 18) (eqb tag 19) (eqb tag 20)
+  where
+    e : (b : Bool) → cond b (callIn step content) none ≡ some c → Ordering content c
+    e true h = call-ordering step content c (λ i. refl) h
+    e false h = let z : _≡_ {A = ℕ} 0 1 = cc in absurd (omega arith)
+
+    d : (b b₅ : Bool) → cond b (callIn drop content) (cond b₅ (callIn step content) none) ≡ some c → Ordering content c
+    d true b₅ h = call-ordering drop content c (λ i. refl) h
+    d false b₅ h = e b₅ h
+
+    k : (b b₄ b₅ : Bool) → cond b (callIn keep content) (cond b₄ (callIn drop content) (cond b₅ (callIn step content) none)) ≡ some c → Ordering content c
+    k true b₄ b₅ h = call-ordering keep content c (λ i. refl) h
+    k false b₄ b₅ h = d b₄ b₅ h
+
+    q : (b b₃ b₄ b₅ : Bool) → cond b (callIn ask content) (cond b₃ (callIn keep content) (cond b₄ (callIn drop content) (cond b₅ (callIn step content) none))) ≡ some c → Ordering content c
+    q true b₃ b₄ b₅ h = call-ordering ask content c (λ i. refl) h
+    q false b₃ b₄ b₅ h = k b₃ b₄ b₅ h
+
+    a : (b b₂ b₃ b₄ b₅ : Bool)
+        → cond b (postIn content) (cond b₂ (callIn ask content) (cond b₃ (callIn keep content) (cond b₄ (callIn drop content) (cond b₅ (callIn step content) none)))) ≡ some c
+        → Ordering content c
+    a true b₂ b₃ b₄ b₅ h = post-ordering content c h
+    a false b₂ b₃ b₄ b₅ h = q b₂ b₃ b₄ b₅ h
+
+-- the numbers of a call's refusals
+cause-at-most : (k : ℕ) (b : Bool) (ts : List Test) → k ≤ 14 → firstCause ts ≤ 14 → firstCause (test k b ∷ ts) ≤ 14
+unfolding firstCause
+cause-at-most k true ts h r = h
+cause-at-most k false ts h r = r
+
+no-cause : firstCause [] ≤ 14
+unfolding firstCause
+no-cause = omega arith
+
+number-at-most : (s x t : List ℕ) (c : Call) (edition : ℕ) (ps : List Placed) → readSheet s ≡ opens edition ps → callOn s x t c .number ≤ 14
+unfolding callOn tests
+number-at-most s x t c edition ps r = rw r (given (firstCause (callTests (sheetRead edition ps) ps x t c)) (all c) (effect (sheetRead edition ps) (decodeTable t) c))
+  where
+    own : (c : Call) → firstCause (tests (sheetRead edition ps) (decodeTable t) c) ≤ 14
+    own (post i kind z) = cause-at-most 11 _ _ (omega arith) (cause-at-most 12 _ _ (omega arith) (cause-at-most 13 _ _ (omega arith) no-cause))
+    own (keep i) = cause-at-most 11 _ _ (omega arith) (cause-at-most 12 _ _ (omega arith) no-cause)
+    own (drop i) = cause-at-most 11 _ _ (omega arith) (cause-at-most 12 _ _ (omega arith) no-cause)
+    own (step i) = cause-at-most 11 _ _ (omega arith) (cause-at-most 14 _ _ (omega arith) no-cause)
+    own (ask i) = cause-at-most 11 _ _ (omega arith) no-cause
+
+    all : (c : Call) → firstCause (callTests (sheetRead edition ps) ps x t c) ≤ 14
+    all c = cause-at-most 8 _ _ (omega arith) (cause-at-most 9 _ _ (omega arith) (cause-at-most 10 _ _ (omega arith) (own c)))
+
+    given : (m : ℕ) → m ≤ 14 → (o : Outcome) → unlessRefused m x t (effectOn (sheetRead edition ps) x o) .number ≤ 14
+    given zero h o = omega arith
+    given (suc m) h o = h
+
+-- the lines
+text-small : (kind : ℕ) (z : _) → length (textOf (partsOf kind z)) ≤ 19
+text-small kind z = rw (sym (part-whole kind 20 z z refl refl)) (part-small kind z 20)
+
+no-line-short : (n : ℕ) → n ≤ 14 → length (noLine n) ≤ 30
+no-line-short n h = rw (length-append (digits n) lineEnd) (omega (arith, length-at-most 1 n (omega arith)))
+
+answer-short : (n : ℕ) → n ≤ 14 → length (answerLine n) ≤ 30
+answer-short zero h = omega arith
+answer-short (suc n) h = no-line-short (suc n) h
+
+ask-line-short : (i : ℕ) (text : List ℕ) → i < 65536 → length text ≤ 19 → length (askLine i text) ≤ 30
+ask-line-short i text h k =
+    rw (length-append (digits i) (space ++ (text ++ lineEnd)), length-append text lineEnd) (omega (arith, length-at-most 4 i (omega arith)))
+
+reading-short : (i n : ℕ) (text : List ℕ) → i < 65536 → length text ≤ 19 → n ≤ 14 → length (readingLine i n text) ≤ 30
+reading-short i zero text a b h = ask-line-short i text a b
+reading-short i (suc n) text a b h = no-line-short (suc n) h
+
+line-short : (c : Call) (g : Given) → g .number ≤ 14 → itemOf c < 65536 → length (lineOf c g) ≤ 30
+line-short (post i kind z) g h k = answer-short (g .number) h
+line-short (keep i) g h k = answer-short (g .number) h
+line-short (drop i) g h k = answer-short (g .number) h
+line-short (step i) g h k = answer-short (g .number) h
+line-short (ask i) g h k = reading-short i (g .number) _ k (text-small (g .kind) (g .value)) h
+
+fault-short : (at : ℕ) → at ≤ 65536 → length (faultLine at) ≤ 13
+fault-short at h =
+    rw (length-append (digits 16) (space ++ (digits at ++ lineEnd)), length-append (digits at) lineEnd)
+    (omega (arith, length-at-most 1 16 (omega arith), length-at-most 4 at (omega arith)))
+
+-- the item that a field names
+item-small : (d content : List ℕ) (start len : ℕ) (c : Call) → Bytes d → content ≡ contentAt d start len → Ordering content c → itemOf c < 65536
+item-small d content start len c b e o =
+    let within : length (contentAt d start len) ≤ len = omega (arith, length-take len (ListN.drop start d)) in
+    let two : 2 ≤ length (contentAt d start len) = rw e at (o .two) in
+    let at : (k : ℕ) → k < len → getD (contentAt d start len) k 0 < 256 =
+    λ k h. rw (getD-take len (ListN.drop start d) k 0 h, getD-drop start d k 0) (b (start + k))
+    in
+    rw (o .item, e) (le16-small (getD (contentAt d start len) 0 0) (getD (contentAt d start len) 1 0) (at 0 (omega arith)) (at 1 (omega arith)))
+
+module _ (s x d : List ℕ) (edition : ℕ) (ps : List Placed) (r : readSheet s ≡ opens edition ps) (b : Bytes d) (n : length d ≤ 65536) where
+  abbrev Room : ℕ → List ℕ → ℕ → Type 0
+  Room f t at = length (playFrom f s x d at t .text) ≤ 6 * (length d - at) + 13
+
+  call-room : (f : ℕ) (t : List ℕ) (at tag start len next : ℕ) (c : Call) → FieldAt d at tag start len next → orderOf tag (contentAt d start len) ≡ some c
+      → Room f (callOn s x t c .table) next → length (lineOf c (callOn s x t c) ++ playFrom f s x d next (callOn s x t c .table) .text) ≤ 6 * (length d - at) + 13
+  call-room f t at tag start len next c w e ih =
+      let o = ordering tag (contentAt d start len) c e in
+      let within : length (contentAt d start len) ≤ len = omega (arith, length-take len (ListN.drop start d)) in
+      let line : length (lineOf c (callOn s x t c)) ≤ 30 =
+      line-short c (callOn s x t c) (number-at-most s x t c edition ps r) (item-small d (contentAt d start len) start len c b refl o)
+      in
+      rw (length-append (lineOf c (callOn s x t c)) (playFrom f s x d next (callOn s x t c .table) .text))
+      (omega (arith, ih, o .two, w .start-is, w .next-is, w .next-in))
+
+  room : (f : ℕ) (t : List ℕ) (at : ℕ) → at ≤ length d → Room f t at
+  room zero t at h = unfold playFrom in omega arith
+  room (suc f) t at h = cut (λ u next k. room f u next k) (cutAt d at) refl
+    where
+      order : ((u : List ℕ) (next : ℕ) → next ≤ length d → Room f u next) → (tag start len next : ℕ) → cutAt d at ≡ Field tag start len next
+          → (o : Option Call) → orderOf tag (contentAt d start len) ≡ o → Room (suc f) t at
+      order ih tag start len next e none o =
+          rw (play-fault s x d t at f tag start len next e o) (omega (arith, fault-short at (omega arith)))
+      order ih tag start len next e (some c) o =
+          let w : FieldAt d at tag start len next = field-iff d at tag start len next .0 e in
+          rw (play-call s x d t at f tag start len next c e o)
+          (call-room f t at tag start len next c w o (ih (callOn s x t c .table) next (w .next-in)))
+
+      cut : ((u : List ℕ) (next : ℕ) → next ≤ length d → Room f u next) → (c : Cut) → cutAt d at ≡ c → Room (suc f) t at
+      cut ih Absent e = rw (play-absent s x d t at f e) (omega arith)
+      cut ih Short e = rw (play-short s x d t at f e) (omega (arith, fault-short at (omega arith)))
+      cut ih (Field tag start len next) e = order ih tag start len next e (orderOf tag (contentAt d start len)) refl
+
+-- the text of a day whose sheet opens
+pub day-room : (s d x t : List ℕ) → openOn bare s x t .number ≡ 0 → Bytes d → length d ≤ 65536 → length (dayOn s d x t .text) ≤ 6 * length d + 13
+unfolding dayOn
+day-room s d x t h b n =
+    let o = opening-opens s x t bare h in
+    let whole = room s (openOn bare s x t .index) d (o .edition) (o .placed) (o .reads) b n (suc (length d)) (openOn bare s x t .table) 0 (omega arith) in
+    let all : length d - 0 ≡ length d = omega arith in
+    rw h (rw all at whole)

@@ -1,4 +1,0 @@
-pub mod Asking
-pub mod Calling
-pub mod Entering
-pub mod Keeping
