@@ -27,8 +27,6 @@ use Rattle.admission.specs.Answers.{Answered, Left, wrongItem}
 use Rattle.admission.specs.declared.Answer.{Answer}
 use Rattle.admission.proofs.Admitting.{first-two, past-two, refused-answer, accepted-answer, stored-encoded}
 
-
-
 pub fresh-memo : (S : Sheet) (T : Table) (tags : List ℕ) (numbers : List ℤ) → size S ≤ 1024 → length tags ≡ 1024 → length numbers ≡ 1024
     → ((j : ℕ) → getD tags j 0 ≡ 0) → Memo S T tags numbers 1
 unfolding remembered

@@ -8,9 +8,9 @@ ghost use Rattle.office.specs.Office.{callOn};
 ghost use Rattle.day_order.specs.Orders.{orderMeaning};
 ghost use Rattle.day_meaning.specs.Lines.{Appended};
 ghost use Rattle.day_meaning.specs.Day.{answerLine, readingLine, faultLine, playFrom, itemCount, dayOn, runDay, CarriedOut, PlayedOn, Ran};
+use call_ask::Reading;
 use day_order::Order;
 use day_order::Ordered;
-use call_ask::Reading;
 use field::Cut;
 
 // The line of a call that gives no value.

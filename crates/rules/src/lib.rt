@@ -213,14 +213,20 @@ pub fn apply(op: Operation, kinds: &[u8; 16], numbers: &[i64; 16], n: usize) -> 
         ),
         Operation::Smallest => tally::smallest(kinds, numbers, n),
         Operation::Largest => tally::largest(kinds, numbers, n),
-        Operation::Share => share(value::value_at(kinds, numbers, 0), value::value_at(kinds, numbers, 1)),
+        Operation::Share => share(
+            value::value_at(kinds, numbers, 0),
+            value::value_at(kinds, numbers, 1),
+        ),
         Operation::Choice => choice(
             value::value_at(kinds, numbers, 0),
             value::value_at(kinds, numbers, 1),
             value::value_at(kinds, numbers, 2),
         ),
         Operation::Count => tally::count(kinds, numbers, n),
-        Operation::AtLeast => at_least(value::value_at(kinds, numbers, 0), value::value_at(kinds, numbers, 1)),
+        Operation::AtLeast => at_least(
+            value::value_at(kinds, numbers, 0),
+            value::value_at(kinds, numbers, 1),
+        ),
         Operation::Refused => Value::NULL,
     }
 }

@@ -8,11 +8,9 @@ use lib.ListN.{length, getD, replicate}
 use Rattle.layout.specs.Opened.{sheetOf}
 use Rattle.item.proofs.Located.{size-most}
 use Rattle.looking.specs.Pass.{Lent}
-
 use Rattle.stepping.specs.Stepping.{Ready}
 use Rattle.children.specs.Children.{places, lists, linkAll, Linked}
 use Rattle.children.proofs.Building.{sheet-linked}
-
 
 -- an array of one number
 pub same-all : (z n j : ℕ) → getD (replicate n z) j z ≡ z

@@ -169,4 +169,3 @@ pub fn count(kinds: &[u8; 16], numbers: &[i64; 16], n: usize) -> Value
     }
     Value::exact(t.count as i64)
 }
-

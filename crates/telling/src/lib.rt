@@ -154,4 +154,3 @@ pub fn tell_children(
         edge = wide(links[edge]);
     }
 }
-

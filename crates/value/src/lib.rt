@@ -179,4 +179,3 @@ pub fn value_at(kinds: &[u8; 16], numbers: &[i64; 16], k: usize) -> Value
         _ => Value::number(number),
     }
 }
-
