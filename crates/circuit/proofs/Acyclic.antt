@@ -1,7 +1,7 @@
 -- In a finite acyclic circuit it is decided which items lead to which, and the number of items that lead to an item is a
 -- rank: it rises from each parent to its child. Assumes nothing.
 use Prim.Native.Nat.{ℕ, _+_, _<_, _≤_}
-use mathlib.Core.Path.{_≡_, refl, sym, subst}
+use mathlib.Core.Path.{sym, subst}
 use mathlib.Core.Logic.{_⊎_, inl, inr, ⊎-elim, Dec·and}
 use mathlib.Core.List.{List, [], _∷_}
 use native.Mathlib.Omega.{arith}
@@ -54,15 +54,16 @@ module _ {I : Type 0} {P Q : I → Type 0} (p : (a : I) → Dec (P a)) (q : (a :
   tally-more [] = omega arith
   tally-more (a ∷ rest) = omega (arith, oneIf-more (p a) (q a) (more a), tally-more rest)
 
-  -- more have the property that follows, if one of the list has only that
+  -- more of the list have Q, if some b of it has Q and not P
   tally-rises : (b : I) → (P b → ⊥) → Q b → (list : List I) → Listed b list → tally p list < tally q list
   unfolding tally
   tally-rises b n h [] l = absurd l
   tally-rises b n h (a ∷ rest) (inl e) =
-      let s : b ≡ a = e in omega (arith, oneIf-rises (p a) (q a) (λ x. n (subst P (sym e) x)) (subst Q e h), tally-more rest)
+      omega (arith, oneIf-rises (p a) (q a) (λ x. n (subst P (sym e) x)) (subst Q e h), tally-more rest)
   tally-rises b n h (a ∷ rest) (inr l) = omega (arith, oneIf-more (p a) (q a) (more a), tally-rises b n h rest l)
 
--- a leads to b through items of the list alone
+-- a leads to b through items of the list alone: directly; or, with m put at the head of the list, through the rest, or
+-- through the rest to m and from m on
 data Through {I A : Type 0} (C : Circuit I A) : List I → I → I → Type 0 where
   straight : {a b : I} → Listed a (C .parents b) → Through C [] a b
   without : {m a b : I} {rest : List I} → Through C rest a b → Through C (m ∷ rest) a b
@@ -113,12 +114,12 @@ module _ {I A : Type 0} (C : Circuit I A) where
       back (without h) = inl h
       back (over h k) = inr (h, k)
 
--- the number of items that lead to i
+-- The number of items that lead to i, each as often as it is listed.
 pub rank : {I A : Type 0} (C : Circuit I A) → FiniteAcyclic C → I → ℕ
 rank C shape i = tally (λ a. dec-through C (shape .discrete) (C .items) a i) (C .items)
 
 module _ {I A : Type 0} (C : Circuit I A) (shape : FiniteAcyclic C) where
-  -- to an item, all ways go through items
+  -- what leads to an item leads to it through items
   leads-through : {a b : I} → Listed b (C .items) → LeadsTo C a b → Through C (C .items) a b
   leads-through h (direct l) = through-direct C (C .items) l
   leads-through {b = c} h (further {b = b} k l) =

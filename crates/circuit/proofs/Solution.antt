@@ -21,7 +21,7 @@ map-listed (p ∷ ps) same = ap₂ _∷_ (same p (inl refl)) (map-listed ps (λ 
 
 -- Finite acyclic circuits
 
--- an item's value by the values of its parents
+-- an input's value, or the item's function of its parents' values
 abbrev settled : {I A : Type 0} → Circuit I A → (inputs values : I → A) → I → A
 settled C inputs values i = cond (C .isInput i) (inputs i) (C .rule i (map values (C .parents i)))
 
@@ -39,8 +39,8 @@ settled-same : {I A : Type 0} (C : Circuit I A) (inputs : I → A) {m w : I → 
 settled-same C inputs i same =
     ap (λ vs. cond (C .isInput i) (inputs i) (C .rule i vs)) (map-listed (C .parents i) same)
 
--- a solution's equation, and what solves it
-pub solution-settled : {I A : Type 0} (C : Circuit I A) (inputs : I → A) {m : I → A} → IsSolution C inputs m
+-- the solutions are what solves this equation
+solution-settled : {I A : Type 0} (C : Circuit I A) (inputs : I → A) {m : I → A} → IsSolution C inputs m
     → (i : I) → Listed i (C .items) → m i ≡ settled C inputs m i
 solution-settled C inputs {m} solves i h = go (C .isInput i) refl
   where
@@ -48,7 +48,7 @@ solution-settled C inputs {m} solves i h = go (C .isInput i) refl
     go true e = solves .extends i h e
     go false e = solves .derives i h e
 
-pub settled-solution : {I A : Type 0} (C : Circuit I A) (inputs : I → A) {m : I → A}
+settled-solution : {I A : Type 0} (C : Circuit I A) (inputs : I → A) {m : I → A}
     → ((i : I) → Listed i (C .items) → m i ≡ settled C inputs m i) → IsSolution C inputs m
 settled-solution C inputs {m} equation =
     record {
@@ -100,6 +100,7 @@ module _ {I A : Type 0} (C : Circuit I A) (shape : FiniteAcyclic C) (inputs : I 
 
 -- The circuit of a sheet
 
+-- the items of the list are the numbers below n
 pub below-listed : (n i : ℕ) → i < n → Listed i (numbersBelow n)
 below-listed zero i low = absurd (omega arith)
 below-listed (suc n) i low = go (ℕ-discrete i n) (below-listed n i)
@@ -114,7 +115,7 @@ listed-below (suc n) i (inl e) = omega arith
 listed-below (suc n) i (inr l) = omega (arith, listed-below n i l)
 
 -- an item leads to higher ones only
-pub leads-up : (S : Sheet) → Ordered S → {a b : ℕ} → LeadsTo (circuitOf S) a b → a < b
+leads-up : (S : Sheet) → Ordered S → {a b : ℕ} → LeadsTo (circuitOf S) a b → a < b
 leads-up S ordered (direct l) = ordered _ _ l
 leads-up S ordered (further h l) = omega (arith, leads-up S ordered h, ordered _ _ l)
 

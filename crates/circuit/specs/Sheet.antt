@@ -78,7 +78,8 @@ numbersBelow zero = []
 numbersBelow (suc n) = n ∷ numbersBelow n
 
 -- The circuit of a sheet: its items are the numbers below n, its inputs are the entries, and a figure's function is its
--- rule. (The function of an entry is never used.) With the values that the entries hold it has a solution.
+-- rule. (An entry has no function; what stands for it here is never used.) The inputs' values are those that the entries
+-- hold: `IsSolution (circuitOf S) E values`.
 abbrev pub circuitOf : Sheet → Circuit ℕ Value
 circuitOf S =
     record {
