@@ -1,5 +1,5 @@
 -- Arithmetic circuits and their solution: Filardo and Eisner, "A Flexible Solver for Finite Arithmetic Circuits", section 2.
--- Their words stand in quotation marks. Assumes nothing.
+-- Their words stand in quotation marks, without the symbols. Assumes nothing.
 use mathlib.Core.Path.{_≡_}
 use mathlib.Core.Bool.{Bool, true, false}
 use mathlib.Core.Logic.{_⊎_}

@@ -283,15 +283,15 @@ module _ (s x t : List ℕ) (lent : AcceptedLent s x t) (none-stored : NoneStore
 pub gives-solution : GivesSolution
 gives-solution s x t lent none-stored = (
   values,
-  record { ordered = low; solves = solves; only = λ other h i b. solution-unique C (sheet-acyclic S low) E h i (below-listed (size S) i b) },
+  record { ordered = lower; solves = solves; only = λ other h i b. solution-unique C (sheet-acyclic S lower) E h i (below-listed (size S) i b) },
   record { asked = ask-gives s x t lent none-stored values solves; kept = keep-gives s x t lent none-stored values solves },
 )
   where
     S : Sheet
     S = sheetOf s
 
-    low : Ordered S
-    low = sheet-ordered s x t lent none-stored
+    lower : Ordered S
+    lower = sheet-ordered s x t lent none-stored
 
     C : Circuit ℕ Value
     C = circuitOf S
@@ -303,7 +303,7 @@ gives-solution s x t lent none-stored = (
     values = solution C E
 
     solves : IsSolution C E values
-    solves = solution-solves C (sheet-acyclic S low) E
+    solves = solution-solves C (sheet-acyclic S lower) E
 
 -- Demand 2.
 pub meaning : Meaning
