@@ -29,7 +29,7 @@ figure-other S k e fig other same =
     omega arith
 
 -- demand 3
-pub demand : (S : Sheet) (ordered : Ordered S) → Demand S ordered
+pub demand : (S : Sheet) → Ordered S → Demand S
 demand S ordered =
     record {
       agree = λ o p cs ds equal. two-openings S ordered o p cs ds equal;

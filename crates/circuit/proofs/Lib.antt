@@ -1,6 +1,7 @@
 pub mod Figures
 pub mod Examples
 pub mod RuleLaws
+pub mod Acyclic
 pub mod Solution
 pub mod View
 pub mod Fill

@@ -8,11 +8,11 @@ use mathlib.Core.Bool.{Bool, true, false}
 use mathlib.Core.List.{map}
 use Rattle.circuit.specs.Value.{Value, null}
 use Rattle.circuit.specs.Circuit.{IsSolution}
-use Rattle.circuit.specs.Sheet.{Sheet, Item, entry, figure, size, itemAt, isFigure, parentsOf, parents, evaluate, Ordered, Entries, circuitOf}
+use Rattle.circuit.specs.Sheet.{Sheet, Item, entry, figure, size, itemAt, isFigure, parents, evaluate, Ordered, Entries, circuitOf}
 use Rattle.circuit.specs.Table.{Table, Cell, Mark, refresh, unk, held, isMarked, valueIn, isStored, cellForm}
 use Rattle.circuit.specs.Machine.{lookUp}
 use Rattle.circuit.specs.Words.{Formed, Quiet, Holds, Bare}
-use Rattle.circuit.proofs.Solution.{map-listed}
+use Rattle.circuit.proofs.Solution.{map-listed, entry-value, figure-value}
 use Rattle.circuit.proofs.View.{never, view, result, strong, any-none, view-at}
 use Rattle.circuit.proofs.Fill.{look-right}
 use Rattle.circuit.proofs.Invariant.{Justified, exact, due, awaits, Invariant}
@@ -36,7 +36,7 @@ module _ (S : Sheet) (ordered : Ordered S) where
           = any-none (view S T) (parents S k) (λ p o. quiet-flag S ordered T (size S) quiet p (omega (arith, ordered k p o))) in
           never (cc)
 
-module _ (S : Sheet) (ordered : Ordered S) (E : Entries) (values : ℕ → Value) (solves : IsSolution (circuitOf S ordered E) values) where
+module _ (S : Sheet) (ordered : Ordered S) (E : Entries) (values : ℕ → Value) (solves : IsSolution (circuitOf S) E values) where
   -- then every look-up gives the solution
   pub exact-solution : (T : Table) → Formed S T → Holds S T E → Exact S T → (i : ℕ) → i < size S
       → view S T i .value ≡ values i
@@ -53,19 +53,14 @@ module _ (S : Sheet) (ordered : Ordered S) (E : Entries) (values : ℕ → Value
 
           -- an entry has the value that it holds
           atEntry : (it : Item) (c : Cell) → isFigure it ≡ false → T i ≡ c → cellForm it c ≡ true → valueIn c ≡ E i
-              → values i ≡ evaluate it (E i) (map values (parentsOf it)) → view S T i .value ≡ values i
+              → values i ≡ E i → view S T i .value ≡ values i
           atEntry entry (unk f) k e form h s = never (cc)
           atEntry entry (held v m) k e form h s = ap (λ s. s .value) (view-at S ordered T i e) ∙ h ∙ sym s
           atEntry (figure op kept spread ps) c k e form h s = never (cc)
 
           -- a figure has what its rule gives
-          ruled : (it : Item) → isFigure it ≡ true
-              → evaluate it null (map values (parentsOf it)) ≡ evaluate it (E i) (map values (parentsOf it))
-          ruled entry k = never (cc)
-          ruled (figure op kept spread ps) k = refl
-
           given : isFigure (itemAt S i) ≡ true → result S T i .value ≡ values i
-          given k = ap (evaluate (itemAt S i) null) parentsGiven ∙ ruled (itemAt S i) k ∙ sym (solves i)
+          given k = ap (evaluate (itemAt S i) null) parentsGiven ∙ sym (figure-value S E solves i low k)
 
           atFigure : isFigure (itemAt S i) ≡ true → (c : Cell) → T i ≡ c → view S T i .value ≡ values i
           atFigure k (held v m) e = ap (λ s. s .value) (view-at S ordered T i e) ∙ exactly i low k v m e ∙ given k
@@ -73,7 +68,7 @@ module _ (S : Sheet) (ordered : Ordered S) (E : Entries) (values : ℕ → Value
 
           byItem : (b : Bool) → isFigure (itemAt S i) ≡ b → view S T i .value ≡ values i
           byItem true k = atFigure k (T i) refl
-          byItem false k = atEntry (itemAt S i) (T i) k refl (formed i low) (holds i low k) (solves i)
+          byItem false k = atEntry (itemAt S i) (T i) k refl (formed i low) (holds i low k) (entry-value S E solves i low k)
 
   -- with no figure stored, whatever the marks, a look-up gives the solution
   pub bare-look : (T : Table) → Formed S T → Holds S T E → Bare S T → (i : ℕ) → i < size S → lookUp S T i .value ≡ values i

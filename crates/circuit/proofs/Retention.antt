@@ -11,16 +11,16 @@ use lib.Dec.{eqb}
 use lib.IntN.{ℤ}
 use borrow.Author.Tests.{eqb-false}
 use Rattle.circuit.specs.Value.{Value, null}
-use Rattle.circuit.specs.Circuit.{IsSolution, Listed}
+use Rattle.circuit.specs.Circuit.{IsSolution, Listed, LeadsTo, direct, further}
 use Rattle.circuit.specs.Sheet.{Sheet, Item, entry, figure, itemAt, isFigure, size, parents, Ordered, Entries, circuitOf, evaluate}
 use Rattle.circuit.specs.Table.{Table, Cell, unmarked, refresh, notice, unk, held, isStored, valueIn, isMarked, cellForm}
 use Rattle.circuit.specs.Machine.{lookUp, work, keepFigure, dropFigure, dropCell, stepItem, catchUp, storePosting, postCell}
 use Rattle.circuit.specs.Calls.{Call, post, keep, drop, step, ask, postedValue, postIt, postingOf, tests, firstCause, effect, unless, perform, run, made, madeBy, ifAccepted, postings, drops}
 use Rattle.circuit.specs.Demand.{Retained}
-use Rattle.circuit.specs.Words.{Formed, Quiet, LeadsTo, direct, further, droppedIn}
+use Rattle.circuit.specs.Words.{Formed, Quiet, droppedIn}
 use Rattle.circuit.proofs.View.{seen, anyFlag, view, result, strong, any-none, view-at}
 use Rattle.circuit.proofs.Fill.{Filling, stays, fills, Fill, upd-cases, upd-other, look-right, work-right, keep-fill}
-use Rattle.circuit.proofs.Solution.{map-listed, solution, solution-solves}
+use Rattle.circuit.proofs.Solution.{map-listed, solution, solution-solves, sheet-acyclic, entry-value, figure-value}
 use Rattle.circuit.proofs.Invariant.{Invariant}
 use Rattle.circuit.proofs.Reading.{quiet-exact, exact-solution}
 use Rattle.circuit.proofs.Closure.{Closed, step-closed, catchUp-closed}
@@ -28,7 +28,7 @@ use Rattle.circuit.proofs.Accepted.{effect-number, keep-passed, drop-pa
 
 -- k is neither e nor led to by e
 abbrev pub Outside : Sheet → ℕ → ℕ → Type 0
-Outside S e k = (k ≡ e → ⊥) × (LeadsTo S e k → ⊥)
+Outside S e k = (k ≡ e → ⊥) × (LeadsTo (circuitOf S) e k → ⊥)
 
 -- the parents of an item outside are outside
 pub parent-outside : (S : Sheet) (e k p : ℕ) → Outside S e k → Listed p (parents S k) → Outside S e p
@@ -88,18 +88,12 @@ append-nil : {A : Type 0} (xs ys : List A) → xs ++ ys ≡ [] → (xs ≡ []) �
 append-nil [] ys e = (refl, e)
 append-nil (x ∷ xs) ys e = let bad : _≡_ {A = ℕ} 0 1 = cc in absurd (omega arith)
 
--- what a figure gives does not depend on what an entry would hold
-evaluate-figure : (it : Item) (u v : Value) (vs : List Value) → isFigure it ≡ true → evaluate it u vs ≡ evaluate it v vs
-evaluate-figure entry u v vs h = let bad : _≡_ {A = ℕ} 0 1 = cc in absurd (omega arith)
-evaluate-figure (figure op kept spread ps) u v vs h = refl
-
 -- a figure whose parents' look-ups are the solution's, without a flag, is worked out to the solution's, without a flag
-result-solved : (S : Sheet) (ordered : Ordered S) (E : Entries) (m : ℕ → Value) → IsSolution (circuitOf S ordered E) m
-    → (T : Table) (k : ℕ) → isFigure (itemAt S k) ≡ true
+result-solved : (S : Sheet) (E : Entries) (m : ℕ → Value) → IsSolution (circuitOf S) E m
+    → (T : Table) (k : ℕ) → k < size S → isFigure (itemAt S k) ≡ true
     → ((p : ℕ) → Listed p (parents S k) → view S T p ≡ seen (m p) false) → result S T k ≡ seen (m k) false
-result-solved S ordered E m solves T k fig parent =
-    rw (values, flags)
-    (ap (λ v. seen v false) (evaluate-figure (itemAt S k) null (E k) (map m (parents S k)) fig ∙ sym (solves k)))
+result-solved S E m solves T k low fig parent =
+    rw (values, flags) (ap (λ v. seen v false) (sym (figure-value S E solves k low fig)))
   where
     values : map (λ p. view S T p .value) (parents S k) ≡ map m (parents S k)
     values = map-listed (parents S k) (λ p l. ap (λ s. s .value) (parent p l))
@@ -109,25 +103,26 @@ result-solved S ordered E m solves T k fig parent =
 
 -- two solutions, under entries that agree outside, agree outside
 pub outside-agree : (S : Sheet) (ordered : Ordered S) (e : ℕ) (E D : Entries) (m w : ℕ → Value)
-    → IsSolution (circuitOf S ordered E) m → IsSolution (circuitOf S ordered D) w
+    → IsSolution (circuitOf S) E m → IsSolution (circuitOf S) D w
     → ((i : ℕ) → i < size S → isFigure (itemAt S i) ≡ false → Outside S e i → E i ≡ D i)
     → (k : ℕ) → k < size S → Outside S e k → m k ≡ w k
 outside-agree S ordered e E D m w solvesM solvesW agree =
     strong (λ k. k < size S → Outside S e k → m k ≡ w k) rise
   where
     rise : (k : ℕ) → ((p : ℕ) → p < k → p < size S → Outside S e p → m p ≡ w p) → k < size S → Outside S e k → m k ≡ w k
-    rise k lower low outside = solvesM k ∙ byItem (itemAt S k) refl ∙ sym (solvesW k)
+    rise k lower low outside = go (isFigure (itemAt S k)) refl
       where
         parents-agree : map m (parents S k) ≡ map w (parents S k)
         parents-agree =
             map-listed (parents S k)
             (λ p l. let o : p < k = ordered k p l in lower p o (omega arith) (parent-outside S e k p outside l))
 
-        byItem : (it : Item) → itemAt S k ≡ it → evaluate it (E k) (map m (parents S k)) ≡ evaluate it (D k) (map w (parents S k))
-        byItem entry h = agree k low (rw h) outside
-        byItem (figure op kept spread ps) h = ap (evaluate (figure op kept spread ps) (E k)) parents-agree
+        go : (b : Bool) → isFigure (itemAt S k) ≡ b → m k ≡ w k
+        go false e = entry-value S E solvesM k low e ∙ agree k low e outside ∙ sym (entry-value S D solvesW k low e)
+        go true e =
+            figure-value S E solvesM k low e ∙ ap (evaluate (itemAt S k) null) parents-agree ∙ sym (figure-value S D solvesW k low e)
 
-module _ (S : Sheet) (ordered : Ordered S) (e : ℕ) (E : Entries) (m : ℕ → Value) (solves : IsSolution (circuitOf S ordered E) m) where
+module _ (S : Sheet) (ordered : Ordered S) (e : ℕ) (E : Entries) (m : ℕ → Value) (solves : IsSolution (circuitOf S) E m) where
   -- every cell outside is calm
   abbrev pub Confined : Table → Type 0
   Confined T = (k : ℕ) → k < size S → Outside S e k → Calm (itemAt S k) (m k) (T k)
@@ -151,7 +146,7 @@ module _ (S : Sheet) (ordered : Ordered S) (e : ℕ) (E : Entries) (m : ℕ → 
         where
           known : isFigure (itemAt S k) ≡ true → result S T k ≡ seen (m k) false
           known fig =
-              result-solved S ordered E m solves T k fig
+              result-solved S E m solves T k low fig
               (λ p l. let o : p < k = ordered k p l in lower p o (omega arith) (parent-outside S e k p outside l))
 
           go : (c : Cell) → T k ≡ c → Calm (itemAt S k) (m k) c → view S T k ≡ seen (m k) false
@@ -303,10 +298,10 @@ post-other S T e kind z k other = go (firstCause (tests S T (post e kind z)))
 
 -- What stays stored, on any table that has the invariant and no mark: after an accepted post to e and a list of calls that
 -- makes no posting, of every item that is neither e nor led to by e.
-pub retention : (S : Sheet) (ordered : Ordered S) (T : Table) → Invariant S T → Formed S T → Quiet S T
+pub retention : (S : Sheet) → Ordered S → (T : Table) → Invariant S T → Formed S T → Quiet S T
     → (e kind : ℕ) (z : ℤ) (cs : List Call) → postings S (perform S T (post e kind z) .table) cs ≡ []
     → (k : ℕ) → k < size S → Outside S e k
-    → Retained S ordered T cs (run S (perform S T (post e kind z) .table) cs) k
+    → Retained S T cs (run S (perform S T (post e kind z) .table) cs) k
 retention S ordered T invariant formed quiet e kind z cs none-made k low outside =
     record {
       stored = λ h d. left .stored k low outside d (rw (post-other S T e kind z k (outside .0)) h);
@@ -320,10 +315,10 @@ retention S ordered T invariant formed quiet e kind z cs none-made k low outside
     E = λ i. valueIn (T i)
 
     m : ℕ → Value
-    m = solution (circuitOf S ordered E)
+    m = solution (circuitOf S) E
 
-    solves : IsSolution (circuitOf S ordered E) m
-    solves = solution-solves (circuitOf S ordered E)
+    solves : IsSolution (circuitOf S) E m
+    solves = solution-solves (circuitOf S) (sheet-acyclic S ordered) E
 
     was : (i : ℕ) → i < size S → isStored (T i) ≡ true → valueIn (T i) ≡ m i
     was i l h =
@@ -346,6 +341,6 @@ retention S ordered T invariant formed quiet e kind z cs none-made k low outside
     held-on i l f o =
         was i l (stored-entry (itemAt S i) (T i) (formed i l) f) ∙ sym (calm-entry (left .calm i l o) f)
 
-    agrees : (D : Entries) (w : ℕ → Value) → IsSolution (circuitOf S ordered D) w
+    agrees : (D : Entries) (w : ℕ → Value) → IsSolution (circuitOf S) D w
         → ((i : ℕ) → i < size S → isFigure (itemAt S i) ≡ false → Outside S e i → E i ≡ D i) → m k ≡ w k
     agrees D w solvesW equal = outside-agree S ordered e E D m w solves solvesW equal k low outside

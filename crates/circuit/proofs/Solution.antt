@@ -1,78 +1,145 @@
--- Every circuit has a solution, and only one; the fresh office gives the solution of its sheet. Assumes that the sheet is ordered, where it says so.
-use Prim.Native.Nat.{ℕ, zero, suc, _<_}
+-- Every finite acyclic circuit has a solution, and only one. The circuit of an ordered sheet is one, and the fresh office
+-- gives its solution. Assumes that the sheet is ordered, where it says so.
+use Prim.Native.Nat.{ℕ, zero, suc, _<_, _≤_}
 use mathlib.Core.Path.{_≡_, refl, sym, ap, ap₂, _∙_}
+use mathlib.Core.Bool.{Bool, true, false, cond, not}
 use mathlib.Core.Logic.{inl, inr}
 use mathlib.Core.List.{List, [], _∷_, map}
 use native.Mathlib.Omega.{arith}
-use Rattle.circuit.specs.Value.{Value}
-use Rattle.circuit.specs.Circuit.{Circuit, IsSolution, Listed}
-use Rattle.circuit.specs.Sheet.{Sheet, Item, entry, figure, itemAt, parents, parentsOf, Ordered, Entries, circuitOf, evaluate}
+use native.Mathlib.Decide.{ℕ-discrete}
+use lib.ListN.{length}
+use Rattle.circuit.specs.Value.{Value, null}
+use Rattle.circuit.specs.Circuit.{Circuit, Listed, LeadsTo, direct, further, FiniteAcyclic, IsSolution}
+use Rattle.circuit.specs.Sheet.{Sheet, Item, entry, figure, size, itemAt, isFigure, parents, parentsOf, Ordered, Entries, evaluate, numbersBelow, circuitOf}
 use Rattle.circuit.specs.Fresh.{give, giveFor, giveItem}
+use Rattle.circuit.proofs.Acyclic.{rank, rank-bound, rank-rises}
 
 -- two functions that agree on what is listed map the list to the same
 pub map-listed : {I A : Type 0} {f g : I → A} (ps : List I) → ((p : I) → Listed p ps → f p ≡ g p) → map f ps ≡ map g ps
 map-listed [] same = refl
 map-listed (p ∷ ps) same = ap₂ _∷_ (same p (inl refl)) (map-listed ps (λ q h. same q (inr h)))
 
--- a list mapped by a function that may use that its argument is listed
-unfoldable pub mapWith : {I A : Type 0} (ps : List I) → ((p : I) → Listed p ps → A) → List A
-mapWith [] f = []
-mapWith (p ∷ ps) f = f p (inl refl) ∷ mapWith ps (λ q h. f q (inr h))
+-- Finite acyclic circuits
 
-pub mapWith-same : {I A : Type 0} (ps : List I) {f g : (p : I) → Listed p ps → A} → ((p : I) (h : Listed p ps) → f p h ≡ g p h)
-    → mapWith ps f ≡ mapWith ps g
-unfolding mapWith
-mapWith-same [] same = refl
-mapWith-same (p ∷ ps) same = ap₂ _∷_ (same p (inl refl)) (mapWith-same ps (λ q h. same q (inr h)))
+-- an input's value, or the item's function of its parents' values
+abbrev settled : {I A : Type 0} → Circuit I A → (inputs values : I → A) → I → A
+settled C inputs values i = cond (C .isInput i) (inputs i) (C .rule i (map values (C .parents i)))
 
-pub mapWith-map : {I A : Type 0} (ps : List I) (g : I → A) → mapWith ps (λ p h. g p) ≡ map g ps
-unfolding mapWith
-mapWith-map [] g = refl
-mapWith-map (p ∷ ps) g = ap (λ vs. g p ∷ vs) (mapWith-map ps g)
+-- worked out as far up the circuit as the bound says
+solveFor : {I A : Type 0} → ℕ → Circuit I A → (I → A) → I → A
+solveFor zero C inputs i = inputs i
+solveFor (suc bound) C inputs i = settled C inputs (solveFor bound C inputs) i
 
--- The value of an item whose rank is below the bound: its function of its parents' values.
-unfoldable pub solveBelow : {I A : Type 0} (C : Circuit I A) (bound : ℕ) (i : I) → C .rank i < bound → A
-solveBelow C zero i low = absurd (omega arith)
-solveBelow C (suc bound) i low =
-    C .rule i (mapWith (C .parents i) (λ p h. solveBelow C bound p (omega (arith, C .rises i p h))))
+-- The solution: no way up the circuit is longer than its list of items.
+pub solution : {I A : Type 0} → Circuit I A → (I → A) → I → A
+solution C inputs = solveFor (suc (length (C .items))) C inputs
 
--- the solution
-unfoldable pub solution : {I A : Type 0} → Circuit I A → I → A
-solution C i = solveBelow C (suc (C .rank i)) i (omega arith)
+settled-same : {I A : Type 0} (C : Circuit I A) (inputs : I → A) {m w : I → A} (i : I)
+    → ((p : I) → Listed p (C .parents i) → m p ≡ w p) → settled C inputs m i ≡ settled C inputs w i
+settled-same C inputs i same =
+    ap (λ vs. cond (C .isInput i) (inputs i) (C .rule i vs)) (map-listed (C .parents i) same)
 
--- the bound plays no part
-solveBelow-any : {I A : Type 0} (C : Circuit I A) (a b : ℕ) (i : I) (lowA : C .rank i < a) (lowB : C .rank i < b)
-    → solveBelow C a i lowA ≡ solveBelow C b i lowB
-unfolding solveBelow
-solveBelow-any C zero b i lowA lowB = absurd (omega arith)
-solveBelow-any C (suc a) zero i lowA lowB = absurd (omega arith)
-solveBelow-any C (suc a) (suc b) i lowA lowB =
-    ap (C .rule i) (mapWith-same (C .parents i) (λ p h. solveBelow-any C a b p _ _))
+-- the solutions are what solves this equation
+solution-settled : {I A : Type 0} (C : Circuit I A) (inputs : I → A) {m : I → A} → IsSolution C inputs m
+    → (i : I) → Listed i (C .items) → m i ≡ settled C inputs m i
+solution-settled C inputs {m} solves i h = go (C .isInput i) refl
+  where
+    go : (b : Bool) → C .isInput i ≡ b → m i ≡ cond b (inputs i) (C .rule i (map m (C .parents i)))
+    go true e = solves .extends i h e
+    go false e = solves .derives i h e
 
--- A solution exists.
-pub solution-solves : {I A : Type 0} (C : Circuit I A) → IsSolution C (solution C)
-unfolding solveBelow solution
-solution-solves C i =
-    ap (C .rule i)
-    (mapWith-same (C .parents i) (λ p h. solveBelow-any C (C .rank i) (suc (C .rank p)) p _ _)
-    ∙ mapWith-map (C .parents i) (solution C))
+settled-solution : {I A : Type 0} (C : Circuit I A) (inputs : I → A) {m : I → A}
+    → ((i : I) → Listed i (C .items) → m i ≡ settled C inputs m i) → IsSolution C inputs m
+settled-solution C inputs {m} equation =
+    record {
+      extends = λ i h e. equation i h ∙ ap (λ b. cond b (inputs i) (C .rule i (map m (C .parents i)))) e;
+      derives = λ i h e. equation i h ∙ ap (λ b. cond b (inputs i) (C .rule i (map m (C .parents i)))) e;
+    }
 
-agree-below : {I A : Type 0} (C : Circuit I A) {m w : I → A} → IsSolution C m → IsSolution C w
-    → (bound : ℕ) (i : I) → C .rank i < bound → m i ≡ w i
-agree-below C solvesM solvesW zero i low = absurd (omega arith)
-agree-below C solvesM solvesW (suc bound) i low =
-    solvesM i
-    ∙ ap (C .rule i)
-    (map-listed (C .parents i) (λ p h. agree-below C solvesM solvesW bound p (omega (arith, C .rises i p h))))
-    ∙ sym (solvesW i)
+module _ {I A : Type 0} (C : Circuit I A) (shape : FiniteAcyclic C) (inputs : I → A) where
+  -- a bound above the rank plays no part
+  solveFor-any : (a b : ℕ) (i : I) → Listed i (C .items) → rank C shape i < a → rank C shape i < b
+      → solveFor a C inputs i ≡ solveFor b C inputs i
+  unfolding solveFor
+  solveFor-any zero b i h lowA lowB = absurd (omega arith)
+  solveFor-any (suc a) zero i h lowA lowB = absurd (omega arith)
+  solveFor-any (suc a) (suc b) i h lowA lowB =
+      settled-same C inputs i
+      (λ p l. let r : rank C shape p < rank C shape i = rank-rises C shape i p h l in
+      solveFor-any a b p (shape .closed i p h l) (omega arith) (omega arith))
 
--- Any two solutions agree.
-pub solutions-agree : {I A : Type 0} (C : Circuit I A) {m w : I → A} → IsSolution C m → IsSolution C w → (i : I) → m i ≡ w i
-solutions-agree C solvesM solvesW i = agree-below C solvesM solvesW (suc (C .rank i)) i (omega arith)
+  -- A solution exists.
+  pub solution-solves : IsSolution C inputs (solution C inputs)
+  unfolding solution solveFor
+  solution-solves = settled-solution C inputs equation
+    where
+      equation : (i : I) → Listed i (C .items) → solution C inputs i ≡ settled C inputs (solution C inputs) i
+      equation i h =
+          settled-same C inputs i
+          (λ p l. let r : rank C shape p < rank C shape i = rank-rises C shape i p h l in
+          let n : rank C shape i ≤ length (C .items) = rank-bound C shape i in
+          solveFor-any (length (C .items)) (suc (length (C .items))) p (shape .closed i p h l) (omega arith) (omega arith))
 
--- The solution is the only one.
-pub solution-unique : {I A : Type 0} (C : Circuit I A) {m : I → A} → IsSolution C m → (i : I) → m i ≡ solution C i
-solution-unique C solves i = solutions-agree C solves (solution-solves C) i
+  agree-below : {m w : I → A} → IsSolution C inputs m → IsSolution C inputs w
+      → (bound : ℕ) (i : I) → Listed i (C .items) → rank C shape i < bound → m i ≡ w i
+  agree-below solvesM solvesW zero i h low = absurd (omega arith)
+  agree-below solvesM solvesW (suc bound) i h low =
+      solution-settled C inputs solvesM i h
+      ∙ settled-same C inputs i
+      (λ p l. let r : rank C shape p < rank C shape i = rank-rises C shape i p h l in
+      agree-below solvesM solvesW bound p (shape .closed i p h l) (omega arith))
+      ∙ sym (solution-settled C inputs solvesW i h)
+
+  -- Any two solutions agree.
+  pub solutions-agree : {m w : I → A} → IsSolution C inputs m → IsSolution C inputs w → (i : I) → Listed i (C .items) → m i ≡ w i
+  solutions-agree solvesM solvesW i h = agree-below solvesM solvesW (suc (rank C shape i)) i h (omega arith)
+
+  -- The solution is the only one.
+  pub solution-unique : {m : I → A} → IsSolution C inputs m → (i : I) → Listed i (C .items) → m i ≡ solution C inputs i
+  solution-unique solves i h = solutions-agree solves solution-solves i h
+
+-- The circuit of a sheet
+
+-- the items of the list are the numbers below n
+pub below-listed : (n i : ℕ) → i < n → Listed i (numbersBelow n)
+below-listed zero i low = absurd (omega arith)
+below-listed (suc n) i low = go (ℕ-discrete i n) (below-listed n i)
+  where
+    go : Dec (i ≡ n) → (i < n → Listed i (numbersBelow n)) → Listed i (numbersBelow (suc n))
+    go (yes e) rest = inl e
+    go (no other) rest = inr (rest (omega arith))
+
+pub listed-below : (n i : ℕ) → Listed i (numbersBelow n) → i < n
+listed-below zero i l = absurd l
+listed-below (suc n) i (inl e) = omega arith
+listed-below (suc n) i (inr l) = omega (arith, listed-below n i l)
+
+-- an item leads to higher ones only
+leads-up : (S : Sheet) → Ordered S → {a b : ℕ} → LeadsTo (circuitOf S) a b → a < b
+leads-up S ordered (direct l) = ordered _ _ l
+leads-up S ordered (further h l) = omega (arith, leads-up S ordered h, ordered _ _ l)
+
+-- The circuit of an ordered sheet is finite and acyclic.
+pub sheet-acyclic : (S : Sheet) → Ordered S → FiniteAcyclic (circuitOf S)
+sheet-acyclic S ordered =
+    record {
+      discrete = ℕ-discrete;
+      closed = λ i p h l. below-listed (size S) p (omega (arith, ordered i p l, listed-below (size S) i h));
+      roots = λ i h e. root (itemAt S i) e;
+      acyclic = λ i h k. omega (arith, leads-up S ordered k);
+    }
+  where
+    root : (it : Item) → not (isFigure it) ≡ true → parentsOf it ≡ []
+    root entry e = refl
+    root (figure op keep spread ps) e = let bad : _≡_ {A = ℕ} 0 1 = cc in absurd (omega arith)
+
+-- a solution of the sheet's circuit: an entry's value and a figure's
+module _ (S : Sheet) (E : Entries) {m : ℕ → Value} (solves : IsSolution (circuitOf S) E m) (i : ℕ) (low : i < size S) where
+  pub entry-value : isFigure (itemAt S i) ≡ false → m i ≡ E i
+  entry-value e = solves .extends i (below-listed (size S) i low) (ap not e)
+
+  pub figure-value : isFigure (itemAt S i) ≡ true → m i ≡ evaluate (itemAt S i) null (map m (parents S i))
+  figure-value e = solves .derives i (below-listed (size S) i low) (ap not e)
 
 -- The fresh office
 
@@ -99,15 +166,24 @@ give-equation S ordered E i =
     byItem entry same = refl
     byItem (figure op keep spread ps) same = ap (evaluate (figure op keep spread ps) (E i)) (map-listed ps same)
 
-giveItem-evaluate : (f : ℕ → Value) (it : Item) (v : Value) → giveItem f it v ≡ evaluate it v (map f (parentsOf it))
-giveItem-evaluate f entry v = refl
-giveItem-evaluate f (figure op keep spread ps) v = refl
-
 -- The fresh office gives the solution of the sheet's circuit.
-pub give-solves : (S : Sheet) (ordered : Ordered S) (E : Entries) → IsSolution (circuitOf S ordered E) (give S E)
-give-solves S ordered E i = give-equation S ordered E i ∙ giveItem-evaluate (give S E) (itemAt S i) (E i)
+pub give-solves : (S : Sheet) → Ordered S → (E : Entries) → IsSolution (circuitOf S) E (give S E)
+give-solves S ordered E =
+    record {
+      extends = λ i h e. give-equation S ordered E i ∙ held (itemAt S i) (E i) e;
+      derives = λ i h e. give-equation S ordered E i ∙ ruled (itemAt S i) (E i) e;
+    }
+  where
+    held : (it : Item) (v : Value) → not (isFigure it) ≡ true → giveItem (give S E) it v ≡ v
+    held entry v e = refl
+    held (figure op keep spread ps) v e = let bad : _≡_ {A = ℕ} 0 1 = cc in absurd (omega arith)
+
+    ruled : (it : Item) (v : Value) → not (isFigure it) ≡ false → giveItem (give S E) it v ≡ evaluate it null (map (give S E) (parentsOf it))
+    ruled entry v e = let bad : _≡_ {A = ℕ} 0 1 = cc in absurd (omega arith)
+    ruled (figure op keep spread ps) v e = refl
 
 -- So every solution has the values that the fresh office gives.
-pub solution-given : (S : Sheet) (ordered : Ordered S) (E : Entries) {m : ℕ → Value} → IsSolution (circuitOf S ordered E) m
-    → (i : ℕ) → m i ≡ give S E i
-solution-given S ordered E solves i = solutions-agree (circuitOf S ordered E) solves (give-solves S ordered E) i
+pub solution-given : (S : Sheet) → Ordered S → (E : Entries) {m : ℕ → Value} → IsSolution (circuitOf S) E m
+    → (i : ℕ) → i < size S → m i ≡ give S E i
+solution-given S ordered E solves i low =
+    solutions-agree (circuitOf S) (sheet-acyclic S ordered) E solves (give-solves S ordered E) i (below-listed (size S) i low)

@@ -1,10 +1,10 @@
 -- A sheet as the machine sees it: its items in order. Assumes nothing.
-use Prim.Native.Nat.{ℕ, _<_}
-use mathlib.Core.Bool.{Bool, true, false, _||_}
+use Prim.Native.Nat.{ℕ, zero, suc, _<_}
+use mathlib.Core.Bool.{Bool, true, false, _||_, not}
 use mathlib.Core.List.{List, [], _∷_}
 use lib.Dec.{eqb, leb}
 use lib.ListN.{length, getD}
-use Rattle.circuit.specs.Value.{Value}
+use Rattle.circuit.specs.Value.{Value, null}
 use Rattle.circuit.specs.Rules.{Operation, apply}
 use Rattle.circuit.specs.Circuit.{Circuit, Listed}
 
@@ -67,12 +67,24 @@ isChild S i c = member i (parents S c)
 abbrev pub Entries : Type 0
 Entries = ℕ → Value
 
--- an item's function in the circuit: an entry gives the value it holds
+-- an item's value by its parents' values: an entry has the value it holds
 abbrev pub evaluate : Item → Value → List Value → Value
 evaluate entry held vs = held
 evaluate (figure op keep spread ps) held vs = apply op vs
 
--- the circuit of a sheet whose entries hold E
-abbrev pub circuitOf : (S : Sheet) → Ordered S → Entries → Circuit ℕ Value
-circuitOf S ordered E =
-    record { parents = parents S; rule = λ i. evaluate (itemAt S i) (E i); rank = λ i. i; rises = ordered }
+-- the numbers below n
+abbrev pub numbersBelow : ℕ → List ℕ
+numbersBelow zero = []
+numbersBelow (suc n) = n ∷ numbersBelow n
+
+-- The circuit of a sheet: its items are the numbers below n, its inputs are the entries, and a figure's function is its
+-- rule. (An entry has no function; what stands for it here is never used.) The inputs' values are those that the entries
+-- hold: `IsSolution (circuitOf S) E values`.
+abbrev pub circuitOf : Sheet → Circuit ℕ Value
+circuitOf S =
+    record {
+      items = numbersBelow (size S);
+      parents = parents S;
+      isInput = λ i. not (isFigure (itemAt S i));
+      rule = λ i. evaluate (itemAt S i) null;
+    }

@@ -5,8 +5,7 @@ use mathlib.Core.Bool.{Bool, true, false, _||_}
 use mathlib.Core.List.{List, [], _∷_}
 use mathlib.Core.Option.{Option, none, some}
 use Rattle.circuit.specs.Value.{Value}
-use Rattle.circuit.specs.Circuit.{Listed}
-use Rattle.circuit.specs.Sheet.{Sheet, Entries, size, itemAt, isFigure, parents}
+use Rattle.circuit.specs.Sheet.{Sheet, Entries, size, itemAt, isFigure}
 use Rattle.circuit.specs.Table.{Table, isStored, isMarked, cellForm, valueIn}
 use Rattle.circuit.specs.Machine.{stepItem, lowestMarked}
 use Rattle.circuit.specs.Calls.{Call, perform, drops}
@@ -31,11 +30,6 @@ Holds S T E = (i : ℕ) → i < size S → isFigure (itemAt S i) ≡ false → v
 -- no figure is stored
 abbrev pub Bare : Sheet → Table → Type 0
 Bare S T = (i : ℕ) → i < size S → isFigure (itemAt S i) ≡ true → isStored (T i) ≡ false
-
--- 01's "leads to": from e to its children, and on from child to child
-pub data LeadsTo (S : Sheet) (e : ℕ) : ℕ → Type 0 where
-  direct : {k : ℕ} → Listed e (parents S k) → LeadsTo S e k
-  further : {j k : ℕ} → LeadsTo S e j → Listed j (parents S k) → LeadsTo S e k
 
 -- 01's "dropped": some drop of the list names k
 unfoldable pub droppedIn : List Call → ℕ → Bool

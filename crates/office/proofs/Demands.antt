@@ -10,11 +10,12 @@ use lib.IntN.{ℤ, pos}
 use lib.ListN.{length, length-map}
 use borrow.Author.Tests.{lt-ltb, le-ltb, not-false}
 use Rattle.circuit.specs.Value.{Value, null, out, num, kindOf}
-use Rattle.circuit.specs.Sheet.{Sheet, Ordered, Entries, size, itemAt, isFigure}
+use Rattle.circuit.specs.Circuit.{LeadsTo}
+use Rattle.circuit.specs.Sheet.{Sheet, Ordered, Entries, size, itemAt, isFigure, circuitOf}
 use Rattle.circuit.specs.Table.{Table, Cell, Mark, unmarked, refresh, notice, unk, held, isStored, isMarked, isMark, noticeIf, markOf, valueIn}
 use Rattle.circuit.specs.Calls.{Call, post, keep, drop, step, ask, Outcome, firstCause, perform, run, made, madeBy, postings, Posting, postingOf, postedValue, ifAccepted as ifMade}
 use Rattle.circuit.specs.Fresh.{blank, freshAsk, freshRun}
-use Rattle.circuit.specs.Words.{Quiet, LeadsTo}
+use Rattle.circuit.specs.Words.{Quiet}
 use Rattle.circuit.specs.Offices.{Opening, bare, full, opened, Agree, Answers}
 use Rattle.circuit.specs.Demand.{Retained}
 use Rattle.circuit.proofs.View.{result-below}
@@ -347,13 +348,13 @@ module _ (s : List ℕ) (edition : ℕ) (ps : List Placed) (reads : readSheet s 
 
   stays : (T : Table) (ds : List Call) (U : Table) (k : ℕ) → k < size (sheetRead edition ps)
       → Holdable (sheetRead edition ps) T → Within (sheetRead edition ps) T → Holdable (sheetRead edition ps) U → Within (sheetRead edition ps) U
-      → Retained (sheetRead edition ps) ordered T ds U k
+      → Retained (sheetRead edition ps) T ds U k
       → StaysStored (sheetRead edition ps) (encodeTable (sheetRead edition ps) T) ds (encodeTable (sheetRead edition ps) U) k
   stays T ds U k low hT wT hU wU r =
       record {
         stored = λ h d. stored-is U k low ∙ r .stored (sym (stored-is T k low) ∙ h) d;
-        before = λ h o E holds values solves. ap (λ X. valueIn (X k)) backU ∙ r .before (sym (stored-is U k low) ∙ h) E (λ i l f. ap (λ X. valueIn (X i)) (sym backT) ∙ holds i l f) values solves;
-        since = λ h o E holds values solves. ap (λ X. valueIn (X k)) backU ∙ r .now (sym (stored-is U k low) ∙ h) E (λ i l f. ap (λ X. valueIn (X i)) (sym backU) ∙ holds i l f) values solves;
+        before = λ h E holds values solves. ap (λ X. valueIn (X k)) backU ∙ r .before (sym (stored-is U k low) ∙ h) E (λ i l f. ap (λ X. valueIn (X i)) (sym backT) ∙ holds i l f) values solves;
+        since = λ h E holds values solves. ap (λ X. valueIn (X k)) backU ∙ r .now (sym (stored-is U k low) ∙ h) E (λ i l f. ap (λ X. valueIn (X i)) (sym backU) ∙ holds i l f) values solves;
         unchanged = λ g h. ap (λ X. valueIn (X k)) backU ∙ r .unchanged (sym (stored-is T k low) ∙ g) (sym (stored-is U k low) ∙ h) ∙ ap (λ X. valueIn (X k)) (sym backT);
         unmarked = mark-is U k low ∙ unmarked-code (markOf (U k)) (r .unmarked);
       }
@@ -375,7 +376,7 @@ module _ (s : List ℕ) (edition : ℕ) (ps : List Placed) (reads : readSheet s 
       → ((k : ℕ) → k < size (sheetRead edition ps) → markIn (row width t k) ≡ 0)
       → (e kind : ℕ) (z : ℤ) → callOn s (indexBytes ps) t (post e kind z) .number ≡ 0
       → (ds : List Call) → acceptedPosts s (indexBytes ps) (callOn s (indexBytes ps) t (post e kind z) .table) ds ≡ []
-      → (k : ℕ) → k < size (sheetRead edition ps) → isFigure (itemAt (sheetRead edition ps) k) ≡ true → (LeadsTo (sheetRead edition ps) e k → ⊥)
+      → (k : ℕ) → k < size (sheetRead edition ps) → isFigure (itemAt (sheetRead edition ps) k) ≡ true → (LeadsTo (circuitOf (sheetRead edition ps)) e k → ⊥)
       → StaysStored (sheetRead edition ps) t ds (runOn s (indexBytes ps) (callOn s (indexBytes ps) t (post e kind z) .table) ds) k
   unfolding postingsOf
   table-stays E T sound h w t is marks e kind z accepts ds none-made k low fig away =
@@ -436,7 +437,7 @@ module _ (s : List ℕ) (edition : ℕ) (ps : List Placed) (reads : readSheet s 
       t (runs cs (start o) (start-holdable o) (start-within o))
       (λ j l. marks j (subst (λ Y. j < size Y) (sym sheet-is) l)) e kind z accepts ds none-made k
       (subst (λ Y. k < size Y) sheet-is low) (subst (λ Y. isFigure (itemAt Y k) ≡ true) sheet-is fig)
-      (λ l. away (subst (λ Y. LeadsTo Y e k) (sym sheet-is) l))))
+      (λ l. away (subst (λ Y. LeadsTo (circuitOf Y) e k) (sym sheet-is) l))))
     where
       X : Sheet
       X = sheetRead edition ps

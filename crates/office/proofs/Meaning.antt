@@ -12,12 +12,12 @@ use lib.ListN.{length, getD, length-map, List·getD-map}
 use Rattle.word.specs.Word.{leBytes}
 use Rattle.circuit.specs.Value.{Value, kindOf, numberOf}
 use Rattle.circuit.specs.Circuit.{Circuit, IsSolution}
-use Rattle.circuit.specs.Sheet.{Sheet, Ordered, itemAt, size, isFigure, circuitOf}
+use Rattle.circuit.specs.Sheet.{Sheet, Ordered, Entries, itemAt, size, isFigure, circuitOf}
 use Rattle.circuit.specs.Table.{unk, held, isStored, noticeIf}
 use Rattle.circuit.specs.Machine.{Looked, lookUp, catchUp, keepFigure, keepCell}
 use Rattle.circuit.specs.Calls.{Call, keep, ask, effect}
 use Rattle.circuit.specs.Words.{Bare}
-use Rattle.circuit.proofs.Solution.{solution, solution-solves, solution-unique}
+use Rattle.circuit.proofs.Solution.{solution, solution-solves, solution-unique, sheet-acyclic, below-listed}
 use Rattle.circuit.proofs.Fill.{upd-same}
 use Rattle.circuit.proofs.CatchUp.{catchUp-quiet}
 use Rattle.circuit.proofs.Reading.{bare-look, quiet-look}
@@ -234,7 +234,7 @@ module _ (s x t : List ℕ) (lent : AcceptedLent s x t) (none-stored : NoneStore
   performed : (c : Call) → NoneHolds (ownCauses (sheetOf s) t c) → callOn s x t c ≡ effectOn (sheetOf s) x (effect (sheetOf s) (decodeTable t) c)
   performed c own = call-accepted s x t c (record { sheet = lent .sheet; lent = (lent .lent .0, (lent .lent .1 .0, (lent .lent .1 .1 .0, own))) })
 
-  module _ (values : ℕ → Value) (solves : IsSolution (circuitOf (sheetOf s) sheet-ordered (entriesIn t)) values) where
+  module _ (values : ℕ → Value) (solves : IsSolution (circuitOf (sheetOf s)) (entriesIn t) values) where
     ask-gives : (i : ℕ) → i < size (sheetOf s) → answerOf (callOn s x t (ask i)) ≡ reading (values i)
     unfolding effect
     ask-gives i low = ap answerOf (performed (ask i) ((λ h. omega arith), tt)) ∙ ap reading value
@@ -282,13 +282,28 @@ module _ (s x t : List ℕ) (lent : AcceptedLent s x t) (none-stored : NoneStore
 
 pub gives-solution : GivesSolution
 gives-solution s x t lent none-stored = (
-  solution C,
-  record { ordered = sheet-ordered s x t lent none-stored; solves = solution-solves C; only = λ other h i. solution-unique C h i },
-  record { asked = ask-gives s x t lent none-stored (solution C) (solution-solves C); kept = keep-gives s x t lent none-stored (solution C) (solution-solves C) },
+  values,
+  record { ordered = lower; solves = solves; only = λ other h i b. solution-unique C (sheet-acyclic S lower) E h i (below-listed (size S) i b) },
+  record { asked = ask-gives s x t lent none-stored values solves; kept = keep-gives s x t lent none-stored values solves },
 )
   where
+    S : Sheet
+    S = sheetOf s
+
+    lower : Ordered S
+    lower = sheet-ordered s x t lent none-stored
+
     C : Circuit ℕ Value
-    C = circuitOf (sheetOf s) (sheet-ordered s x t lent none-stored) (entriesIn t)
+    C = circuitOf S
+
+    E : Entries
+    E = entriesIn t
+
+    values : ℕ → Value
+    values = solution C E
+
+    solves : IsSolution C E values
+    solves = solution-solves C (sheet-acyclic S lower) E
 
 -- Demand 2.
 pub meaning : Meaning

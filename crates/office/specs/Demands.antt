@@ -7,13 +7,13 @@ use mathlib.Core.Option.{Option, none, some}
 use lib.Dec.{eqb}
 use lib.IntN.{ℤ, pos}
 use Rattle.circuit.specs.Value.{Value, kindOf, numberOf}
-use Rattle.circuit.specs.Circuit.{IsSolution}
-use Rattle.circuit.specs.Sheet.{Sheet, Ordered, Entries, size, itemAt, isFigure, circuitOf}
+use Rattle.circuit.specs.Circuit.{IsSolution, LeadsTo}
+use Rattle.circuit.specs.Sheet.{Sheet, Entries, size, itemAt, isFigure, circuitOf}
 use Rattle.circuit.specs.Table.{valueIn}
 use Rattle.circuit.specs.Calls.{Call, post, keep, drop, step, ask}
 use Rattle.circuit.specs.Fresh.{blank, freshRun, freshAsk}
 use Rattle.circuit.specs.Offices.{Opening}
-use Rattle.circuit.specs.Words.{Holds, LeadsTo, droppedIn}
+use Rattle.circuit.specs.Words.{Holds, droppedIn}
 use Rattle.layout.specs.Opened.{sheetOf}
 use Rattle.table.specs.Rows.{row}
 use Rattle.table.specs.Record.{width, kindIn, markIn}
@@ -98,8 +98,8 @@ valueOf t k = valueIn (decodeTable t k)
 -- entries since; with the value that it had, if it was stored; and without a mark.
 pub record StaysStored (S : Sheet) (t : List ℕ) (ds : List Call) (u : List ℕ) (k : ℕ) : Type 0 where
   pub stored : storedIn t k ≡ true → droppedIn ds k ≡ false → storedIn u k ≡ true
-  pub before : storedIn u k ≡ true → (ordered : Ordered S) (E : Entries) → Holds S (decodeTable t) E → (values : ℕ → Value) → IsSolution (circuitOf S ordered E) values → valueOf u k ≡ values k
-  pub since : storedIn u k ≡ true → (ordered : Ordered S) (E : Entries) → Holds S (decodeTable u) E → (values : ℕ → Value) → IsSolution (circuitOf S ordered E) values → valueOf u k ≡ values k
+  pub before : storedIn u k ≡ true → (E : Entries) → Holds S (decodeTable t) E → (values : ℕ → Value) → IsSolution (circuitOf S) E values → valueOf u k ≡ values k
+  pub since : storedIn u k ≡ true → (E : Entries) → Holds S (decodeTable u) E → (values : ℕ → Value) → IsSolution (circuitOf S) E values → valueOf u k ≡ values k
   pub unchanged : storedIn t k ≡ true → storedIn u k ≡ true → valueOf u k ≡ valueOf t k
   pub unmarked : markIn (row width u k) ≡ 0
 
@@ -110,7 +110,7 @@ Keeps s office =
     (cs : List Call) → let t : List ℕ = tableAfter s office cs in NoMarkStands (sheetOf s) t
     → (e kind : ℕ) (z : ℤ) → callOn s (office .index) t (post e kind z) .number ≡ 0
     → (ds : List Call) → let u : List ℕ = callOn s (office .index) t (post e kind z) .table in acceptedPosts s (office .index) u ds ≡ []
-    → (k : ℕ) → k < size (sheetOf s) → isFigure (itemAt (sheetOf s) k) ≡ true → (LeadsTo (sheetOf s) e k → ⊥)
+    → (k : ℕ) → k < size (sheetOf s) → isFigure (itemAt (sheetOf s) k) ≡ true → (LeadsTo (circuitOf (sheetOf s)) e k → ⊥)
     → StaysStored (sheetOf s) t ds (runOn s (office .index) u ds) k
 
 -- Demand 3, for all bytes and all arguments.

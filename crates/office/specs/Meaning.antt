@@ -78,8 +78,8 @@ entriesIn t = λ i. valueOf t i
 -- the only solution of the sheet's circuit under the entries E
 pub record OnlySolution (S : Sheet) (E : Entries) (values : ℕ → Value) : Type 0 where
   pub ordered : Ordered S
-  pub solves : IsSolution (circuitOf S ordered E) values
-  pub only : (other : ℕ → Value) → IsSolution (circuitOf S ordered E) other → (i : ℕ) → other i ≡ values i
+  pub solves : IsSolution (circuitOf S) E values
+  pub only : (other : ℕ → Value) → IsSolution (circuitOf S) E other → (i : ℕ) → i < size S → other i ≡ values i
 
 -- an accepted ask's answer
 abbrev pub reading : Value → Answer
