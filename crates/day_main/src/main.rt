@@ -17,7 +17,7 @@ fn load(path: &[u8], bytes: &mut [u8]) -> usize
 
 // Runs the day with lent bytes, and writes its lines to standard output.
 fn show_day(sheet: &[u8], log: &[u8], index: &mut [u8], table: &mut [u8], out: &mut [u8]) {
-    let n = day::run::run_day(sheet, log, index, table, out);
+    let n = day::run_day(sheet, log, index, table, out);
     io::write_all(STDOUT_FILENO, &out[..n]);
 }
 
