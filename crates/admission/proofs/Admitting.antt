@@ -27,7 +27,7 @@ use Rattle.table.specs.Record.{width, encodeCell, recordForm}
 use Rattle.table.specs.Bytes.{encodeTable, decodeTable, tableForm, tableLength, recordInForm}
 use Rattle.table.proofs.Rows.{below-true}
 use Rattle.table.proofs.Tables.{encode-decodeTable, encode-upd}
-use Rattle.office.specs.Office.{refusal, lengthsOff, indexWrong, tableWrong, callOn}
+use Rattle.office.specs.Office.{refusal, lengthsOff, indexWrong, tableWrong, callOn, keeping}
 use Rattle.looking.specs.Pass.{Lent}
 use Rattle.admission.specs.Admission.{itemsUnless, measuredBy, measuredOf, admittedOf, callLent}
 use Rattle.admission.proofs.Admission.{measured, admitted, refused-call}
@@ -204,8 +204,8 @@ admit-refused s x t k at e = go (readSheet s) refl e
 
 -- ---- the calls whole
 
-pub refused-whole : (s x t : List ℕ) (c : Call) (k at : ℕ) → Refused k at ≡ admittedOf s x t → (r : Answer) → r .number ≡ k → r .offset ≡ at → Answered (callOn s x t c) r t
+pub refused-whole : (s x t : List ℕ) (c : Call) (k at : ℕ) → Refused k at ≡ admittedOf s x t → (r : Answer) → r .number ≡ k → r .offset ≡ at → Answered (callOn s (keeping x t) c) r t
 refused-whole s x t c k at e r n o = rw (refused-call s x t c k at e) (record { number-is = n; offset-is = o; table-is = refl })
 
-pub admitted-whole : (s x t t′ : List ℕ) (c : Call) (n : ℕ) → Items n ≡ admittedOf s x t → (r : Answer) → Answered (callLent (sheetOf s) x t c) r t′ → Answered (callOn s x t c) r t′
+pub admitted-whole : (s x t t′ : List ℕ) (c : Call) (n : ℕ) → Items n ≡ admittedOf s x t → (r : Answer) → Answered (callLent (sheetOf s) x t c) r t′ → Answered (callOn s (keeping x t) c) r t′
 admitted-whole s x t t′ c n e r h = rw (admitted s x t n e .call c) h

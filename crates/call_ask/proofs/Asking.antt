@@ -15,7 +15,7 @@ use Rattle.layout.specs.Opened.{sheetOf}
 use Rattle.word.specs.Word.{Bytes}
 use Rattle.table.specs.Bytes.{encodeTable, decodeTable}
 use Rattle.table.proofs.Tables.{encode-decodeTable}
-use Rattle.office.specs.Office.{callOn}
+use Rattle.office.specs.Office.{callOn, keeping}
 use Rattle.item.proofs.Located.{size-most}
 use Rattle.looking.specs.Pass.{Lent, Leaves}
 use Rattle.stepping.specs.Stepping.{Ready, Steps}
@@ -48,11 +48,11 @@ module _ {s offsets t : List ℕ} (lent : Lent s offsets t) (x : List ℕ) (n it
       })
 
 pub refused-read : (s x t : List ℕ) (c : Call) (k at : ℕ) → Refused k at ≡ admittedOf s x t → (r : Reading) → r .number ≡ k → r .offset ≡ at
-    → r .kind ≡ 0 → r .value ≡ pos 0 → Asked (callOn s x t c) r t
+    → r .kind ≡ 0 → r .value ≡ pos 0 → Asked (callOn s (keeping x t) c) r t
 refused-read s x t c k at e r a b d v =
     rw (refused-call s x t c k at e) (record { number-is = a; offset-is = b; kind-is = d; value-is = v; table-is = refl })
 
-pub admitted-read : (s x t t′ : List ℕ) (c : Call) (n : ℕ) → Items n ≡ admittedOf s x t → (r : Reading) → Asked (callLent (sheetOf s) x t c) r t′ → Asked (callOn s x t c) r t′
+pub admitted-read : (s x t t′ : List ℕ) (c : Call) (n : ℕ) → Items n ≡ admittedOf s x t → (r : Reading) → Asked (callLent (sheetOf s) x t c) r t′ → Asked (callOn s (keeping x t) c) r t′
 admitted-read s x t t′ c n e r h = rw (admitted s x t n e .call c) h
 
 -- the look-up after catching up is of a generation of its own

@@ -9,7 +9,7 @@ ghost use Rattle.circuit.specs.Calls as machine_calls;
 ghost use Rattle.value.specs.Meaning.{meaning};
 ghost use Rattle.layout.specs.Opened.{sheetOf};
 ghost use Rattle.table.specs.Bytes.{decodeTable};
-ghost use Rattle.office.specs.Office.{callOn};
+ghost use Rattle.office.specs.Office.{callOn, keeping};
 ghost use Rattle.call_ask.specs.Asking.{Asked, ReadingOf, LookedUp};
 ghost use Rattle.admission.specs.Admission.{Placing, callLent};
 ghost use Rattle.looking.specs.Pass.{Lent};
@@ -79,7 +79,7 @@ fn ask_lent(sheet: &[u8], offsets: &[usize], table: &mut [u8], n: usize, item: u
 }
 
 pub fn ask(sheet: &[u8], index: &[u8], table: &mut [u8], item: u64) -> Reading
-    ensures { λ r. ⌜ Asked (callOn (now (sheet .entry)) (now (index .entry)) (now (table .entry)) (machine_calls.ask item)) r (now (table .exit)) ⌝ }
+    ensures { λ r. ⌜ Asked (callOn (now (sheet .entry)) (keeping (now (index .entry)) (now (table .entry))) (machine_calls.ask item)) r (now (table .exit)) ⌝ }
 {
     let mut offsets = [0usize; sheet::limits::ITEM_LIMIT];
     let mut levels = [0u8; sheet::limits::ITEM_LIMIT];

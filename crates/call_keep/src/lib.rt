@@ -9,7 +9,7 @@ ghost use Rattle.circuit.specs.Calls as machine_calls;
 ghost use Rattle.layout.specs.Opened.{sheetOf};
 ghost use Rattle.table.specs.Bytes.{decodeTable};
 ghost use Rattle.table.specs.Meaning.{markMeaning, cellMeaning};
-ghost use Rattle.office.specs.Office.{callOn};
+ghost use Rattle.office.specs.Office.{callOn, keeping};
 ghost use Rattle.admission.specs.Answers.{Answered, Left};
 ghost use Rattle.admission.specs.Admission.{Placing, callLent};
 ghost use Rattle.looking.specs.Pass.{Lent};
@@ -54,7 +54,7 @@ fn drop_lent(sheet: &[u8], offsets: &[usize], table: &mut [u8], n: usize, item: 
 }
 
 pub fn drop_figure(sheet: &[u8], index: &[u8], table: &mut [u8], item: u64) -> Answer
-    ensures { λ r. ⌜ Answered (callOn (now (sheet .entry)) (now (index .entry)) (now (table .entry)) (machine_calls.drop item)) r (now (table .exit)) ⌝ }
+    ensures { λ r. ⌜ Answered (callOn (now (sheet .entry)) (keeping (now (index .entry)) (now (table .entry))) (machine_calls.drop item)) r (now (table .exit)) ⌝ }
 {
     let mut offsets = [0usize; sheet::limits::ITEM_LIMIT];
     let mut levels = [0u8; sheet::limits::ITEM_LIMIT];
@@ -99,7 +99,7 @@ fn keep_lent(sheet: &[u8], offsets: &[usize], table: &mut [u8], n: usize, item: 
 }
 
 pub fn keep(sheet: &[u8], index: &[u8], table: &mut [u8], item: u64) -> Answer
-    ensures { λ r. ⌜ Answered (callOn (now (sheet .entry)) (now (index .entry)) (now (table .entry)) (machine_calls.keep item)) r (now (table .exit)) ⌝ }
+    ensures { λ r. ⌜ Answered (callOn (now (sheet .entry)) (keeping (now (index .entry)) (now (table .entry))) (machine_calls.keep item)) r (now (table .exit)) ⌝ }
 {
     let mut offsets = [0usize; sheet::limits::ITEM_LIMIT];
     let mut levels = [0u8; sheet::limits::ITEM_LIMIT];

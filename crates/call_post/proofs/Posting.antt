@@ -18,7 +18,7 @@ use Rattle.word.specs.Word.{Bytes}
 use Rattle.table.specs.Rows.{row, setRow}
 use Rattle.table.specs.Record.{width, encodeCell, decodeCell}
 use Rattle.table.specs.Bytes.{encodeTable, decodeTable}
-use Rattle.office.specs.Office.{callOn}
+use Rattle.office.specs.Office.{callOn, keeping}
 use Rattle.looking.specs.Pass.{Lent}
 use Rattle.admission.specs.Admission.{admittedOf, callLent}
 use Rattle.admission.specs.Answers.{Answered, wrongItem}
@@ -56,6 +56,6 @@ module _ {s offsets t : List ℕ} (lent : Lent s offsets t) (bytes : Bytes t) (x
       ∙ ap (λ o. encodeTable (sheetOf s) (postIt (decodeTable t) item o)) e)
 
 pub post-whole : (s x t t′ : List ℕ) (item kind : ℕ) (w z : ℤ) (n : ℕ) → Items n ≡ admittedOf s x t → (r : Answer) → w ≡ z
-    → Answered (callLent (sheetOf s) x t (post item kind w)) r t′ → Answered (callOn s x t (post item kind z)) r t′
+    → Answered (callLent (sheetOf s) x t (post item kind w)) r t′ → Answered (callOn s (keeping x t) (post item kind z)) r t′
 post-whole s x t t′ item kind w z n e r q h =
     admitted-whole s x t t′ (post item kind z) n e r (subst (λ v. Answered (callLent (sheetOf s) x t (post item kind v)) r t′) q h)

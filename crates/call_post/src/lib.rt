@@ -8,7 +8,7 @@ ghost use Rattle.circuit.specs.Calls as machine_calls;
 ghost use Rattle.value.specs.Meaning.{meaning, partsMeaning};
 ghost use Rattle.layout.specs.Opened.{sheetOf};
 ghost use Rattle.table.specs.Meaning.{cellMeaning};
-ghost use Rattle.office.specs.Office.{callOn};
+ghost use Rattle.office.specs.Office.{callOn, keeping};
 ghost use Rattle.admission.specs.Answers.{Answered};
 ghost use Rattle.admission.specs.Admission.{Placing, callLent};
 ghost use Rattle.looking.specs.Pass.{Lent};
@@ -81,7 +81,7 @@ pub fn post(
     kind: u64,
     number: i64,
 ) -> Answer
-    ensures { λ r. ⌜ Answered (callOn (now (sheet .entry)) (now (index .entry)) (now (table .entry)) (machine_calls.post item kind number)) r (now (table .exit)) ⌝ }
+    ensures { λ r. ⌜ Answered (callOn (now (sheet .entry)) (keeping (now (index .entry)) (now (table .entry))) (machine_calls.post item kind number)) r (now (table .exit)) ⌝ }
 {
     let mut offsets = [0usize; sheet::limits::ITEM_LIMIT];
     let mut levels = [0u8; sheet::limits::ITEM_LIMIT];

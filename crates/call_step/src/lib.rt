@@ -13,7 +13,7 @@ ghost use Rattle.circuit.specs.Table.{markOf, isNotice};
 ghost use Rattle.layout.specs.Opened.{sheetOf};
 ghost use Rattle.table.specs.Record.{width};
 ghost use Rattle.table.specs.Bytes.{decodeTable};
-ghost use Rattle.office.specs.Office.{callOn};
+ghost use Rattle.office.specs.Office.{callOn, keeping};
 ghost use Rattle.admission.specs.Answers.{Answered, Left};
 ghost use Rattle.admission.specs.Admission.{Placing, callLent};
 ghost use Rattle.looking.specs.Pass.{Lent};
@@ -93,7 +93,7 @@ fn step_lent(sheet: &[u8], offsets: &[usize], table: &mut [u8], n: usize, item: 
 }
 
 pub fn step(sheet: &[u8], index: &[u8], table: &mut [u8], item: u64) -> Answer
-    ensures { λ r. ⌜ Answered (callOn (now (sheet .entry)) (now (index .entry)) (now (table .entry)) (machine_calls.step item)) r (now (table .exit)) ⌝ }
+    ensures { λ r. ⌜ Answered (callOn (now (sheet .entry)) (keeping (now (index .entry)) (now (table .entry))) (machine_calls.step item)) r (now (table .exit)) ⌝ }
 {
     let mut offsets = [0usize; sheet::limits::ITEM_LIMIT];
     let mut levels = [0u8; sheet::limits::ITEM_LIMIT];

@@ -16,7 +16,7 @@ use Rattle.field.specs.declared.Cut.the-variants.{Field, Short, Absent}
 use Rattle.layout.specs.Read.{contentAt}
 use Rattle.layout.specs.Index.{indexWidth}
 use Rattle.table.specs.Record.{width}
-use Rattle.office.specs.Office.{Given, openOn, callOn}
+use Rattle.office.specs.Office.{Given, openOn, callOn, keeping}
 use Rattle.printer.specs.Printing.{textOf}
 use Rattle.value.specs.Meaning.{partsOf}
 use Rattle.day_meaning.specs.Lines.{okLine, noLine, askLine, lastLine, sheetWord, dayWord, written, writtenCount, Appended}
@@ -63,7 +63,7 @@ playCall rest next c g = after (lineOf c g) (rest next (g .table))
 -- a field that orders a call, or one at fault, after which the rest is unread
 abbrev pub playOrder : (ℕ → List ℕ → Played) → List ℕ → List ℕ → ℕ → List ℕ → ℕ → Option Call → Played
 playOrder rest s x at t next none = played (faultLine at) t
-playOrder rest s x at t next (some c) = playCall rest next c (callOn s x t c)
+playOrder rest s x at t next (some c) = playCall rest next c (callOn s (keeping x t) c)
 
 -- what stands at an offset: a field, a field that runs past the end, or the end of the day
 abbrev pub playCut : (ℕ → List ℕ → Played) → List ℕ → List ℕ → List ℕ → ℕ → List ℕ → Cut → Played
@@ -107,7 +107,7 @@ dayBy (suc k) s d g = ended (lastLine sheetWord (suc k) (g .offset)) (g .index) 
 
 -- the day with an index and a table of which all is lent on
 unfoldable pub dayOn : List ℕ → List ℕ → List ℕ → List ℕ → Day
-dayOn s d x t = dayBy (openOn bare s x t .number) s d (openOn bare s x t)
+dayOn s d x t = dayBy (openOn bare s (keeping x t) .number) s d (openOn bare s (keeping x t))
 
 -- the bytes after those that were lent on stay
 abbrev pub withRests : ℕ → ℕ → List ℕ → List ℕ → Day → Day

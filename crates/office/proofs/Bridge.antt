@@ -27,7 +27,7 @@ use Rattle.table.specs.Record.{width, decodeCell}
 use Rattle.table.specs.Rows.{row}
 use Rattle.table.specs.Bytes.{encodeTable, decodeTable, tableForm, Holdable, tableLength}
 use Rattle.table.proofs.Tables.{length-encodeTable, decode-encodeTable, encoded-tableForm, holdable-wellFormed}
-use Rattle.office.specs.Office.{Given, refusal, accepted, kindRead, numberRead, lengthsWrong, indexWrong, tableWrong, callTests, unlessRefused, effectOn, callRead, callOn, runOn}
+use Rattle.office.specs.Office.{Office, keeping, Given, refusal, accepted, kindRead, numberRead, lengthsWrong, indexWrong, tableWrong, callTests, unlessRefused, effectOn, callRead, callOn, runOn}
 use Rattle.office.proofs.Holdable.{perform-holdable}
 
 -- nothing stands beyond the sheet
@@ -117,7 +117,7 @@ decode-within S T h w = fun-ext λ i. go i (ltb i (size S)) refl
 -- what the machine's outcome gives on bytes
 abbrev pub givenBy : Sheet → List ℕ → Outcome → Given
 givenBy S x o =
-    record { number = o .number; offset = 0; kind = kindRead (o .reading); value = numberRead (o .reading); index = x; table = encodeTable S (o .table) }
+    record { number = o .number; offset = 0; kind = kindRead (o .reading); value = numberRead (o .reading); after = keeping x (encodeTable S (o .table)) }
 
 effect-number : (S : Sheet) (T : Table) (c : Call) → effect S T c .number ≡ 0
 unfolding effect
@@ -138,9 +138,9 @@ module _ (s : List ℕ) (edition : ℕ) (ps : List Placed) (opening : readSheet 
     (ordered : Ordered (sheetRead edition ps)) where
   -- a call on the index of the sheet and the encoding of a table
   pub call-performs : (T : Table) (c : Call) → Holdable (sheetRead edition ps) T → Within (sheetRead edition ps) T
-      → callOn s (indexBytes ps) (encodeTable (sheetRead edition ps) T) c ≡ givenBy (sheetRead edition ps) (indexBytes ps) (perform (sheetRead edition ps) T c)
+      → callOn s (keeping (indexBytes ps) (encodeTable (sheetRead edition ps) T)) c ≡ givenBy (sheetRead edition ps) (indexBytes ps) (perform (sheetRead edition ps) T c)
   unfolding callOn perform
-  call-performs T c h w = ap (λ r. callRead r x t c) opening ∙ passed ∙ by-cause (firstCause (tests S T c))
+  call-performs T c h w = ap (λ r. callRead r (keeping x t) c) opening ∙ passed ∙ by-cause (firstCause (tests S T c))
     where
       S : Sheet
       S = sheetRead edition ps
@@ -158,25 +158,25 @@ module _ (s : List ℕ) (edition : ℕ) (ps : List Placed) (opening : readSheet 
       lengths =
           rw (eq-eqb (length x) (indexWidth * length ps) indexed, eq-eqb (length t) (width * length ps) (length-encodeTable S T ∙ ap (λ n. width * n) sized))
 
-      causes : firstCause (callTests S ps x t c) ≡ firstCause (tests S T c)
+      causes : firstCause (callTests S ps (keeping x t) c) ≡ firstCause (tests S T c)
       causes =
           pass-over 8 (lengthsWrong ps x t) _ lengths
           ∙ pass-over 9 (indexWrong ps x) _ (ap not (same-refl x))
           ∙ pass-over 10 (tableWrong S t) _ (ap not (encoded-tableForm S T h))
           ∙ ap (λ U. firstCause (tests S U c)) again
 
-      passed : callRead (opens edition ps) x t c ≡ unlessRefused (firstCause (tests S T c)) x t (effectOn S x (effect S T c))
+      passed : callRead (opens edition ps) (keeping x t) c ≡ unlessRefused (firstCause (tests S T c)) (keeping x t) (effectOn S (keeping x t) (effect S T c))
       passed = rw (causes, again)
 
-      by-cause : (k : ℕ) → unlessRefused k x t (effectOn S x (effect S T c)) ≡ givenBy S x (unless k S T c)
+      by-cause : (k : ℕ) → unlessRefused k (keeping x t) (effectOn S (keeping x t) (effect S T c)) ≡ givenBy S x (unless k S T c)
       by-cause zero = rw (effect-number S T c)
       by-cause (suc k) = refl
 
   -- a list of calls
   pub run-runs : (cs : List Call) (T : Table) → Holdable (sheetRead edition ps) T → Within (sheetRead edition ps) T
-      → runOn s (indexBytes ps) (encodeTable (sheetRead edition ps) T) cs ≡ encodeTable (sheetRead edition ps) (run (sheetRead edition ps) T cs)
+      → runOn s (keeping (indexBytes ps) (encodeTable (sheetRead edition ps) T)) cs ≡ keeping (indexBytes ps) (encodeTable (sheetRead edition ps) (run (sheetRead edition ps) T cs))
   unfolding runOn run
   run-runs [] T h w = refl
   run-runs (c ∷ cs) T h w =
-      ap (λ g. runOn s (indexBytes ps) (g .table) cs) (call-performs T c h w)
+      ap (λ g. runOn s (g .after) cs) (call-performs T c h w)
       ∙ run-runs cs (perform (sheetRead edition ps) T c .table) (perform-holdable (sheetRead edition ps) ordered T c h) (perform-within (sheetRead edition ps) ordered T c w)
