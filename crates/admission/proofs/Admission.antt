@@ -91,7 +91,7 @@ refused-call s x t c k at e = go (readSheet s) refl e
     go (refused j o) q y = let a : j ≡ k = cc in let b : o ≡ at = cc in rw q (ap₂ (λ i p. refusal i p (keeping x t)) a b)
     go (opens edition ps) q y =
         rw q (by (lengthsOff (length ps) (length x) (length t)) (indexWrong ps x) (tableWrong (sheetRead edition ps) t) (length ps)
-        (tests (sheetRead edition ps) (decodeTable t) c) (effectOn (sheetRead edition ps) x (effect (sheetRead edition ps) (decodeTable t) c)) y)
+        (tests (sheetRead edition ps) (decodeTable t) c) (effectOn (sheetRead edition ps) (keeping x t) (effect (sheetRead edition ps) (decodeTable t) c)) y)
 
 pub record AdmittedCall (s x t : List ℕ) (n : ℕ) : Type 0 where
   pub count-is : n ≡ size (sheetOf s)

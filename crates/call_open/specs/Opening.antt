@@ -13,8 +13,8 @@ use Rattle.admission.specs.declared.Answer.{Answer}
 pub record Opened (g : Given) (r : Answer) (x t : List ℕ) : Type 0 where
   pub number-is : r .number ≡ g .number
   pub offset-is : r .offset ≡ g .offset
-  pub index-is : x ≡ g .index
-  pub table-is : t ≡ g .table
+  pub index-is : x ≡ g .after .index
+  pub table-is : t ≡ g .after .table
 
 -- which opening
 abbrev pub openingBy : Bool → Opening

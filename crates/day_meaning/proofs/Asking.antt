@@ -16,7 +16,7 @@ use Rattle.table.specs.Bytes.{decodeTable, tableForm}
 use Rattle.table.proofs.Tables.{decoded-holdable}
 use Rattle.office.specs.Office.{callTests, callRead, callOn, lengthsWrong, indexWrong, tableWrong, unlessRefused, effectOn, keeping}
 use Rattle.office.proofs.Holdable.{look-formed, catchUp-holdable}
-use Rattle.office.proofs.Demands.{refused-positive}
+use Rattle.office.proofs.Agreeing.{refused-positive}
 use Rattle.printer.specs.Printing.{printed}
 use Rattle.day_meaning.specs.Lines.{askLine}
 use Rattle.day_meaning.specs.Day.{lineOf}
@@ -37,7 +37,7 @@ pub ask-prints : (s x t : List ℕ) (i : ℕ) → callOn s (keeping x t) (ask i)
 unfolding callOn tests effect
 ask-prints s x t i e = go (readSheet s) refl e
   where
-    formed : (edition : ℕ) (ps : List Placed) → readSheet s ≡ opens edition ps → firstCause (callTests (sheetRead edition ps) ps x t (ask i)) ≡ 0
+    formed : (edition : ℕ) (ps : List Placed) → readSheet s ≡ opens edition ps → firstCause (callTests (sheetRead edition ps) ps (keeping x t) (ask i)) ≡ 0
         → wellFormed (asked edition ps t i) ≡ true
     formed edition ps r h =
         let S : Sheet = sheetRead edition ps in
@@ -50,9 +50,9 @@ ask-prints s x t i e = go (readSheet s) refl e
         let low : i < size S = leb-false (size S) i (d .0) in
         look-formed S ordered (catchUp S (decodeTable t)) i low (catchUp-holdable S ordered (decodeTable t) (decoded-holdable S t form))
 
-    accepts : (edition : ℕ) (ps : List Placed) (m : ℕ) → readSheet s ≡ opens edition ps → firstCause (callTests (sheetRead edition ps) ps x t (ask i)) ≡ m
-        → unlessRefused m (keeping x t) (effectOn (sheetRead edition ps) x (effect (sheetRead edition ps) (decodeTable t) (ask i))) .number ≡ 0
-        → lineOf (ask i) (unlessRefused m (keeping x t) (effectOn (sheetRead edition ps) x (effect (sheetRead edition ps) (decodeTable t) (ask i)))) ≡ askLine i (printed (asked edition ps t i))
+    accepts : (edition : ℕ) (ps : List Placed) (m : ℕ) → readSheet s ≡ opens edition ps → firstCause (callTests (sheetRead edition ps) ps (keeping x t) (ask i)) ≡ m
+        → unlessRefused m (keeping x t) (effectOn (sheetRead edition ps) (keeping x t) (effect (sheetRead edition ps) (decodeTable t) (ask i))) .number ≡ 0
+        → lineOf (ask i) (unlessRefused m (keeping x t) (effectOn (sheetRead edition ps) (keeping x t) (effect (sheetRead edition ps) (decodeTable t) (ask i)))) ≡ askLine i (printed (asked edition ps t i))
     accepts edition ps zero r h n = ap (askLine i) (value-text (asked edition ps t i) (formed edition ps r h))
     accepts edition ps (suc m) r h n = absurd (omega arith)
 
@@ -63,5 +63,5 @@ ask-prints s x t i e = go (readSheet s) refl e
           edition = edition;
           items = ps;
           reads = r;
-          line = rw r (accepts edition ps (firstCause (callTests (sheetRead edition ps) ps x t (ask i))) r refl h);
+          line = rw r (accepts edition ps (firstCause (callTests (sheetRead edition ps) ps (keeping x t) (ask i))) r refl h);
         }

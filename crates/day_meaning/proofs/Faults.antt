@@ -52,7 +52,7 @@ module _ (s x t : List ℕ) (k : ℕ) where
 
   -- A fault after a call: its offset is that of the field, and the field after it is unread.
   pub fault-after : playFrom (suc (suc k)) s x (17 ∷ 2 ∷ 0 ∷ 4 ∷ 0 ∷ 21 ∷ 0 ∷ 0 ∷ 17 ∷ 2 ∷ 0 ∷ 4 ∷ 0 ∷ []) 0 t
-      ≡ record { text = lineOf (ask 4) (callOn s (keeping x t) (ask 4)) ++ faultLine 5; table = callOn s (keeping x t) (ask 4) .table }
+      ≡ record { text = lineOf (ask 4) (callOn s (keeping x t) (ask 4)) ++ faultLine 5; table = callOn s (keeping x t) (ask 4) .after .table }
   unfolding playFrom cutAt orderOf callIn
   fault-after = refl
 

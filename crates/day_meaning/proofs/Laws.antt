@@ -47,7 +47,7 @@ enough-fields (suc f) (suc g) s x d t at p q = cut (λ u next. enough-fields f g
         let w : FieldAt d at tag start len next = field-iff d at tag start len next .0 e in
         play-call s x d t at f tag start len next c e o
         ∙ ap (λ r. after (lineOf c (callOn s (keeping x t) c)) r)
-        (ih (callOn s (keeping x t) c .table) next (omega (arith, w .start-is, w .next-is)) (omega (arith, w .start-is, w .next-is)))
+        (ih (callOn s (keeping x t) c .after .table) next (omega (arith, w .start-is, w .next-is)) (omega (arith, w .start-is, w .next-is)))
         ∙ sym (play-call s x d t at g tag start len next c e o)
 
     cut : ((u : List ℕ) (next : ℕ) → length d < next + f → length d < next + g → playFrom f s x d next u ≡ playFrom g s x d next u)

@@ -33,13 +33,13 @@ reading-refused item (suc n) text h = refl
 
 -- a call and its line
 pub carry-answer : {c c′ : Call} {t′ out out′ : List ℕ} {n at next : ℕ} (s x t : List ℕ) → c ≡ c′ → ((g : Given) → lineOf c′ g ≡ answerLine (g .number))
-    → n ≡ callOn s (keeping x t) c′ .number → t′ ≡ callOn s (keeping x t) c′ .table → Appended (answerLine n) out at next out′
+    → n ≡ callOn s (keeping x t) c′ .number → t′ ≡ callOn s (keeping x t) c′ .after .table → Appended (answerLine n) out at next out′
     → CarriedOut c (callOn s (keeping x t) c) out at next t′ out′
 carry-answer {c} {c′} {n = n} s x t e line number table p =
     rw e (record { line = appended-as (ap answerLine number ∙ sym (line (callOn s (keeping x t) c′))) p; table-is = table })
 
 pub carry-reading : {c : Call} {t′ out out′ : List ℕ} {n kind at next : ℕ} {z : ℤ} (s x t : List ℕ) (item : ℕ) → c ≡ ask item
-    → n ≡ callOn s (keeping x t) (ask item) .number → kind ≡ callOn s (keeping x t) (ask item) .kind → z ≡ callOn s (keeping x t) (ask item) .value → t′ ≡ callOn s (keeping x t) (ask item) .table
+    → n ≡ callOn s (keeping x t) (ask item) .number → kind ≡ callOn s (keeping x t) (ask item) .kind → z ≡ callOn s (keeping x t) (ask item) .value → t′ ≡ callOn s (keeping x t) (ask item) .after .table
     → Appended (readingLine item n (textOf (partsOf kind z))) out at next out′ → CarriedOut c (callOn s (keeping x t) c) out at next t′ out′
 carry-reading {c} {n = n} {kind = kind} {z = z} s x t item e number kinds value table p =
     let g : Given = callOn s (keeping x t) (ask item) in
@@ -99,7 +99,7 @@ module _ (s x d t : List ℕ) (at : ℕ) where
   play-fault k tag start len next e o = rw (e, o)
 
   pub play-call : (k tag start len next : ℕ) (c : Call) → cutAt d at ≡ Field tag start len next → orderOf tag (contentAt d start len) ≡ some c
-      → playFrom (suc k) s x d at t ≡ after (lineOf c (callOn s (keeping x t) c)) (playFrom k s x d next (callOn s (keeping x t) c .table))
+      → playFrom (suc k) s x d at t ≡ after (lineOf c (callOn s (keeping x t) c)) (playFrom k s x d next (callOn s (keeping x t) c .after .table))
   unfolding playFrom
   play-call k tag start len next c e o = rw (e, o)
 
@@ -154,7 +154,7 @@ module _ {s x d t₀ out₀ t out : List ℕ} {at count : ℕ} (w : Playing s x 
                 w .goes-on
                 ∙ ap (λ f. after (w .text) (playFrom f s x d at t)) h
                 ∙ ap (λ q. after (w .text) q) (play-call s x d t at k tag start len next c (sym e ∙ f) o)
-                ∙ ap (λ l. record { text = l; table = playFrom k s x d next (callOn s (keeping x t) c .table) .table })
-                (sym (append-assoc (w .text) line (playFrom k s x d next (callOn s (keeping x t) c .table) .text)))
+                ∙ ap (λ l. record { text = l; table = playFrom k s x d next (callOn s (keeping x t) c .after .table) .table })
+                (sym (append-assoc (w .text) line (playFrom k s x d next (callOn s (keeping x t) c .after .table) .text)))
                 ∙ ap (λ q. after (w .text ++ line) (playFrom k s x d next q)) (sym (p .table-is));
           }
