@@ -24,7 +24,7 @@ use Rattle.admission.specs.Admission.{admittedOf, callLent}
 use Rattle.admission.specs.Answers.{Answered, wrongItem}
 use Rattle.admission.specs.declared.Answer.{Answer}
 use Rattle.admission.specs.declared.Admitted.the-variants.{Items}
-use Rattle.admission.proofs.Admitting.{first-two, past-two, refused-answer, accepted-answer, stored-encoded, admitted-whole}
+use Rattle.admission.proofs.Admitting.{first-two, past-two, refused-answer, accepted-answer, stored-encoded}
 
 -- ---- post
 
@@ -54,8 +54,3 @@ module _ {s offsets t : List ℕ} (lent : Lent s offsets t) (bytes : Bytes t) (x
       accepted-answer (sheetOf s) x t t′ (post item kind z) r (p .1 ∙ ap (λ o. cond (isNone o) 13 0) (sym e)) n offset-is
       (g ∙ ap (λ d. setRow width t item (encodeCell d)) f ∙ stored-encoded lent bytes item _ low
       ∙ ap (λ o. encodeTable (sheetOf s) (postIt (decodeTable t) item o)) e)
-
-pub post-whole : (s x t t′ : List ℕ) (item kind : ℕ) (w z : ℤ) (n : ℕ) → Items n ≡ admittedOf s x t → (r : Answer) → w ≡ z
-    → Answered (callLent (sheetOf s) x t (post item kind w)) r t′ → Answered (callOn s (keeping x t) (post item kind z)) r t′
-post-whole s x t t′ item kind w z n e r q h =
-    admitted-whole s x t t′ (post item kind z) n e r (subst (λ v. Answered (callLent (sheetOf s) x t (post item kind v)) r t′) q h)

@@ -1,21 +1,36 @@
-use Rattle.admission.proofs.Admitting.{refused-whole, admitted-whole}
-use Rattle.admission.proofs.Admission.{admitted, admitted-lent, admitted-placing}
+use Rattle.admission.proofs.Calls.{admits, refuses}
 use Rattle.circuit.specs.Calls.{keep}
 use Rattle.sheet.specs.Check.{mostItems}
-use mathlib.Core.Path.{sym, _∙_}
+use mathlib.Core.Path.{refl}
 use native.Mathlib.Omega.{arith}
 use borrow.Author.Needs.{needs}
 use Rattle.call_keep.proofs.keep.Statement.{statement}
 use Rattle.call_keep.proofs.keep.Tie as tie
 
 keep-lent-requires : tie.Need-keep-lent-requires
-keep-lent-requires c κs = let a = c .before .before .before .before .before .before .before .before .before .before .before .before .before .before .args in let m = c .before .before .before .before .before .before .before .admit in let w = c .before .before .before .n .given in let e = sym (w .1) ∙ m .ensures .0 in let room = m .kept .1 .1 .1 .0 in (admitted-placing (a .sheet .now) _ (w .0 .0) (admitted (a .sheet .now) (a .index .now) (a .table .now) (w .0 .0) e .count-is) (m .ensures .1 .located) (omega (arith, room)), admitted-lent (a .sheet .now) (a .index .now) (a .table .now) _ (w .0 .0) e (m .ensures .1 .located) (omega (arith, room)))
+unfolding mostItems
+keep-lent-requires c κs =
+    let b = c .before .before .before in
+    let m = b .before .before .before .before in
+    let a = m .before .before .before .before .before .before .before .args in
+    let g = admits (a .sheet .now) (a .index .now) (a .table .now) _ (m .admit .ensures .0) (b .n .given .1) (m .admit .ensures .1 .located) (omega (arith, m .admit .kept .1 .1 .1 .0)) in
+    (g .placing, g .lent)
 
 returns : tie.Need-returns
-returns c = let a = c .before .before .before .before .before .before .before .before .before .before .before .before .before .args in let m = c .before .before .before .before .before .before .admit in let w = c .before .before .number .given in refused-whole (a .sheet .now) (a .index .now) (a .table .now) (keep (a .item)) (w .0 .0) (w .0 .1 .0) (sym (w .1) ∙ m .ensures .0) (c .give .result) (c .give .ensures .0) (c .give .ensures .1)
+returns c =
+    let b = c .before .before in
+    let m = b .before .before .before .before in
+    let a = m .before .before .before .before .before .before .before .args in
+    rw (refuses (a .sheet .now) (a .index .now) (a .table .now) (keep (a .item)) (m .admit .ensures .0) (b .number .given .1)) (record { number-is = c .give .ensures .0; offset-is = c .give .ensures .1; table-is = refl })
 
 returns-2 : tie.Need-returns-2
-returns-2 c = let a = c .before .before .before .before .before .before .before .before .before .before .before .before .before .before .before .before .before .args in let m = c .before .before .before .before .before .before .before .before .before .before .admit in let w = c .before .before .before .before .before .before .n .given in let e = sym (w .1) ∙ m .ensures .0 in admitted-whole (a .sheet .now) (a .index .now) (a .table .now) _ (keep (a .item)) (w .0 .0) e (c .before .before .keep-lent .result) (c .before .before .keep-lent .ensures (a .index .now))
+unfolding mostItems
+returns-2 c =
+    let b = c .before .before .before .before .before .before in
+    let m = b .before .before .before .before in
+    let a = m .before .before .before .before .before .before .before .args in
+    let g = admits (a .sheet .now) (a .index .now) (a .table .now) _ (m .admit .ensures .0) (b .n .given .1) (m .admit .ensures .1 .located) (omega (arith, m .admit .kept .1 .1 .1 .0)) in
+    rw (g .call (keep (a .item))) (c .before .before .keep-lent .ensures (a .index .now))
 
 pub keep-spec : {M : Type 1} → statement M
 unfolding mostItems
