@@ -14,7 +14,7 @@ give-requires : tie.Need-give-requires
 give-requires c κs = search needs
 
 returns : tie.Need-returns
-returns c = λ x. let a = c .before .before .before .before .before .before .args in let p = c .before .before .before .before .before .before .pre in let i = c .before .before .item-cause in drop-item (p .1) (slice-bytes (a .table .now) (c .before .before .before .slice-known .given)) x (a .item) (i .result) (i .ensures) (c .give .result) (c .give .ensures .1) (c .before .if1 .taken) (c .give .ensures .0)
+returns c = λ x. let a = c .before .before .before .before .before .before .args in let p = c .before .before .before .before .before .before .pre in let i = c .before .before .item-cause in drop-item (p .1) x (a .item) (i .result) (i .ensures) (c .give .result) (c .give .ensures .1) (c .before .if1 .taken) (c .give .ensures .0)
 
 read-cell-requires : tie.Need-read-cell-requires
 read-cell-requires c κs = let a = c .before .before .before .before .before .before .args in let p = c .before .before .before .before .before .before .pre in let i = c .before .before .item-cause in cause-fits (a .sheet .now) (a .table .now) (a .item) (i .result) true (p .1 .length-is) (i .ensures) (c .before .if1 .left)
@@ -32,7 +32,7 @@ same-length : tie.Need-same-length
 same-length c = search needs
 
 returns-2 : tie.Need-returns-2
-returns-2 c = λ x. let a = c .before .before .before .before .before .before .before .before .before .before .before .before .before .args in let p = c .before .before .before .before .before .before .before .before .before .before .before .before .before .pre in let i = c .before .before .before .before .before .before .before .before .before .item-cause in drop-stored (p .1) (slice-bytes (a .table .now) (c .before .before .before .before .before .before .before .before .before .before .slice-known .given)) x (a .item) (i .result) (i .ensures) (c .give2 .result) (c .give2 .ensures .1) (c .before .before .before .before .before .before .before .before .if1 .left) _ _ (c .before .before .before .before .before .dropped-cell .ensures ∙ ap Rattle.circuit.specs.Machine.dropCell (c .before .before .before .before .before .before .read-cell .ensures)) (c .before .before .before .store-cell .ensures) (c .give2 .ensures .0)
+returns-2 c = λ x. let a = c .before .before .before .before .before .before .before .before .before .before .before .before .before .args in let p = c .before .before .before .before .before .before .before .before .before .before .before .before .before .pre in let i = c .before .before .before .before .before .before .before .before .before .item-cause in drop-stored (p .1) x (a .item) (i .result) (i .ensures) (c .give2 .result) (c .give2 .ensures .1) (slice-bytes (a .table .now) (c .before .before .before .before .before .before .before .before .before .before .slice-known .given)) (c .before .before .before .before .before .before .before .before .if1 .left) _ _ (c .before .before .before .before .before .dropped-cell .ensures ∙ ap Rattle.circuit.specs.Machine.dropCell (c .before .before .before .before .before .before .read-cell .ensures)) (c .before .before .before .store-cell .ensures) (c .give2 .ensures .0)
 
 pub drop-lent-spec : {M : Type 1} → statement M
 drop-lent-spec =
