@@ -373,9 +373,10 @@ module _ (s : List ℕ) (edition : ℕ) (ps : List Placed) (reads : readSheet s 
   held-same : (T U : Table) (k : ℕ) → k < size (sheetRead edition ps) → isStored (T k) ≡ true → isStored (U k) ≡ true → valueIn (U k) ≡ valueIn (T k)
       → (kindIn (row width (at U .table) k) ≡ kindIn (row width (at T .table) k)) × (numberIn (row width (at U .table) k) ≡ numberIn (row width (at T .table) k))
   held-same T U k low a b same =
-      let p = parts-same (T k) (U k) a b same in
-      (ap kindIn (encoded-record (sheetRead edition ps) U k low) ∙ p .0 ∙ ap kindIn (sym (encoded-record (sheetRead edition ps) T k low)),
-      ap numberIn (encoded-record (sheetRead edition ps) U k low) ∙ p .1 ∙ ap numberIn (sym (encoded-record (sheetRead edition ps) T k low)))
+      let p = parts-same (T k) (U k) a b same in (
+        ap kindIn (encoded-record (sheetRead edition ps) U k low) ∙ p .0 ∙ ap kindIn (sym (encoded-record (sheetRead edition ps) T k low)),
+        ap numberIn (encoded-record (sheetRead edition ps) U k low) ∙ p .1 ∙ ap numberIn (sym (encoded-record (sheetRead edition ps) T k low)),
+      )
 
   stays : (T : Table) (ds : List Call) (U : Table) (k : ℕ) → k < size (sheetRead edition ps) → Retained (sheetRead edition ps) T ds U k
       → storedIn (at T .table) k ≡ true → StaysStored (at T .table) ds (at U .table) k

@@ -5,39 +5,27 @@ use borrow.Author.Needs.{needs}
 use Rattle.call_keep.proofs.keep_cell.Statement.{statement}
 use Rattle.call_keep.proofs.keep_cell.Tie as tie
 
-read-cell-requires : tie.Need-read-cell-requires
-read-cell-requires c κs = search needs
-
-enum-told : tie.Need-enum-told
-enum-told c = search needs
-
-enum-told-2 : tie.Need-enum-told-2
-enum-told-2 c = search needs
-
-keep-new-requires : tie.Need-keep-new-requires
-keep-new-requires c κs = search needs
-
-same-length : tie.Need-same-length
-same-length c = search needs
-
 returns : tie.Need-returns
-returns c = let a = c .before .before .before .before .before .before .before .args in let p = c .before .before .before .before .before .before .before .pre in kept-held (p .0) (a .i) (p .1 .0) _ _ (sym (c .before .before .read-cell .ensures) ∙ ap cellMeaning (c .enum-told .given .1))
-
-same-length-2 : tie.Need-same-length-2
-same-length-2 c = search needs
+returns c =
+    let a = c .before .before .before .before .before .before .before .args in
+    let p = c .before .before .before .before .before .before .before .pre in
+    kept-held (p .0) (a .i) (p .1 .0) _ _ (sym (c .before .before .read-cell .ensures) ∙ ap cellMeaning (c .enum-told .given .1))
 
 returns-2 : tie.Need-returns-2
-returns-2 c = let a = c .before .before .before .before .before .before .before .before .before .before .before .args in let p = c .before .before .before .before .before .before .before .before .before .before .before .pre in kept-unk (p .0) (a .i) (p .1 .0) _ _ (sym (c .before .before .before .before .before .before .read-cell .ensures) ∙ ap cellMeaning (c .before .before .before .before .enum-told2 .given .1)) (c .before .before .keep-new .ensures)
+returns-2 c =
+    let a = c .before .before .before .before .before .before .before .before .before .before .before .args in
+    let p = c .before .before .before .before .before .before .before .before .before .before .before .pre in
+    kept-unk (p .0) (a .i) (p .1 .0) _ _ (sym (c .before .before .before .before .before .before .read-cell .ensures) ∙ ap cellMeaning (c .before .before .before .before .enum-told2 .given .1)) (c .before .before .keep-new .ensures)
 
 pub keep-cell-spec : {M : Type 1} → statement M
 keep-cell-spec =
     tie.close
     (tie.spec
-    read-cell-requires
-    enum-told
-    enum-told-2
-    keep-new-requires
-    same-length
+    (λ c κs. search needs)
+    (λ c. search needs)
+    (λ c. search needs)
+    (λ c κs. search needs)
+    (λ c. search needs)
     returns
-    same-length-2
+    (λ c. search needs)
     returns-2)
