@@ -15,7 +15,8 @@ use Rattle.circuit.specs.Value.{Value, same}
 use Rattle.circuit.specs.Sheet.{Sheet, size, parents, Ordered}
 use Rattle.circuit.specs.Table.{Table, Cell, Mark, unmarked, refresh, notice, unk, held, isNotice, noticeIf, isMark, isMarked, markOf}
 use Rattle.circuit.specs.Machine.{work, lookUp, tell, clearCell, clearMark, stepCell, stepItem, orNext, lowestMarked, stepLowest, catchUpIn, catchUp, stepIf, stepMarked, sweepBelow, sweep}
-use Rattle.circuit.specs.Calls.{ask, perform, effect}
+use Rattle.circuit.specs.Call.{ask}
+use Rattle.circuit.specs.Calls.{perform, effect}
 use Rattle.circuit.specs.Words.{Quiet, CaughtUp, still, stepped}
 use Rattle.circuit.proofs.View.{never, view, result, strong, any-none, view-at}
 use Rattle.circuit.proofs.Fill.{upd-same, upd-other, Filling, stays, fills, Fill, look-right, work-right}

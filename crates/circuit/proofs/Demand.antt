@@ -6,11 +6,11 @@ use mathlib.Core.Bool.{true, false}
 use mathlib.Core.List.{List}
 use native.Mathlib.Omega.{arith}
 use Rattle.circuit.specs.Sheet.{Sheet, Ordered, Entries, itemAt, isFigure}
-use Rattle.circuit.specs.Table.{Table}
-use Rattle.circuit.specs.Calls.{Call, post, run, postings}
+use Rattle.circuit.specs.Table.{Table, opened}
+use Rattle.circuit.specs.Call.{Call, post}
+use Rattle.circuit.specs.Calls.{run, postings}
 use Rattle.circuit.specs.Fresh.{blank, freshRun}
 use Rattle.circuit.specs.Words.{Holds}
-use Rattle.circuit.specs.Offices.{opened}
 use Rattle.circuit.specs.Demand.{Demand}
 use Rattle.circuit.proofs.Accepted.{number-cause, post-passed}
 use Rattle.circuit.proofs.Sound.{Sound, run-sound}

@@ -9,11 +9,12 @@ use mathlib.Core.Option.{Option, none, some}
 use borrow.Author.Tests.{leb-false}
 use Rattle.circuit.specs.Value.{Value}
 use Rattle.circuit.specs.Sheet.{Sheet, size, itemAt, beyond, isFigure, Ordered, Entries}
-use Rattle.circuit.specs.Table.{Table}
+use Rattle.circuit.specs.Table.{Table, opened}
 use Rattle.circuit.specs.Machine.{lookUp, catchUp}
-use Rattle.circuit.specs.Calls.{Call, post, keep, drop, step, ask, Outcome, tests, firstCause, isNone, postedValue, effect, unless, perform, run, Posting, postingOf, ifAccepted, made, postings}
+use Rattle.circuit.specs.Call.{Call, post, keep, drop, step, ask, Posting, Opening, bare, full}
+use Rattle.circuit.specs.Calls.{Outcome, tests, firstCause, isNone, postedValue, effect, unless, perform, run, postingOf, ifAccepted, made, postings}
 use Rattle.circuit.specs.Fresh.{called, blank, setEntry, setIf, hear, hearAll, give, freshAsk, freshRun}
-use Rattle.circuit.specs.Offices.{Answers, Agree, Opening, bare, full, opened}
+use Rattle.circuit.specs.Offices.{Answers, Agree}
 use Rattle.circuit.proofs.Solution.{give-solves}
 use Rattle.circuit.proofs.CatchUp.{catchUp-quiet}
 use Rattle.circuit.proofs.Reading.{quiet-look}

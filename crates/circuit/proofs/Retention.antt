@@ -15,7 +15,8 @@ use Rattle.circuit.specs.Circuit.{IsSolution, Listed, LeadsTo, direct, f
 use Rattle.circuit.specs.Sheet.{Sheet, Item, entry, figure, itemAt, isFigure, size, parents, Ordered, Entries, circuitOf, evaluate}
 use Rattle.circuit.specs.Table.{Table, Cell, unmarked, refresh, notice, unk, held, isStored, valueIn, isMarked, cellForm}
 use Rattle.circuit.specs.Machine.{lookUp, work, keepFigure, dropFigure, dropCell, stepItem, catchUp, storePosting, postCell}
-use Rattle.circuit.specs.Calls.{Call, post, keep, drop, step, ask, postedValue, postIt, postingOf, tests, firstCause, effect, unless, perform, run, made, madeBy, ifAccepted, postings, drops}
+use Rattle.circuit.specs.Call.{Call, post, keep, drop, step, ask}
+use Rattle.circuit.specs.Calls.{postedValue, postIt, postingOf, tests, firstCause, effect, unless, perform, run, made, madeBy, ifAccepted, postings, drops}
 use Rattle.circuit.specs.Demand.{Retained}
 use Rattle.circuit.specs.Words.{Formed, Quiet, droppedIn}
 use Rattle.circuit.proofs.View.{seen, anyFlag, view, result, strong, any-none, view-at}

@@ -13,7 +13,8 @@ use Rattle.circuit.specs.Circuit.{Listed}
 use Rattle.circuit.specs.Sheet.{Sheet, Item, entry, figure, size, itemAt, beyond, isFigure, parentsOf, Ordered, Entries}
 use Rattle.circuit.specs.Table.{Table, Cell, unmarked, refresh, notice, unk, held, upd, valueIn, entryForm, cellForm, bareCell, openBare, openFull}
 use Rattle.circuit.specs.Machine.{lookUp, work, postCell, storePosting, keepFigure, dropFigure, tell, clearCell, clearMark, stepCell, stepItem, catchUp}
-use Rattle.circuit.specs.Calls.{Call, post, keep, drop, step, ask, tests, firstCause, isNone, postedValue, effect, unless, perform, run}
+use Rattle.circuit.specs.Call.{Call, post, keep, drop, step, ask}
+use Rattle.circuit.specs.Calls.{tests, firstCause, isNone, postedValue, effect, unless, perform, run}
 use Rattle.circuit.specs.Fresh.{called, blank, setEntry, setIf, hear, hearAll, freshRun}
 use Rattle.circuit.specs.Words.{Formed, Holds}
 use Rattle.circuit.proofs.RuleLaws.{same-true}

@@ -8,10 +8,11 @@ use lib.IntN.{ℤ}
 use Rattle.circuit.specs.Value.{Value}
 use Rattle.circuit.specs.Circuit.{IsSolution, LeadsTo}
 use Rattle.circuit.specs.Sheet.{Sheet, Entries, size, itemAt, isFigure, circuitOf}
-use Rattle.circuit.specs.Table.{Table, isStored, isMarked, valueIn}
-use Rattle.circuit.specs.Calls.{Call, post, perform, run, postings}
+use Rattle.circuit.specs.Table.{Table, isStored, isMarked, valueIn, opened}
+use Rattle.circuit.specs.Call.{Call, post, Opening}
+use Rattle.circuit.specs.Calls.{perform, run, postings}
 use Rattle.circuit.specs.Fresh.{blank}
-use Rattle.circuit.specs.Offices.{Agree, Opening, opened}
+use Rattle.circuit.specs.Offices.{Agree}
 use Rattle.circuit.specs.Words.{Quiet, Holds, droppedIn}
 
 -- Figure k on the table U, which a list of calls left after the table T and a post: stored if it was and no drop named it;

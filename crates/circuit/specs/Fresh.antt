@@ -8,7 +8,8 @@ use lib.Dec.{eqb}
 use Rattle.circuit.specs.Value.{Value, null}
 use Rattle.circuit.specs.Rules.{apply}
 use Rattle.circuit.specs.Sheet.{Sheet, Item, entry, figure, itemAt, beyond, isFigure, Entries}
-use Rattle.circuit.specs.Calls.{Call, post, keep, drop, step, ask, Posting, postedValue}
+use Rattle.circuit.specs.Call.{Call, post, keep, drop, step, ask, Posting}
+use Rattle.circuit.specs.Calls.{postedValue}
 
 -- what it is fed: a call's arguments, or a posting that a call other than a post makes
 pub data Event : Type 0 where

@@ -2,6 +2,7 @@ pub mod Value
 pub mod Rules
 pub mod Circuit
 pub mod Sheet
+pub mod Call
 pub mod Table
 pub mod Machine
 pub mod Calls

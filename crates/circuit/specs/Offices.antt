@@ -5,8 +5,9 @@ use mathlib.Core.List.{List}
 use mathlib.Core.Option.{Option, none, some}
 use Rattle.circuit.specs.Value.{Value}
 use Rattle.circuit.specs.Sheet.{Sheet, Entries}
-use Rattle.circuit.specs.Table.{Table, openBare, openFull}
-use Rattle.circuit.specs.Calls.{Call, ask, Outcome, perform, run}
+use Rattle.circuit.specs.Table.{Table}
+use Rattle.circuit.specs.Call.{Call, ask}
+use Rattle.circuit.specs.Calls.{Outcome, perform, run}
 use Rattle.circuit.specs.Fresh.{freshAsk, freshRun}
 
 -- an ask's answer, by what the fresh office gives: number 0 with its value, or 11 with none where it gives no value
@@ -21,11 +22,3 @@ pub record Agree (S : Sheet) (E : Entries) (T : Table) (cs : List Call) (U : Tab
   pub readings : (i : ℕ) → perform S (run S T cs) (ask i) .reading ≡ perform S (run S U ds) (ask i) .reading
   pub first : (i : ℕ) → Answers (freshAsk S (freshRun S E cs) i) (perform S (run S T cs) (ask i))
   pub second : (i : ℕ) → Answers (freshAsk S (freshRun S E ds) i) (perform S (run S T cs) (ask i))
-
--- the two openings
-pub data Opening : Type 0 where
-  bare full : Opening
-
-abbrev pub opened : Opening → Sheet → Table
-opened bare S = openBare S
-opened full S = openFull S

@@ -8,7 +8,8 @@ use Rattle.circuit.specs.Value.{Value}
 use Rattle.circuit.specs.Sheet.{Sheet, Entries, size, itemAt, isFigure}
 use Rattle.circuit.specs.Table.{Table, isStored, isMarked, cellForm, valueIn}
 use Rattle.circuit.specs.Machine.{stepItem, lowestMarked}
-use Rattle.circuit.specs.Calls.{Call, perform, drops}
+use Rattle.circuit.specs.Call.{Call}
+use Rattle.circuit.specs.Calls.{perform, drops}
 
 -- the table is well formed for the sheet: each entry is stored, without refresh
 abbrev pub Formed : Sheet → Table → Type 0
