@@ -5,8 +5,8 @@ use mathlib.Core.List.{List}
 use mathlib.Core.Logic.{⊎-elim}
 use lib.ListN.{length}
 use Rattle.circuit.specs.Sheet.{Sheet, size}
-use Rattle.circuit.specs.Calls.{Call, run}
-use Rattle.circuit.specs.Offices.{Opening}
+use Rattle.circuit.specs.Call.{Call, Opening}
+use Rattle.circuit.specs.Calls.{run}
 use Rattle.layout.specs.Read.{Placed, opens, readSheet}
 use Rattle.layout.specs.Opened.{sheetOf, itemsOf, placedFrom, sheetFrom, sheetRead}
 use Rattle.layout.specs.Index.{indexBytes}

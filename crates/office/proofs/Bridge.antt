@@ -15,7 +15,8 @@ use Rattle.circuit.specs.Value.{Value}
 use Rattle.circuit.specs.Sheet.{Sheet, entry, size, itemAt, isFigure, beyond, Ordered}
 use Rattle.circuit.specs.Table.{Table, Cell, unk, upd}
 use Rattle.circuit.specs.Machine.{lookUp, work, storePosting, keepFigure, dropFigure, stepItem, catchUp}
-use Rattle.circuit.specs.Calls.{Call, post, keep, drop, step, ask, Test, test, firstCause, tests, Outcome, outcome, effect, perform, unless, run, postIt, postedValue}
+use Rattle.circuit.specs.Call.{Call, post, keep, drop, step, ask}
+use Rattle.circuit.specs.Calls.{Test, test, firstCause, tests, Outcome, outcome, effect, perform, unless, run, postIt, postedValue}
 use Rattle.circuit.proofs.Fill.{Fill, Filling, stays, fills, Looks, upd-cases, look-right, work-right, keep-fill}
 use Rattle.circuit.proofs.Closure.{Closed, step-closed, catchUp-closed}
 use Rattle.circuit.proofs.Accepted.{accepted-effect, refused-table, keep-passed, drop-passed, step-passed, post-passed}

@@ -12,11 +12,12 @@ use borrow.Author.Tests.{lt-ltb, le-ltb, not-false}
 use Rattle.circuit.specs.Value.{Value, null, out, num, kindOf}
 use Rattle.circuit.specs.Circuit.{LeadsTo}
 use Rattle.circuit.specs.Sheet.{Sheet, Ordered, Entries, size, itemAt, isFigure, circuitOf}
-use Rattle.circuit.specs.Table.{Table, Cell, Mark, unmarked, refresh, notice, unk, held, isStored, isMarked, isMark, noticeIf, markOf, valueIn}
-use Rattle.circuit.specs.Calls.{Call, post, keep, drop, step, ask, Outcome, firstCause, perform, run, made, madeBy, postings, Posting, postingOf, postedValue, ifAccepted as ifMade}
+use Rattle.circuit.specs.Table.{Table, Cell, Mark, unmarked, refresh, notice, unk, held, isStored, isMarked, isMark, noticeIf, markOf, valueIn, opened}
+use Rattle.circuit.specs.Call.{Call, post, keep, drop, step, ask, Posting, Opening, bare, full}
+use Rattle.circuit.specs.Calls.{Outcome, firstCause, perform, run, made, madeBy, postings, postingOf, postedValue, ifAccepted as ifMade}
 use Rattle.circuit.specs.Fresh.{blank, freshAsk, freshRun}
 use Rattle.circuit.specs.Words.{Quiet}
-use Rattle.circuit.specs.Offices.{Opening, bare, full, opened, Agree, Answers}
+use Rattle.circuit.specs.Offices.{Agree, Answers}
 use Rattle.circuit.specs.Demand.{Retained}
 use Rattle.circuit.proofs.View.{result-below}
 use Rattle.circuit.proofs.Invariant.{Justified, exact, due, awaits}

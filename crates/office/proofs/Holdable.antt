@@ -15,7 +15,8 @@ use Rattle.circuit.specs.Circuit.{Listed}
 use Rattle.circuit.specs.Sheet.{Sheet, Item, entry, figure, Spread, defer, renew, forget, size, itemAt, isFigure, parentsOf, parents, spreadOf, isChild, evaluate, Ordered}
 use Rattle.circuit.specs.Table.{Table, Cell, Mark, unmarked, refresh, notice, unk, held, upd, noticeIf, isMarked, valueIn, entryForm}
 use Rattle.circuit.specs.Machine.{Looked, lookUp, work, storePosting, postCell, keepFigure, dropFigure, dropCell, renewed, tellChild, tellCell, tellStored, tellIf, tellBelow, tell, clearMark, clearCell, stepItem, stepCell, stepMark, catchUp}
-use Rattle.circuit.specs.Calls.{Call, post, keep, drop, step, ask, postedValue, effect, perform, unless, tests, firstCause, run, postIt}
+use Rattle.circuit.specs.Call.{Call, post, keep, drop, step, ask}
+use Rattle.circuit.specs.Calls.{postedValue, effect, perform, unless, tests, firstCause, run, postIt}
 use Rattle.circuit.proofs.RuleLaws.{apply-wellFormed, and-true, and-left, and-right}
 use Rattle.circuit.proofs.View.{view, view-at, result, strong, seenCell}
 use Rattle.circuit.proofs.Fill.{Fill, Filling, stays, fills, Looks, upd-cases, look-right, work-right, keep-fill}

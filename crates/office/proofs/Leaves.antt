@@ -11,7 +11,8 @@ use Rattle.circuit.specs.Value.{Value, null, out, num, same, kindOf, numberOf, 
 use Rattle.circuit.specs.Sheet.{Sheet, Ordered, size}
 use Rattle.circuit.specs.Table.{Table, Cell, Mark, notice, unk, held, upd, markOf, valueIn}
 use Rattle.circuit.specs.Machine.{storePosting, postCell}
-use Rattle.circuit.specs.Calls.{Call, post, ask, perform, effect, postIt}
+use Rattle.circuit.specs.Call.{Call, post, ask}
+use Rattle.circuit.specs.Calls.{perform, effect, postIt}
 use Rattle.circuit.specs.Words.{Quiet}
 use Rattle.circuit.proofs.RuleLaws.{same-true, same-refl}
 use Rattle.circuit.proofs.Fill.{upd-same, upd-other}

@@ -10,9 +10,8 @@ use Rattle.circuit.specs.Value.{Value, kindOf, numberOf}
 use Rattle.circuit.specs.Circuit.{IsSolution, LeadsTo}
 use Rattle.circuit.specs.Sheet.{Sheet, Entries, size, itemAt, isFigure, circuitOf}
 use Rattle.circuit.specs.Table.{valueIn}
-use Rattle.circuit.specs.Calls.{Call, post, keep, drop, step, ask}
+use Rattle.circuit.specs.Call.{Call, post, keep, drop, step, ask, Opening}
 use Rattle.circuit.specs.Fresh.{blank, freshRun, freshAsk}
-use Rattle.circuit.specs.Offices.{Opening}
 use Rattle.circuit.specs.Words.{Holds, droppedIn}
 use Rattle.layout.specs.Opened.{sheetOf}
 use Rattle.table.specs.Rows.{row}

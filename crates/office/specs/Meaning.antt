@@ -10,8 +10,7 @@ use lib.ListN.{length, getD}
 use Rattle.circuit.specs.Value.{Value, kindOf, numberOf}
 use Rattle.circuit.specs.Circuit.{IsSolution}
 use Rattle.circuit.specs.Sheet.{Sheet, Ordered, Entries, size, itemAt, isFigure, circuitOf}
-use Rattle.circuit.specs.Calls.{Call, post, keep, ask}
-use Rattle.circuit.specs.Offices.{Opening, bare, full}
+use Rattle.circuit.specs.Call.{Call, post, keep, ask, Opening, bare, full}
 use Rattle.field.specs.Field.{Bytes}
 use Rattle.layout.specs.Layout.{Layout, LayoutItem, entryField, figureField, machineSheet}
 use Rattle.layout.specs.Write.{within, writeSheet}

@@ -9,8 +9,7 @@ use lib.IntN.{ℤ, pos, natAbs}
 use lib.ListN.{length}
 use Rattle.circuit.specs.Value.{limit}
 use Rattle.circuit.specs.Sheet.{Sheet, size, itemAt, isFigure}
-use Rattle.circuit.specs.Calls.{Call, post, keep, drop, step, ask}
-use Rattle.circuit.specs.Offices.{Opening}
+use Rattle.circuit.specs.Call.{Call, post, keep, drop, step, ask, Opening}
 use Rattle.layout.specs.Read.{Placed}
 use Rattle.layout.specs.Opened.{sheetOf, itemsOf}
 use Rattle.layout.specs.Index.{indexBytes, le32At}

@@ -1,6 +1,6 @@
 use Rattle.call_ask.proofs.Asking.{refused-read, admitted-read}
 use Rattle.admission.proofs.Admission.{admitted, admitted-lent, admitted-placing}
-use Rattle.circuit.specs.Calls.{ask}
+use Rattle.circuit.specs.Call.{ask}
 use Rattle.sheet.specs.Check.{mostItems}
 use mathlib.Core.Path.{sym, _∙_}
 use native.Mathlib.Omega.{arith}

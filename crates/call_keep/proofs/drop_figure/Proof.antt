@@ -1,6 +1,6 @@
 use Rattle.admission.proofs.Admitting.{refused-whole, admitted-whole}
 use Rattle.admission.proofs.Admission.{admitted, admitted-lent, admitted-placing}
-use Rattle.circuit.specs.Calls.{drop}
+use Rattle.circuit.specs.Call.{drop}
 use Rattle.sheet.specs.Check.{mostItems}
 use mathlib.Core.Path.{sym, _∙_}
 use native.Mathlib.Omega.{arith}

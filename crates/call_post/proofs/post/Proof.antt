@@ -1,7 +1,7 @@
 use Rattle.admission.proofs.Admitting.{refused-whole}
 use Rattle.call_post.proofs.Posting.{post-whole}
 use Rattle.admission.proofs.Admission.{admitted, admitted-lent, admitted-placing}
-use Rattle.circuit.specs.Calls.{post}
+use Rattle.circuit.specs.Call.{post}
 use Rattle.value.proofs.Signed.{back}
 use Rattle.sheet.specs.Check.{mostItems}
 use mathlib.Core.Path.{sym, _∙_}

@@ -1,6 +1,6 @@
 use Rattle.admission.proofs.Admitting.{refused-whole, admitted-whole}
 use Rattle.admission.proofs.Admission.{admitted, admitted-lent, admitted-placing}
-use Rattle.circuit.specs.Calls.{step}
+use Rattle.circuit.specs.Call.{step}
 use Rattle.sheet.specs.Check.{mostItems}
 use mathlib.Core.Path.{sym, _∙_}
 use native.Mathlib.Omega.{arith}
