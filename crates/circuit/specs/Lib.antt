@@ -5,6 +5,7 @@ pub mod Sheet
 pub mod Call
 pub mod Table
 pub mod Machine
+pub mod Ascending
 pub mod Calls
 pub mod Fresh
 pub mod Words
