@@ -3,6 +3,7 @@ pub mod Examples
 pub mod RuleLaws
 pub mod Acyclic
 pub mod Solution
+pub mod Fresh
 pub mod View
 pub mod Fill
 pub mod Closure

@@ -13,9 +13,10 @@ use Rattle.circuit.specs.Table.{Table, opened}
 use Rattle.circuit.specs.Machine.{lookUp, catchUp}
 use Rattle.circuit.specs.Call.{Call, post, keep, drop, step, ask, Posting, Opening, bare, full}
 use Rattle.circuit.specs.Calls.{Outcome, tests, firstCause, isNone, postedValue, effect, unless, perform, run, postingOf, ifAccepted, made, postings}
-use Rattle.circuit.specs.Fresh.{called, blank, setEntry, setIf, hear, hearAll, give, freshAsk, freshRun}
+use Rattle.circuit.specs.Fresh.{called, blank, setEntry, hear, hearAll, give, freshAsk, freshRun}
 use Rattle.circuit.specs.Offices.{Answers, Agree}
 use Rattle.circuit.proofs.Solution.{give-solves}
+use Rattle.circuit.proofs.Fresh.{setIf, hear-post}
 use Rattle.circuit.proofs.CatchUp.{catchUp-quiet}
 use Rattle.circuit.proofs.Reading.{quiet-look}
 use Rattle.circuit.proofs.Sound.{Sound, catchUp-sound, run-sound, bare-sound, full-sound}
@@ -37,7 +38,7 @@ none-made (suc k) = refl
 -- The fresh office hears in a call what the call posts, on any table.
 pub hear-made : (S : Sheet) (E : Entries) (T : Table) (c : Call) → hear S E (called c) ≡ entered E (made S T c)
 unfolding hear entered made perform tests firstCause effect
-hear-made S E T (post i kind z) = go (beyond S i) (isFigure (itemAt S i)) (postedValue kind z)
+hear-made S E T (post i kind z) = hear-post S E i kind z ∙ go (beyond S i) (isFigure (itemAt S i)) (postedValue kind z)
   where
     go : (b f : Bool) (o : Option Value)
         → cond (b || f) E (setIf E i o) ≡ entered E (ifAccepted (unless (cond b 11 (cond f 12 (cond (isNone o) 13 0))) S T (post i kind z) .number) (postingOf i o))
