@@ -14,12 +14,24 @@ use Rattle.circuit.specs.Machine.{lookUp, catchUp}
 use Rattle.circuit.specs.Call.{Call, post, keep, drop, step, ask, Posting, Opening, bare, full}
 use Rattle.circuit.specs.Calls.{Outcome, tests, firstCause, isNone, postedValue, effect, unless, perform, run, postingOf, ifAccepted, made, postings}
 use Rattle.circuit.specs.Fresh.{called, blank, setEntry, hear, hearAll, give, freshAsk, freshRun}
-use Rattle.circuit.specs.Offices.{Answers, Agree}
 use Rattle.circuit.proofs.Solution.{give-solves}
 use Rattle.circuit.proofs.Fresh.{setIf, hear-post}
 use Rattle.circuit.proofs.CatchUp.{catchUp-quiet}
 use Rattle.circuit.proofs.Reading.{quiet-look}
 use Rattle.circuit.proofs.Sound.{Sound, catchUp-sound, run-sound, bare-sound, full-sound}
+
+-- an ask's answer, by what the fresh office gives: number 0 with its value, or 11 with none where it gives no value
+abbrev pub Answers : Option Value → Outcome → Type 0
+Answers none o = (o .number ≡ 11) × (o .reading ≡ none)
+Answers (some v) o = (o .number ≡ 0) × (o .reading ≡ some v)
+
+-- Offices that start at the tables T and U, both with entries E, and hear the lists cs and ds: afterwards every ask has
+-- the same answer in both, which is the answer of the fresh office fed either list.
+pub record Agree (S : Sheet) (E : Entries) (T : Table) (cs : List Call) (U : Table) (ds : List Call) : Type 0 where
+  pub numbers : (i : ℕ) → perform S (run S T cs) (ask i) .number ≡ perform S (run S U ds) (ask i) .number
+  pub readings : (i : ℕ) → perform S (run S T cs) (ask i) .reading ≡ perform S (run S U ds) (ask i) .reading
+  pub first : (i : ℕ) → Answers (freshAsk S (freshRun S E cs) i) (perform S (run S T cs) (ask i))
+  pub second : (i : ℕ) → Answers (freshAsk S (freshRun S E ds) i) (perform S (run S T cs) (ask i))
 
 -- the entries after postings
 unfoldable pub entered : Entries → List Posting → Entries

@@ -10,5 +10,3 @@ pub mod Calls
 pub mod Fresh
 pub mod Words
 pub mod WellFormed
-pub mod Offices
-pub mod Demand

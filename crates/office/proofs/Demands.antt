@@ -17,13 +17,11 @@ use Rattle.circuit.specs.Call.{Call, post, keep, drop, step, ask, Posting, Open
 use Rattle.circuit.specs.Calls.{Outcome, firstCause, perform, run, made, madeBy, postings, postingOf, postedValue, ifAccepted as ifMade}
 use Rattle.circuit.specs.Fresh.{blank, freshAsk, freshRun}
 use Rattle.circuit.specs.Words.{Quiet}
-use Rattle.circuit.specs.Offices.{Agree, Answers}
-use Rattle.circuit.specs.Demand.{Retained}
 use Rattle.circuit.proofs.View.{result-below}
 use Rattle.circuit.proofs.Invariant.{Justified, exact, due, awaits}
 use Rattle.circuit.proofs.Sound.{Sound, run-sound, perform-sound}
-use Rattle.circuit.proofs.Offices.{two-offices, opened-sound}
-use Rattle.circuit.proofs.Retention.{retention}
+use Rattle.circuit.proofs.Offices.{Answers, Agree, two-offices, opened-sound}
+use Rattle.circuit.proofs.Retention.{Retained, retention}
 use Rattle.circuit.proofs.Accepted.{number-cause, post-passed}
 use Rattle.layout.specs.Read.{Placed, Scan, going, stopped, placeField, goOn, judge, itemTests, lastTests, headTests, scanItem, scan, scanEnd, afterLast, scanLast, scanSheet, conclude, editionIn, countIn, headContent, SheetRead, opens, refused, readSheet, layoutOf}
 use Rattle.layout.specs.Opened.{sheetFrom, sheetOf, sheetRead}
