@@ -44,12 +44,12 @@ cleared (unk f) = refl
 cleared (held v m) = refl
 
 -- the lowest marked item, where the items below k are not marked
-lowest-none : (T : Table) (k : ℕ) → QuietBelow T k → lowestMarked T k ≡ none
+pub lowest-none : (T : Table) (k : ℕ) → QuietBelow T k → lowestMarked T k ≡ none
 unfolding lowestMarked
 lowest-none T zero quiet = refl
 lowest-none T (suc k) quiet = rw (lowest-none T k (λ j l. quiet j (omega arith)), quiet k (omega arith))
 
-lowest-some : (T : Table) (k : ℕ) → QuietBelow T k → isMarked (T k) ≡ true → (n : ℕ) → k < n → lowestMarked T n ≡ some k
+pub lowest-some : (T : Table) (k : ℕ) → QuietBelow T k → isMarked (T k) ≡ true → (n : ℕ) → k < n → lowestMarked T n ≡ some k
 unfolding lowestMarked
 lowest-some T k quiet marked zero l = absurd (omega arith)
 lowest-some T k quiet marked (suc n) l = go (eqb k n) refl (λ h. lowest-some T k quiet marked n h)

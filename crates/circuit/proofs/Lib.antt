@@ -11,6 +11,7 @@ pub mod Accepted
 pub mod Invariant
 pub mod Tell
 pub mod CatchUp
+pub mod Equations
 pub mod Memo
 pub mod Reading
 pub mod Sound

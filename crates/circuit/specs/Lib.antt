@@ -10,3 +10,4 @@ pub mod Calls
 pub mod Fresh
 pub mod Words
 pub mod WellFormed
+pub mod Equations
