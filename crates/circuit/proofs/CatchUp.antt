@@ -21,9 +21,7 @@ use Rattle.circuit.specs.Calls.{perform, effect}
 use Rattle.circuit.specs.Words.{Quiet, CaughtUp, still, stepped}
 use Rattle.circuit.proofs.View.{never, view, result, strong, any-none, view-at}
 use Rattle.circuit.proofs.Fill.{upd-same, upd-other, Filling, stays, fills, Fill, look-right, work-right}
-use Rattle.circuit.proofs.Invariant.{Invariant}
-use Rattle.circuit.proofs.Tell.{step-kept}
-use Rattle.circuit.proofs.Closure.{step-closed, catchUp-closed}
+use Rattle.circuit.proofs.Closure.{step-closed}
 use Rattle.circuit.proofs.Accepted.{number-cause, accepted-effect}
 
 -- no item below k is marked
@@ -291,10 +289,6 @@ module _ (S : Sheet) (ordered : Ordered S) where
   pub catchUp-still : (T : Table) → Quiet S T → catchUp S T ≡ T
   unfolding catchUp
   catchUp-still T quiet = catch-quiet (2 * size S) T quiet
-
-  -- catching up keeps the invariant
-  pub catchUp-kept : (T : Table) → Invariant S T → Invariant S (catchUp S T)
-  catchUp-kept T kept = catchUp-closed S (Invariant S) (λ U i l m h. step-kept S ordered U i h) T kept
 
   -- it is what the words say, and so it ends
   pub catchUp-ends : (T : Table) → CaughtUp S T (catchUp S T)

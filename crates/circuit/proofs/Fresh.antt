@@ -28,7 +28,7 @@ postable-value kind z = rw (zero-number z) (go (eqb kind 1) (eqb kind 3) (eqb (n
     go true three true within e h = refl
     go true three false within e h =
         let other : three ≡ false = sym h ∙ ap (λ k. eqb k 3) (eqb-true kind 1 e) in
-        rw other
+        ap (λ b. cond {A = Option Value} (b && within) (some null) none) (sym other)
     go false true nil within e h = refl
     go false false nil within e h = refl
 

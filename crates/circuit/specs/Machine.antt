@@ -1,5 +1,6 @@
--- The machine: looking up, working out, storing a posting, keeping, dropping, telling, stepping and catching up, on a
--- table that is well formed. The refusals stand in Calls. Assumes nothing.
+-- 01's "Calls", on a table that is well formed: looking up, working out, storing a posting, keeping, dropping, telling,
+-- stepping and catching up. Two of them recurse with a bound; Equations has them without. The refusals stand in Calls.
+-- Assumes nothing.
 use Prim.Native.Nat.{ℕ, zero, suc, _*_}
 use mathlib.Core.Bool.{Bool, true, false, cond, _||_}
 use mathlib.Core.List.{List, [], _∷_}

@@ -1,4 +1,4 @@
--- The work table as the machine sees it: one cell an item. Assumes nothing.
+-- 01's "work table" as the machine sees it, one cell an item, and as the openings write it. Assumes nothing.
 use Prim.Native.Nat.{ℕ}
 use mathlib.Core.Bool.{Bool, true, false, cond, not}
 use lib.Dec.{eqb}

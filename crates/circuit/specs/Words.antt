@@ -1,4 +1,5 @@
--- The words of the agreement of two offices and of what stays stored. Assumes nothing.
+-- Words of 01's "Two offices" (no mark stands, dropped, accepted) and of an ask (stepping until none is marked), and what a
+-- table's entries hold. Assumes nothing.
 use Prim.Native.Nat.{ℕ, _<_}
 use mathlib.Core.Path.{_≡_}
 use mathlib.Core.Bool.{Bool, true, false, _||_}
