@@ -1,17 +1,14 @@
 -- The equations of specs/Equations hold. Assumes nothing.
-use Prim.Native.Nat.{ℕ, _<_, _≤_}
+use Prim.Native.Nat.{ℕ}
 use mathlib.Core.Path.{_≡_, refl, ap, _∙_}
-use mathlib.Core.Bool.{Bool, true, false, cond, _||_}
-use mathlib.Core.List.{List, [], _∷_}
-use mathlib.Core.Option.{none, some}
+use mathlib.Core.Option.{some}
 use borrow.Author.Tests.{le-leb, lt-leb}
-use Rattle.circuit.specs.Rules.{Operation}
-use Rattle.circuit.specs.Sheet.{Sheet, Spread, figure, size, itemAt, Ordered, Entries}
-use Rattle.circuit.specs.Table.{Table, unk}
+use Rattle.circuit.specs.Sheet.{Sheet, size, Ordered, Entries}
+use Rattle.circuit.specs.Table.{Table}
 use Rattle.circuit.specs.Machine.{gather, workOut, lookCell, lookUp, work, lowestMarked}
 use Rattle.circuit.specs.Fresh.{give, freshAsk, giveItem}
 use Rattle.circuit.specs.Words.{CaughtUp, still, stepped}
-use Rattle.circuit.specs.Equations.{LookingUp, FreshGives, MarkedFirst, Lowest, CatchingUp, Equations}
+use Rattle.circuit.specs.Equations.{LookingUp, FreshGives, MarkedFirst, Lowest, Equations}
 use Rattle.circuit.proofs.View.{never}
 use Rattle.circuit.proofs.Fill.{lookUp-is}
 use Rattle.circuit.proofs.Solution.{give-equation}

@@ -1,6 +1,6 @@
 -- 01's "work table" as the machine sees it, one cell an item, and as the openings write it. Assumes nothing.
 use Prim.Native.Nat.{ℕ}
-use mathlib.Core.Bool.{Bool, true, false, cond, not}
+use mathlib.Core.Bool.{Bool, true, false, cond}
 use lib.Dec.{eqb}
 use Rattle.circuit.specs.Value.{Value, null}
 use Rattle.circuit.specs.Sheet.{Sheet, Item, entry, figure, itemAt}

@@ -4,8 +4,7 @@ use Prim.Native.Nat.{ℕ, _<_}
 use mathlib.Core.Path.{_≡_}
 use mathlib.Core.Bool.{Bool, true, false, _||_}
 use mathlib.Core.List.{List, [], _∷_}
-use mathlib.Core.Option.{Option, none, some}
-use Rattle.circuit.specs.Value.{Value}
+use mathlib.Core.Option.{none, some}
 use Rattle.circuit.specs.Sheet.{Sheet, Entries, size, itemAt, isFigure}
 use Rattle.circuit.specs.Table.{Table, isStored, isMarked, cellForm, valueIn}
 use Rattle.circuit.specs.Machine.{stepItem, lowestMarked}
