@@ -10,8 +10,9 @@ use lib.Dec.{eqb}
 use lib.ListN.{length}
 use borrow.Author.Tests.{eqb-true, not-false}
 use Rattle.circuit.specs.Sheet.{size}
-use Rattle.circuit.specs.Calls.{Call, Test, test, firstCause, tests, effect}
-use Rattle.circuit.specs.Offices.{Opening, opened}
+use Rattle.circuit.specs.Call.{Call, Opening}
+use Rattle.circuit.specs.Calls.{Test, test, firstCause, tests, effect}
+use Rattle.circuit.specs.Table.{opened}
 use Rattle.circuit.proofs.RuleLaws.{and-left, and-right}
 use Rattle.layout.specs.Read.{SheetRead, opens, refused, readSheet}
 use Rattle.layout.specs.Opened.{itemsOf, sheetRead, sheetFrom, placedFrom, sheetOf, Located}

@@ -9,7 +9,8 @@ use lib.ListN.{length, getD, take}
 use borrow.Author.Tests.{eq-eqb, ne-eqb, le-leb, lt-leb, leb-false}
 use Rattle.circuit.specs.Sheet.{Sheet, size, itemAt, isFigure}
 use Rattle.circuit.specs.Table.{Table, Cell, upd}
-use Rattle.circuit.specs.Calls.{Call, Test, test, firstCause, tests, effect, noItem}
+use Rattle.circuit.specs.Call.{Call}
+use Rattle.circuit.specs.Calls.{Test, test, firstCause, tests, effect, noItem}
 use Rattle.circuit.proofs.RuleLaws.{and-true}
 use Rattle.layout.specs.Opened.{itemsOf, placedFrom, sheetFrom, sheetRead, sheetOf, Located}
 use Rattle.layout.specs.Read.{SheetRead, opens, refused, readSheet}

@@ -5,7 +5,7 @@ use native.Mathlib.Omega.{arith}
 use mathlib.Core.Path.{_≡_}
 use mathlib.Core.List.{List}
 use lib.ListN.{length}
-use Rattle.circuit.specs.Calls.{Call}
+use Rattle.circuit.specs.Call.{Call}
 use Rattle.layout.specs.Opened.{sheetOf, Located}
 use Rattle.sheet.specs.Check.{mostItems}
 use Rattle.office.specs.Office.{refusal, keeping, callOn}

@@ -5,7 +5,8 @@ use mathlib.Core.Path.{_≡_}
 use mathlib.Core.List.{List, [], _∷_}
 use lib.ListN.{length}
 use Rattle.circuit.specs.Sheet.{Sheet, size}
-use Rattle.circuit.specs.Calls.{Call, Test, test, firstCause, tests, effect}
+use Rattle.circuit.specs.Call.{Call}
+use Rattle.circuit.specs.Calls.{Test, test, firstCause, tests, effect}
 use Rattle.layout.specs.Read.{Placed, SheetRead, opens, refused, readSheet}
 use Rattle.layout.specs.Opened.{sheetRead, sheetOf, offsetsOf, Located}
 use Rattle.sheet.specs.Check.{levelsOf, readSoFar, over}

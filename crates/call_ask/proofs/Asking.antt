@@ -10,7 +10,8 @@ use Rattle.circuit.specs.Value.{Value}
 use Rattle.circuit.specs.Sheet.{size}
 use Rattle.circuit.specs.Table.{Table}
 use Rattle.circuit.specs.Machine.{lookUp, catchUp}
-use Rattle.circuit.specs.Calls.{ask, firstCause, tests, effect}
+use Rattle.circuit.specs.Call.{ask}
+use Rattle.circuit.specs.Calls.{firstCause, tests, effect}
 use Rattle.layout.specs.Opened.{sheetOf}
 use Rattle.word.specs.Word.{Bytes}
 use Rattle.table.specs.Bytes.{encodeTable, decodeTable}

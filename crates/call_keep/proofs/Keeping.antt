@@ -13,7 +13,8 @@ use Rattle.circuit.specs.Value.{Value}
 use Rattle.circuit.specs.Sheet.{Sheet, size, itemAt, isFigure}
 use Rattle.circuit.specs.Table.{Table, Cell, Mark, unk, held, upd, noticeIf}
 use Rattle.circuit.specs.Machine.{lookUp, looked, storeResult, keepFigure, keepCell, dropFigure, dropCell}
-use Rattle.circuit.specs.Calls.{keep, test, firstCause, tests, effect, noItem, drop}
+use Rattle.circuit.specs.Call.{keep, drop}
+use Rattle.circuit.specs.Calls.{test, firstCause, tests, effect, noItem}
 use Rattle.layout.specs.Opened.{sheetOf}
 use Rattle.word.specs.Word.{Bytes}
 use Rattle.table.specs.Rows.{row, setRow}

@@ -5,7 +5,7 @@ ghost use mathlib.Core.List.{List};
 ghost use Prim.Native.Nat.{ℕ, _<_};
 ghost use Rattle.circuit.specs.Sheet.{size, itemAt, isFigure};
 ghost use Rattle.circuit.specs.Machine as machine;
-ghost use Rattle.circuit.specs.Calls as machine_calls;
+ghost use Rattle.circuit.specs.Call as machine_call;
 ghost use Rattle.layout.specs.Opened.{sheetOf};
 ghost use Rattle.table.specs.Bytes.{decodeTable};
 ghost use Rattle.table.specs.Meaning.{markMeaning, cellMeaning};
@@ -41,7 +41,7 @@ fn dropped_cell(cell: Cell) -> Cell
 
 fn drop_lent(sheet: &[u8], offsets: &[usize], table: &mut [u8], n: usize, item: u64) -> Answer
     requires { ⌜ Placing (now sheet) (now offsets) n ⌝ ∗ ⌜ Lent (now sheet) (now offsets) (now table) ⌝ }
-    ensures { λ r. ⌜ ((x : List ℕ) → Answered (callLent (sheetOf (now (sheet .entry))) x (now (table .entry)) (machine_calls.drop item)) r (now (table .exit))) ⌝ }
+    ensures { λ r. ⌜ ((x : List ℕ) → Answered (callLent (sheetOf (now (sheet .entry))) x (now (table .entry)) (machine_call.drop item)) r (now (table .exit))) ⌝ }
 {
     let cause = admission::item_cause(sheet, offsets, n, item, true);
     if cause != 0 {
@@ -54,7 +54,7 @@ fn drop_lent(sheet: &[u8], offsets: &[usize], table: &mut [u8], n: usize, item: 
 }
 
 pub fn drop_figure(sheet: &[u8], index: &[u8], table: &mut [u8], item: u64) -> Answer
-    ensures { λ r. ⌜ Answered (callOn (now (sheet .entry)) (keeping (now (index .entry)) (now (table .entry))) (machine_calls.drop item)) r (now (table .exit)) ⌝ }
+    ensures { λ r. ⌜ Answered (callOn (now (sheet .entry)) (keeping (now (index .entry)) (now (table .entry))) (machine_call.drop item)) r (now (table .exit)) ⌝ }
 {
     let mut offsets = [0usize; sheet::limits::ITEM_LIMIT];
     let mut levels = [0u8; sheet::limits::ITEM_LIMIT];
@@ -88,7 +88,7 @@ fn keep_cell(sheet: &[u8], offsets: &[usize], table: &mut [u8], i: usize)
 
 fn keep_lent(sheet: &[u8], offsets: &[usize], table: &mut [u8], n: usize, item: u64) -> Answer
     requires { ⌜ Placing (now sheet) (now offsets) n ⌝ ∗ ⌜ Lent (now sheet) (now offsets) (now table) ⌝ }
-    ensures { λ r. ⌜ ((x : List ℕ) → Answered (callLent (sheetOf (now (sheet .entry))) x (now (table .entry)) (machine_calls.keep item)) r (now (table .exit))) ⌝ }
+    ensures { λ r. ⌜ ((x : List ℕ) → Answered (callLent (sheetOf (now (sheet .entry))) x (now (table .entry)) (machine_call.keep item)) r (now (table .exit))) ⌝ }
 {
     let cause = admission::item_cause(sheet, offsets, n, item, true);
     if cause != 0 {
@@ -99,7 +99,7 @@ fn keep_lent(sheet: &[u8], offsets: &[usize], table: &mut [u8], n: usize, item: 
 }
 
 pub fn keep(sheet: &[u8], index: &[u8], table: &mut [u8], item: u64) -> Answer
-    ensures { λ r. ⌜ Answered (callOn (now (sheet .entry)) (keeping (now (index .entry)) (now (table .entry))) (machine_calls.keep item)) r (now (table .exit)) ⌝ }
+    ensures { λ r. ⌜ Answered (callOn (now (sheet .entry)) (keeping (now (index .entry)) (now (table .entry))) (machine_call.keep item)) r (now (table .exit)) ⌝ }
 {
     let mut offsets = [0usize; sheet::limits::ITEM_LIMIT];
     let mut levels = [0u8; sheet::limits::ITEM_LIMIT];

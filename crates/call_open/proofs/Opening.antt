@@ -8,8 +8,7 @@ use lib.Dec.{eqb}
 use lib.ListN.{length, getD, take}
 use borrow.Author.Tests.{eqb-true, eqb-false}
 use Rattle.circuit.specs.Sheet.{Sheet, Item, entry, figure, size, itemAt, isFigure}
-use Rattle.circuit.specs.Table.{Table, Cell}
-use Rattle.circuit.specs.Offices.{opened}
+use Rattle.circuit.specs.Table.{Table, Cell, opened}
 use Rattle.layout.specs.Opened.{sheetOf, Located}
 use Rattle.item.specs.Item.{fieldItem}
 use Rattle.item.specs.Offsets.{offsetBytes}

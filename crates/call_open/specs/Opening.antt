@@ -5,7 +5,7 @@ use mathlib.Core.Bool.{Bool, true, false, cond}
 use mathlib.Core.List.{List}
 use Rattle.circuit.specs.Value.{null}
 use Rattle.circuit.specs.Table.{Cell, unk, held, unmarked}
-use Rattle.circuit.specs.Offices.{Opening, bare, full}
+use Rattle.circuit.specs.Call.{Opening, bare, full}
 use Rattle.office.specs.Office.{Given}
 use Rattle.admission.specs.declared.Answer.{Answer}
 

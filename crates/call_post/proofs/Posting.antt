@@ -10,7 +10,8 @@ use borrow.Author.Tests.{ne-eqb}
 use Rattle.circuit.specs.Value.{Value}
 use Rattle.circuit.specs.Table.{Cell}
 use Rattle.circuit.specs.Machine.{storePosting, postCell}
-use Rattle.circuit.specs.Calls.{post, test, firstCause, tests, effect, noItem, notPostable, isNone, postedValue, postIt}
+use Rattle.circuit.specs.Call.{post}
+use Rattle.circuit.specs.Calls.{test, firstCause, tests, effect, noItem, notPostable, isNone, postedValue, postIt}
 use Rattle.layout.specs.Opened.{sheetOf}
 use Rattle.value.specs.Meaning.{partsOf}
 use Rattle.word.specs.Word.{Bytes}

@@ -10,7 +10,8 @@ use borrow.Author.Tests.{le-leb, lt-leb, leb-false}
 use Rattle.circuit.specs.Sheet.{size}
 use Rattle.circuit.specs.Table.{Table, isMarked, isNotice, markOf}
 use Rattle.circuit.specs.Machine.{tell, clearMark, stepItem}
-use Rattle.circuit.specs.Calls.{step, test, firstCause, tests, effect, noMark}
+use Rattle.circuit.specs.Call.{step}
+use Rattle.circuit.specs.Calls.{test, firstCause, tests, effect, noMark}
 use Rattle.layout.specs.Opened.{sheetOf}
 use Rattle.word.specs.Word.{Bytes}
 use Rattle.table.specs.Bytes.{decodeTable}

@@ -8,7 +8,7 @@ use borrow.Author.Tests.{leb-true, leb-false}
 use lib.Dec.{leb}
 use lib.ListN.{length, take, drop}
 use lib.Seq.{take-all, length-take-le}
-use Rattle.circuit.specs.Offices.{bare}
+use Rattle.circuit.specs.Call.{bare}
 use Rattle.layout.specs.Index.{indexWidth}
 use Rattle.office.specs.Office.{Given, openOn, keeping}
 use Rattle.day_meaning.specs.Lines.{Appended, lastLine, sheetWord}

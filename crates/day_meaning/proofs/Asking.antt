@@ -8,7 +8,8 @@ use borrow.Author.Tests.{leb-false, not-false}
 use Rattle.circuit.specs.Value.{Value, wellFormed}
 use Rattle.circuit.specs.Sheet.{Sheet, size, Ordered}
 use Rattle.circuit.specs.Machine.{lookUp, catchUp}
-use Rattle.circuit.specs.Calls.{ask, firstCause, tests, effect, noItem}
+use Rattle.circuit.specs.Call.{ask}
+use Rattle.circuit.specs.Calls.{firstCause, tests, effect, noItem}
 use Rattle.layout.specs.Read.{Placed, SheetRead, opens, refused, readSheet}
 use Rattle.layout.specs.Opened.{sheetRead}
 use Rattle.layout.proofs.Scan.{cause-none, opened-ordered}

@@ -5,7 +5,7 @@ use mathlib.Core.Path.{_≡_, refl}
 use mathlib.Core.List.{List, [], _∷_, _++_}
 use mathlib.Core.Option.{some}
 use lib.IntN.{pos}
-use Rattle.circuit.specs.Calls.{post, ask}
+use Rattle.circuit.specs.Call.{post, ask}
 use Rattle.field.specs.Field.{cutAt}
 use Rattle.word.specs.Word.{leAt}
 use Rattle.office.specs.Office.{callOn, keeping}

@@ -11,7 +11,7 @@ use lib.ListN
 use lib.Seq.{getD-take, getD-drop}
 use mathlib.Core.Bool.{true}
 use Rattle.circuit.specs.Value.{Value, wellFormed, kindOf, numberOf}
-use Rattle.circuit.specs.Calls.{Call}
+use Rattle.circuit.specs.Call.{Call}
 use Rattle.printer.specs.Printing.{textOf, printed}
 use Rattle.value.specs.Meaning.{partsOf}
 use Rattle.value.proofs.PartsLaws.{parts-own}

@@ -10,8 +10,8 @@ use lib.Dec.{eqb}
 use lib.ListN.{length, getD, length-append, length-take}
 use lib.ListN
 use lib.Seq.{getD-take, getD-drop}
-use Rattle.circuit.specs.Offices.{bare}
-use Rattle.circuit.specs.Calls.{Call, post, keep, drop, step, ask, Test, test, firstCause, tests, Outcome, effect}
+use Rattle.circuit.specs.Call.{bare, Call, post, keep, drop, step, ask}
+use Rattle.circuit.specs.Calls.{Test, test, firstCause, tests, Outcome, effect}
 use Rattle.field.specs.Field.{cutAt, Bytes}
 use Rattle.field.specs.declared.Cut.{Cut}
 use Rattle.field.specs.declared.Cut.the-variants.{Field, Short, Absent}

@@ -8,8 +8,7 @@ use mathlib.Core.Option.{Option, none, some}
 use lib.Dec.{ltb}
 use lib.ListN.{length, take}
 use lib.ListN
-use Rattle.circuit.specs.Calls.{Call, post, keep, drop, step, ask}
-use Rattle.circuit.specs.Offices.{bare}
+use Rattle.circuit.specs.Call.{Call, post, keep, drop, step, ask, bare}
 use Rattle.field.specs.Field.{cutAt, le16At}
 use Rattle.field.specs.declared.Cut.{Cut}
 use Rattle.field.specs.declared.Cut.the-variants.{Field, Short, Absent}

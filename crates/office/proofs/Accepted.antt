@@ -6,15 +6,15 @@ use mathlib.Core.Logic.{⊎-elim}
 use lib.ListN.{length}
 use Rattle.circuit.specs.Sheet.{Sheet, size}
 use Rattle.circuit.specs.Table.{Table}
-use Rattle.circuit.specs.Calls.{Call, run}
-use Rattle.circuit.specs.Offices.{Opening}
+use Rattle.circuit.specs.Call.{Call, Opening}
+use Rattle.circuit.specs.Calls.{run}
 use Rattle.layout.specs.Read.{Placed, opens, readSheet}
 use Rattle.layout.specs.Opened.{sheetOf, itemsOf, placedFrom, sheetFrom, sheetRead}
 use Rattle.layout.specs.Index.{indexWidth, indexBytes}
 use Rattle.layout.proofs.Scan.{opened-ordered}
 use Rattle.layout.proofs.Causes.{opens-faultless}
 use Rattle.layout.proofs.IndexLaws.{index-width}
-use Rattle.table.specs.Bytes.{encodeTable, tableForm}
+use Rattle.table.specs.Bytes.{encodeTable}
 use Rattle.table.proofs.Tables.{length-encodeTable, encoded-tableForm}
 use Rattle.office.specs.Office.{Office, openOn, runOn}
 use Rattle.office.specs.Demand3Words.{OfficeAccepted}

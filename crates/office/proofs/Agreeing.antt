@@ -1,28 +1,27 @@
 -- Two offices agree, and what stays stored, for the calls on lent bytes. Assumes nothing.
-use Prim.Native.Nat.{ℕ, zero, suc, _<_, _≤_, _*_}
+use Prim.Native.Nat.{ℕ, zero, suc, _<_}
 use native.Mathlib.Omega.{arith}
 use mathlib.Core.Path.{_≡_, refl, sym, ap, _∙_, subst, subst₂}
-use mathlib.Core.Bool.{Bool, true, false, cond, not, _&&_}
-use mathlib.Core.List.{List, [], _∷_, _++_, map, append-assoc}
+use mathlib.Core.Bool.{Bool, true, false, cond, not}
+use mathlib.Core.List.{List, [], _∷_, _++_, append-assoc}
 use mathlib.Core.Option.{Option, none, some}
 use lib.Dec.{eqb, ltb}
-use lib.IntN.{ℤ, pos}
+use lib.IntN.{ℤ}
 use lib.ListN.{length, length-map}
-use borrow.Author.Tests.{lt-ltb, le-ltb, not-false}
+use borrow.Author.Tests.{lt-ltb, le-ltb}
 use Rattle.circuit.specs.Value.{Value, null, out, num, kindOf, numberOf}
 use Rattle.circuit.specs.Circuit.{LeadsTo}
 use Rattle.circuit.specs.Sheet.{Sheet, Ordered, Entries, size, itemAt, isFigure, circuitOf}
-use Rattle.circuit.specs.Table.{Table, Cell, Mark, unmarked, refresh, notice, unk, held, isStored, isMarked, isMark, noticeIf, markOf, valueIn}
-use Rattle.circuit.specs.Calls.{Call, post, keep, drop, step, ask, Outcome, firstCause, perform, run, made, madeBy, postings, Posting, postingOf, postedValue, ifAccepted as ifMade}
+use Rattle.circuit.specs.Table.{Table, Cell, Mark, unmarked, refresh, notice, unk, held, isStored, isMark, markOf, valueIn, opened}
+use Rattle.circuit.specs.Call.{Call, post, keep, drop, step, ask, Posting, Opening, bare, full}
+use Rattle.circuit.specs.Calls.{Outcome, firstCause, perform, run, made, madeBy, postings, postingOf, postedValue, ifAccepted as ifMade}
 use Rattle.circuit.specs.Fresh.{blank, freshAsk, freshRun}
 use Rattle.circuit.specs.Words.{Quiet}
-use Rattle.circuit.specs.Offices.{Opening, bare, full, opened, Agree, Answers}
-use Rattle.circuit.specs.Demand.{Retained}
+use Rattle.circuit.proofs.Offices.{Agree, Answers, two-offices, opened-sound}
+use Rattle.circuit.proofs.Retention.{Retained, retention}
 use Rattle.circuit.proofs.View.{result-below}
 use Rattle.circuit.proofs.Invariant.{Justified, exact, due, awaits}
-use Rattle.circuit.proofs.Sound.{Sound, run-sound, perform-sound}
-use Rattle.circuit.proofs.Offices.{two-offices, opened-sound}
-use Rattle.circuit.proofs.Retention.{retention}
+use Rattle.circuit.proofs.Sound.{Sound, run-sound}
 use Rattle.circuit.proofs.Accepted.{number-cause, post-passed}
 use Rattle.layout.specs.Read.{Placed, Scan, going, stopped, placeField, goOn, judge, itemTests, lastTests, headTests, scanItem, scan, scanEnd, afterLast, scanLast, scanSheet, conclude, editionIn, countIn, headContent, SheetRead, opens, refused, readSheet, layoutOf}
 use Rattle.layout.specs.Opened.{sheetFrom, sheetOf, sheetRead}
@@ -38,13 +37,13 @@ use mir.Syntax.{w64}
 use mir.Val.{toZ}
 use Rattle.table.specs.Rows.{row}
 use Rattle.table.specs.Record.{width, kindIn, markIn, numberIn, recordOf, markCode, encodeCell}
-use Rattle.table.specs.Bytes.{encodeTable, decodeTable, Holdable}
+use Rattle.table.specs.Bytes.{encodeTable, Holdable}
 use Rattle.table.proofs.Tables.{encoded-record, encodeTable-ext, bare-holdable, full-holdable}
-use Rattle.office.specs.Office.{Office, keeping, Given, accepted, refusal, lengthsWrong, openingTests, unlessRefused, callOn, openRead, openOn, runOn, kindRead, numberRead}
-use Rattle.office.specs.Demand2Words.{Answer, answerOf, valueOf}
+use Rattle.office.specs.Office.{Office, keeping, Given, accepted, openingTests, unlessRefused, callOn, openRead, openOn, runOn, kindRead, numberRead}
+use Rattle.office.specs.Demand2Words.{answerOf}
 use Rattle.office.specs.Demand3Words.{Posted, postOf, ifAccepted, acceptedPosts, freshAnswer, SameReading, storedIn, StaysStored, Retains}
 use Rattle.office.proofs.Holdable.{run-holdable, perform-holdable}
-use Rattle.office.proofs.Bridge.{Within, perform-within, decode-within, givenBy, call-performs, run-runs}
+use Rattle.office.proofs.Bridge.{Within, perform-within, givenBy, call-performs, run-runs}
 
 -- a reading that stops does so by a number that is not 0
 abbrev Positive : Scan → Type 0

@@ -4,30 +4,29 @@ use Prim.Native.Nat.{ℕ, zero, suc, _<_, _≤_, _*_}
 use native.Mathlib.Nat.{mul-le-mul-left}
 use native.Mathlib.Omega.{arith}
 use mathlib.Core.Path.{_≡_, refl, sym, ap, _∙_, fun-ext}
-use mathlib.Core.Bool.{Bool, true, false, cond, not, _&&_}
-use mathlib.Core.List.{List, [], _∷_, _++_, map}
+use mathlib.Core.Bool.{Bool, true, false, not}
+use mathlib.Core.List.{List, [], _∷_}
 use mathlib.Core.Option.{Option, none, some}
-use lib.Dec.{eqb, ltb}
-use lib.IntN.{pos}
-use lib.ListN.{length, take, drop as dropN, drop-of-length-le, List·getD-eq-default}
-use borrow.Author.Tests.{eq-eqb, ltb-true, ltb-false, leb-true, leb-false}
+use lib.Dec.{ltb}
+use lib.ListN.{length, take, drop-of-length-le, List·getD-eq-default}
+use borrow.Author.Tests.{eq-eqb, ltb-true, ltb-false}
 use Rattle.circuit.specs.Value.{Value}
-use Rattle.circuit.specs.Sheet.{Sheet, entry, size, itemAt, isFigure, beyond, Ordered}
+use Rattle.circuit.specs.Sheet.{Sheet, entry, size, itemAt, Ordered}
 use Rattle.circuit.specs.Table.{Table, Cell, unk, upd}
-use Rattle.circuit.specs.Machine.{lookUp, work, storePosting, keepFigure, dropFigure, stepItem, catchUp}
-use Rattle.circuit.specs.Calls.{Call, post, keep, drop, step, ask, Test, test, firstCause, tests, Outcome, outcome, effect, perform, unless, run, postIt, postedValue}
-use Rattle.circuit.proofs.Fill.{Fill, Filling, stays, fills, Looks, upd-cases, look-right, work-right, keep-fill}
+use Rattle.circuit.specs.Machine.{storePosting, dropFigure, stepItem, catchUp}
+use Rattle.circuit.specs.Call.{Call, post, keep, drop, step, ask}
+use Rattle.circuit.specs.Calls.{Test, test, firstCause, tests, Outcome, effect, perform, unless, run, postIt, postedValue}
+use Rattle.circuit.proofs.Fill.{Fill, Filling, stays, fills, upd-cases, look-right, work-right, keep-fill}
 use Rattle.circuit.proofs.Closure.{Closed, step-closed, catchUp-closed}
 use Rattle.circuit.proofs.Accepted.{accepted-effect, refused-table, keep-passed, drop-passed, step-passed, post-passed}
-use Rattle.layout.specs.Read.{Placed, SheetRead, opens, readSheet}
+use Rattle.layout.specs.Read.{Placed, opens, readSheet}
 use Rattle.layout.specs.Opened.{sheetRead}
 use Rattle.layout.specs.Index.{indexWidth, indexBytes}
 use Rattle.item.proofs.Offsets.{same-refl}
 use Rattle.table.specs.Record.{width, decodeCell}
-use Rattle.table.specs.Rows.{row}
-use Rattle.table.specs.Bytes.{encodeTable, decodeTable, tableForm, Holdable, tableLength}
+use Rattle.table.specs.Bytes.{encodeTable, decodeTable, Holdable, tableLength}
 use Rattle.table.proofs.Tables.{length-encodeTable, decode-encodeTable, encoded-tableForm, holdable-wellFormed}
-use Rattle.office.specs.Office.{Office, keeping, Given, refusal, accepted, kindRead, numberRead, lengthsWrong, indexWrong, tableWrong, callTests, unlessRefused, effectOn, callRead, callOn, runOn}
+use Rattle.office.specs.Office.{keeping, Given, kindRead, numberRead, lengthsWrong, indexWrong, tableWrong, callTests, unlessRefused, effectOn, callRead, callOn, runOn}
 use Rattle.office.proofs.Holdable.{perform-holdable}
 
 -- nothing stands beyond the sheet

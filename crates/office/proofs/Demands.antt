@@ -1,4 +1,5 @@
 -- The three demands hold. Assumes nothing.
+use Rattle.circuit.proofs.Equations.{equations}
 use Rattle.office.specs.Demands.{Refuses, Means, Agrees, Demands}
 use Rattle.office.proofs.Refusals.{turned-back}
 use Rattle.office.proofs.Examples.{each-given}
@@ -34,6 +35,7 @@ means =
       unstored = bare-unstored;
       solution = gives-solution;
       leaves = λ s o b lent. leaves s o lent b;
+      equations = equations;
     }
 
 -- Demand 3.

@@ -12,12 +12,12 @@ use mathlib.Core.Option.{none}
 use lib.IntN.{ℤ, pos, negsuc}
 use Rattle.word.specs.Word.{leAt, leBytes, bytes64}
 use Rattle.circuit.specs.Value.{limit, inRange}
-use Rattle.circuit.specs.Calls.{Call, post, keep, drop, step, ask, firstCause, tests, postedValue, effect, Outcome, perform}
+use Rattle.circuit.specs.Call.{Call, post, keep, drop, step, ask, bare, full}
+use Rattle.circuit.specs.Calls.{firstCause, tests, postedValue, effect, Outcome, perform}
 use Rattle.circuit.specs.Rules.{apply, numbers, total, anyOut}
 use Rattle.circuit.specs.Sheet.{Sheet, member}
 use Rattle.circuit.specs.Table.{Table}
 use Rattle.circuit.specs.Machine.{gather, workOut, lookFor, lookUp, work, storePosting, keepFigure, dropFigure, tellChild, tellBelow, tell, clearMark, stepItem, lowestMarked, catchUpIn, catchUp}
-use Rattle.circuit.specs.Offices.{bare, full}
 use Rattle.layout.specs.Layout.{spreadMeant, machineItem}
 use Rattle.layout.specs.Read.{refused, readSheet}
 use Rattle.layout.specs.Write.{concat, writeSheet}
@@ -28,7 +28,7 @@ use Rattle.table.specs.Record.{encodeCell, decodeCell, codesForm, numberForm, r
 use Rattle.table.specs.Bytes.{encodeTable, tableForm}
 use Rattle.item.specs.Offsets.{sameBytes}
 use Rattle.office.specs.Office.{Office, keeping, Given, refusal, accepted, callRead, callOn, openRead, openOn}
-use Rattle.office.specs.Demand1Words.{Request, opening, calling, serve, FitsArguments, Lendable, Gets}
+use Rattle.office.specs.Demand1Words.{Request, opening, calling, serve, FitsArguments, Gets}
 use Rattle.office.specs.Demand2Words.{Answer, answerOf}
 
 -- a sheet with a fault: each request gives the fault's number and offset

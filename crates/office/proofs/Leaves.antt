@@ -10,8 +10,9 @@ use lib.ListN.{length}
 use Rattle.circuit.specs.Value.{Value, null, out, num, same, kindOf, numberOf, wellFormed}
 use Rattle.circuit.specs.Sheet.{Sheet, Ordered, size}
 use Rattle.circuit.specs.Table.{Table, Cell, Mark, unmarked, refresh, notice, unk, held, upd, noticeIf, markOf, valueIn}
-use Rattle.circuit.specs.Machine.{Looked, lookUp, work, storePosting, postCell, keepFigure, keepCell, dropFigure, dropCell, droppedMark, tell, clearMark, stepItem, stepCell, catchUp}
-use Rattle.circuit.specs.Calls.{Call, post, keep, drop, step, ask, perform, effect, postIt}
+use Rattle.circuit.specs.Machine.{work, storePosting, postCell, keepFigure, keepCell, dropFigure, dropCell, droppedMark, tell, clearMark, stepItem, stepCell, catchUp}
+use Rattle.circuit.specs.Call.{Call, post, keep, drop, step, ask}
+use Rattle.circuit.specs.Calls.{perform, effect, postIt}
 use Rattle.circuit.specs.Words.{Quiet}
 use Rattle.circuit.proofs.RuleLaws.{same-true, same-refl}
 use Rattle.circuit.proofs.Fill.{upd-same, upd-other}
@@ -28,7 +29,7 @@ use Rattle.table.specs.Record.{width, kindIn, markIn, numberIn, markCode, encod
 use Rattle.table.specs.Bytes.{encodeTable, decodeTable, Holdable}
 use Rattle.table.proofs.Records.{number-fits, number-again}
 use Rattle.table.proofs.Tables.{length-encodeTable, encoded-record, encode-decodeTable, encodeTable-ext, decoded-holdable, encoded-tableForm, holdable-wellFormed}
-use Rattle.office.specs.Office.{Office, keeping, Given, effectOn, callOn}
+use Rattle.office.specs.Office.{Office, keeping, effectOn, callOn}
 use Rattle.office.specs.Demand1Words.{calling, NoneHolds, ownCauses, AcceptedLent}
 use Rattle.office.specs.Demand2Words.{valueOf, Stores, Posts, Keeps, Drops, Steps, Asks, NoMarkStands, CallsLeave}
 use Rattle.office.proofs.Holdable.{perform-holdable}

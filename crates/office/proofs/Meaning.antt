@@ -13,9 +13,10 @@ use Rattle.word.specs.Word.{leBytes}
 use Rattle.circuit.specs.Value.{Value, kindOf, numberOf}
 use Rattle.circuit.specs.Circuit.{Circuit, IsSolution}
 use Rattle.circuit.specs.Sheet.{Sheet, Ordered, Entries, itemAt, size, isFigure, circuitOf}
-use Rattle.circuit.specs.Table.{Table, Mark, unk, held, isStored, noticeIf, valueIn}
+use Rattle.circuit.specs.Table.{Table, Mark, unk, held, isStored, noticeIf, valueIn, opened}
 use Rattle.circuit.specs.Machine.{Looked, lookUp, catchUp, keepFigure, keepCell}
-use Rattle.circuit.specs.Calls.{Call, keep, ask, effect}
+use Rattle.circuit.specs.Call.{Call, keep, ask, Opening, bare, full}
+use Rattle.circuit.specs.Calls.{effect}
 use Rattle.circuit.specs.Words.{Bare}
 use Rattle.circuit.proofs.Solution.{solution, solution-solves, solution-unique, sheet-acyclic, below-listed}
 use Rattle.circuit.proofs.View.{view, view-at}
@@ -23,7 +24,6 @@ use Rattle.circuit.proofs.Fill.{Fill, Filling, stays, fills, look-right, keep-f
 use Rattle.circuit.proofs.CatchUp.{catchUp-quiet}
 use Rattle.circuit.proofs.Reading.{bare-look, quiet-look}
 use Rattle.circuit.proofs.Sound.{Sound, catchUp-sound}
-use Rattle.circuit.specs.Offices.{Opening, bare, full, opened}
 use Rattle.field.specs.Field.{Bytes}
 use Rattle.layout.specs.Layout.{Layout, LayoutItem, entryField, figureField, machineItem, machineSheet}
 use Rattle.layout.specs.Read.{Placed, opens, readSheet, layoutOf}

@@ -12,7 +12,8 @@ use lib.ListN.{length, length-map}
 use borrow.Author.Tests.{not-false}
 use Rattle.circuit.specs.Value.{Value, null, num, inRange, sameNumber, kindOf, numberOf}
 use Rattle.circuit.specs.Sheet.{Sheet, size, itemAt, isFigure}
-use Rattle.circuit.specs.Calls.{Call, post, keep, drop, step, ask, Test, firstCause, tests, postedValue, effect}
+use Rattle.circuit.specs.Call.{Call, post, keep, drop, step, ask}
+use Rattle.circuit.specs.Calls.{Test, firstCause, tests, postedValue, effect}
 use Rattle.layout.specs.Read.{Placed, SheetRead, opens, refused, readSheet, layoutOf}
 use Rattle.layout.specs.Opened.{sheetRead, sheetOf, sheetFrom, itemsOf, placedFrom}
 use Rattle.layout.specs.Causes.{Faultless}

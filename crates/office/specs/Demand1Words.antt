@@ -11,8 +11,7 @@ use mir.Syntax.{w64}
 use mir.Val.{SFits}
 use Rattle.circuit.specs.Value.{limit}
 use Rattle.circuit.specs.Sheet.{Sheet, size, itemAt, isFigure}
-use Rattle.circuit.specs.Calls.{Call, post, keep, drop, step, ask}
-use Rattle.circuit.specs.Offices.{Opening}
+use Rattle.circuit.specs.Call.{Call, post, keep, drop, step, ask, Opening}
 use Rattle.field.specs.Field.{Bytes}
 use Rattle.layout.specs.Read.{Placed}
 use Rattle.layout.specs.Opened.{sheetOf, itemsOf}

@@ -10,10 +10,9 @@ use lib.ListN.{length, getD}
 use Rattle.circuit.specs.Value.{Value, kindOf, numberOf}
 use Rattle.circuit.specs.Circuit.{IsSolution}
 use Rattle.circuit.specs.Sheet.{Sheet, Ordered, Entries, size, itemAt, isFigure, circuitOf}
-use Rattle.circuit.specs.Table.{Table, Mark, unmarked, notice, held, upd, noticeIf, valueIn}
+use Rattle.circuit.specs.Table.{Table, unmarked, notice, held, upd, noticeIf, valueIn}
 use Rattle.circuit.specs.Machine.{Looked, lookUp, work, tell, clearMark}
-use Rattle.circuit.specs.Calls.{Call, post, keep, drop, step, ask}
-use Rattle.circuit.specs.Offices.{Opening, bare, full}
+use Rattle.circuit.specs.Call.{Call, post, keep, drop, step, ask, Opening, bare, full}
 use Rattle.circuit.specs.Words.{CaughtUp}
 use Rattle.field.specs.Field.{Bytes}
 use Rattle.layout.specs.Layout.{Layout, LayoutItem, entryField, figureField}
@@ -24,7 +23,7 @@ use Rattle.layout.specs.Index.{indexWidth, le32At}
 use Rattle.table.specs.Rows.{row}
 use Rattle.table.specs.Record.{width, kindIn, markIn, numberIn}
 use Rattle.table.specs.Bytes.{encodeTable, decodeTable}
-use Rattle.office.specs.Office.{Office, Given, openOn, callOn}
+use Rattle.office.specs.Office.{Office, Given, callOn}
 use Rattle.office.specs.Demand1Words.{AcceptedLent}
 
 -- ---- what a call answers

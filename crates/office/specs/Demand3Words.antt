@@ -2,7 +2,7 @@
 -- Assumes nothing.
 use Prim.Native.Nat.{ℕ, zero, suc, _<_, _≤_}
 use mathlib.Core.Path.{_≡_}
-use mathlib.Core.Bool.{Bool, true, false, not, _||_}
+use mathlib.Core.Bool.{Bool, true, false, not}
 use mathlib.Core.List.{List, [], _∷_, _++_}
 use mathlib.Core.Logic.{_⊎_}
 use mathlib.Core.Option.{Option, none, some}
@@ -11,7 +11,7 @@ use lib.IntN.{ℤ}
 use Rattle.circuit.specs.Value.{Value}
 use Rattle.circuit.specs.Circuit.{LeadsTo}
 use Rattle.circuit.specs.Sheet.{size, itemAt, isFigure, circuitOf}
-use Rattle.circuit.specs.Calls.{Call, post, keep, drop, step, ask}
+use Rattle.circuit.specs.Call.{Call, post, keep, drop, step, ask}
 use Rattle.circuit.specs.Fresh.{blank, freshRun, freshAsk}
 use Rattle.circuit.specs.Words.{droppedIn}
 use Rattle.layout.specs.Opened.{sheetOf}

@@ -7,13 +7,13 @@ use mathlib.Core.List.{List}
 use mathlib.Core.Logic.{_↔_}
 use lib.IntN.{pos}
 use Rattle.circuit.specs.Value.{Value}
-use Rattle.circuit.specs.Calls.{Call}
-use Rattle.circuit.specs.Offices.{Opening, bare}
+use Rattle.circuit.specs.Equations.{Equations}
+use Rattle.circuit.specs.Call.{Call, Opening, bare}
 use Rattle.field.specs.Field.{Bytes}
 use Rattle.layout.specs.Layout.{machineSheet}
 use Rattle.layout.specs.Opened.{sheetOf}
 use Rattle.layout.specs.Causes.{Faultless}
-use Rattle.office.specs.Office.{Office, Given, openOn}
+use Rattle.office.specs.Office.{Office, openOn}
 use Rattle.office.specs.Demand1Words.{Request, serve, causesOf, First, Lowest, Refused, NoCause, Gets, AcceptedLent, SheetWords}
 use Rattle.office.specs.Demand2Words.{FollowsLayout, Writes, NoneStored, OnlySolution, entriesIn, Gives, CallsLeave}
 use Rattle.office.specs.Demand3Words.{acceptedPosts, SameReading, Retains, OfficeAccepted}
@@ -53,6 +53,8 @@ pub record Means : Type 0 where
       → (values : ℕ → Value) × OnlySolution (sheetOf s) (entriesIn (o .table)) values × Gives s o values
   -- of each accepted table
   pub leaves : (s : List ℕ) (o : Office) → Bytes (o .table) → AcceptedLent s o → CallsLeave s o
+  -- looking up, working out, catching up and the fresh office, as 01 has them
+  pub equations : Equations
 
 -- Demand 3, about whole lists of calls.
 pub record Agrees : Type 0 where

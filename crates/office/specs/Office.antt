@@ -9,8 +9,9 @@ use lib.IntN.{ℤ, pos}
 use lib.ListN.{length}
 use Rattle.circuit.specs.Value.{Value, kindOf, numberOf}
 use Rattle.circuit.specs.Sheet.{Sheet}
-use Rattle.circuit.specs.Calls.{Call, Test, test, firstCause, tests, Outcome, effect}
-use Rattle.circuit.specs.Offices.{Opening, opened}
+use Rattle.circuit.specs.Call.{Call, Opening}
+use Rattle.circuit.specs.Calls.{Test, test, firstCause, tests, Outcome, effect}
+use Rattle.circuit.specs.Table.{opened}
 use Rattle.layout.specs.Read.{Placed, SheetRead, opens, refused, readSheet}
 use Rattle.layout.specs.Opened.{sheetRead}
 use Rattle.layout.specs.Index.{indexWidth, indexBytes}

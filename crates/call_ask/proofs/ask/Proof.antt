@@ -1,5 +1,5 @@
 use Rattle.admission.proofs.Calls.{admits, refuses}
-use Rattle.circuit.specs.Calls.{ask}
+use Rattle.circuit.specs.Call.{ask}
 use Rattle.sheet.specs.Check.{mostItems}
 use mathlib.Core.Path.{refl}
 use native.Mathlib.Omega.{arith}

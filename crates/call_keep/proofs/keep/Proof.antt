@@ -1,5 +1,5 @@
 use Rattle.admission.proofs.Calls.{admits, refuses}
-use Rattle.circuit.specs.Calls.{keep}
+use Rattle.circuit.specs.Call.{keep}
 use Rattle.sheet.specs.Check.{mostItems}
 use mathlib.Core.Path.{refl}
 use native.Mathlib.Omega.{arith}

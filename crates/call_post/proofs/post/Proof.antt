@@ -1,5 +1,5 @@
 use Rattle.admission.proofs.Calls.{admits, refuses}
-use Rattle.circuit.specs.Calls.{post}
+use Rattle.circuit.specs.Call.{post}
 use Rattle.value.proofs.Signed.{back}
 use Rattle.sheet.specs.Check.{mostItems}
 use mathlib.Core.Path.{refl}

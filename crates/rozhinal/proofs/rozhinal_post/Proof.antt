@@ -1,7 +1,7 @@
 -- `rozhinal_post` gives what `post` gives: a signed number is passed on as its bits, and read back. Assumes nothing.
 use mathlib.Core.Path.{subst}
 use borrow.Author.Needs.{needs}
-use Rattle.circuit.specs.Calls.{post}
+use Rattle.circuit.specs.Call.{post}
 use Rattle.value.proofs.Signed.{back}
 use Rattle.office.specs.Office.{callOn, keeping}
 use Rattle.admission.specs.Answers.{Answered}
