@@ -1,5 +1,5 @@
 -- Working out: the loop over an item's parents gathers what the machine gathers. Assumes nothing.
-use Prim.Native.Nat.{ℕ, zero, suc, _+_, _*_, _<_, _≤_}
+use Prim.Native.Nat.{ℕ, zero, suc, _+_, _<_, _≤_}
 use mathlib.Core.Path.{_≡_, refl, sym, ap, subst, _∙_}
 use mathlib.Core.Bool.{Bool, true, false, _||_, or-assoc}
 use mathlib.Core.List.{List, [], _∷_, _++_}
@@ -18,18 +18,52 @@ use Rattle.circuit.specs.Machine.{Looked, Gathered, gathered, gather, before, w
 use Rattle.circuit.proofs.RuleLaws.{allWellFormed-snoc, and-true}
 use Rattle.layout.specs.Opened.{sheetOf}
 use Rattle.item.specs.Item.{itemOperation, OperationRead, CountRead, ItemField, fieldItem}
-use Rattle.children.proofs.Linking.{place-below}
 use Rattle.item.proofs.Located.{sheet-ordered, located-field, located-item}
-use Rattle.table.specs.Bytes.{decodeTable}
+use Rattle.children.specs.Children.{places}
+use Rattle.children.proofs.Linking.{place-below}
+use Rattle.table.specs.Bytes.{decodeTable, tableForm}
 use Rattle.value.specs.Meaning.{meaning, firstValues}
 use Rattle.rules.specs.Operations.{operationMeaning, allows, applied, Applied}
 use Rattle.value.proofs.Parents.{firstValues-store}
-use Rattle.memo.specs.Memo.{Found, found, Memo, seenMeaning, recallMeaning, knownOf, remembered}
-use Rattle.memo.specs.declared.Recall.the-variants.{Known}
-use Rattle.table.specs.Record.{width}
-use Rattle.looking.proofs.Looking.{lent-fits, known-returns}
-use Rattle.looking.specs.Pass.{Lent, Leaves, behind, gatherTo}
-use Rattle.looking.specs.Gathering.{soFar, Gathering, Going, Continues}
+use Rattle.memo.specs.Memo.{Found, found, Memo, NoneFrom}
+use Rattle.looking.specs.Pass.{Lent, Leaves}
+
+-- the first k of the items ps looked up, one after the other, in the order of the code's loop
+abbrev pub behind : Gathered → Looked → Gathered
+behind g r = gathered (r .table) (g .values ++ (r .value ∷ [])) (g .flag || r .flag)
+
+unfoldable pub gatherTo : (Table → ℕ → Looked) → Table → List ℕ → ℕ → Gathered
+gatherTo look T ps zero = gathered T [] false
+gatherTo look T ps (suc k) = behind (gatherTo look T ps k) (look (gatherTo look T ps k .table) (getD ps k 0))
+
+-- what is gathered from the first k parents of item i, since the table t₀ and the tags tags₀
+abbrev pub soFar : List ℕ → ℕ → List ℕ → ℕ → Gathered
+soFar s i t₀ k = gatherTo (lookUp (sheetOf s)) (decodeTable t₀) (parents (sheetOf s) i) k
+
+pub record Gathering (s : List ℕ) (i : ℕ) (t₀ tags₀ : List ℕ) (generation k : ℕ) (t tags : List ℕ) (numbers : List ℤ) (kinds : List ℕ) (amounts : List ℤ) (flag : Bool) : Type 0 where
+  pub within : k ≤ length (parents (sheetOf s) i)
+  pub length-is : length t ≡ length t₀
+  pub formed : tableForm (sheetOf s) t ≡ true
+  pub table-is : decodeTable t ≡ soFar s i t₀ k .table
+  pub memo : Memo (sheetOf s) (soFar s i t₀ k .table) tags numbers generation
+  pub values-are : firstValues kinds amounts k ≡ soFar s i t₀ k .values
+  pub values-formed : allWellFormed (firstValues kinds amounts k) ≡ true
+  pub flag-is : flag ≡ soFar s i t₀ k .flag
+  pub fresh : (b : ℕ) → i ≤ b → NoneFrom b tags₀ generation → NoneFrom b tags generation
+  pub kinds-length : length kinds ≡ places
+  pub amounts-length : length amounts ≡ places
+
+-- What the loop goes on with: what is lent, the offset and the parent count of item i, and what is gathered.
+pub record Going (s offsets t₀ tags₀ : List ℕ) (numbers₀ : List ℤ) (generation i at count k : ℕ) (t tags : List ℕ) (numbers : List ℤ) (kinds : List ℕ) (amounts : List ℤ) (flag : Bool) : Type 0 where
+  pub lent : Lent s offsets t₀
+  pub low : i < size (sheetOf s)
+  pub figured : isFigure (itemAt (sheetOf s) i) ≡ true
+  pub at-is : at ≡ getD offsets i 0
+  pub count-is : count ≡ length (parents (sheetOf s) i)
+  pub count-most : count ≤ places
+  pub gathering : Gathering s i t₀ tags₀ generation k t tags numbers kinds amounts flag
+  pub tags-length : length tags ≡ length tags₀
+  pub numbers-length : length numbers ≡ length numbers₀
 
 -- one item more at the end of a list
 gather-snoc : (look : Table → ℕ → Looked) (ps : List ℕ) (p : ℕ) (T : Table)
@@ -61,7 +95,7 @@ gather-all : (look : Table → ℕ → Looked) (T : Table) (ps : List ℕ) → g
 gather-all look T ps = gather-take look T ps (length ps) (omega arith) ∙ ap (gather look T) (take-length ps)
 
 pub gather-start : (s offsets : List ℕ) (i : ℕ) (t tags : List ℕ) (numbers : List ℤ) (generation : ℕ) (kinds : List ℕ) (amounts : List ℤ)
-    → Lent s offsets t → Memo (sheetOf s) (decodeTable t) tags numbers generation → length kinds ≡ 16 → length amounts ≡ 16
+    → Lent s offsets t → Memo (sheetOf s) (decodeTable t) tags numbers generation → length kinds ≡ places → length amounts ≡ places
     → Gathering s i t tags generation 0 t tags numbers kinds amounts false
 unfolding gatherTo firstValues allWellFormed
 gather-start s offsets i t tags numbers generation kinds amounts lent memo a b =
@@ -90,7 +124,7 @@ module _ {s : List ℕ} {i : ℕ} {t₀ tags₀ : List ℕ} {generation k : ℕ}
   gathering-memo = rw (inv .table-is) (inv .memo)
 
   -- one parent more
-  pub gather-next : (p : ℕ) → p ≡ getD (parents (sheetOf s) i) k 0 → p < i → k < length (parents (sheetOf s) i) → length (parents (sheetOf s) i) ≤ 16
+  pub gather-next : (p : ℕ) → p ≡ getD (parents (sheetOf s) i) k 0 → p < i → k < length (parents (sheetOf s) i) → length (parents (sheetOf s) i) ≤ places
       → (f : Found) (t′ tags′ : List ℕ) (numbers′ : List ℤ) → length t′ ≡ length t
       → ((b : ℕ) → p < b → Leaves s t tags generation b (lookUp (sheetOf s) (decodeTable t) p) f t′ tags′ numbers′)
       → (flag′ : Bool) → flag′ ≡ (flag || f .flag)
@@ -154,7 +188,7 @@ evaluated (figure o k sp ps) op vs r e f a =
 
 pub going-start : {s offsets t tags : List ℕ} {numbers : List ℤ} {generation i : ℕ} → Lent s offsets t → Memo (sheetOf s) (decodeTable t) tags numbers generation
     → i < size (sheetOf s) → isFigure (itemAt (sheetOf s) i) ≡ true
-    → (count : ℕ) → CountRead (fieldItem s (getD offsets i 0)) count → (kinds : List ℕ) (amounts : List ℤ) → length kinds ≡ 16 → length amounts ≡ 16
+    → (count : ℕ) → CountRead (fieldItem s (getD offsets i 0)) count → (kinds : List ℕ) (amounts : List ℤ) → length kinds ≡ places → length amounts ≡ places
     → Going s offsets t tags numbers generation i (getD offsets i 0) count 0 t tags numbers kinds amounts false
 going-start {s} {offsets} {t} {tags} {numbers} {generation} {i} lent memo low fig count read kinds amounts a b =
     record {
@@ -230,33 +264,3 @@ module _ {s offsets t₀ tags₀ : List ℕ} {numbers₀ : List ℤ} {generation
       (evaluated (itemAt (sheetOf s) i) op (firstValues kinds amounts k) (meaning r) (read .operation-is ∙ ap itemOperation going-item) (inv .figured)
       (applies .result ∙ ap (λ n. applied (operationMeaning op) (firstValues kinds amounts n)) (sym (going-all h))))
       (applies .formed) refl
-
--- what reading a parent's cell and its place in the memo needs
-module _ {s offsets t₀ tags₀ : List ℕ} {numbers₀ : List ℤ} {generation i at count k : ℕ} {t tags : List ℕ} {numbers : List ℤ} {kinds : List ℕ} {amounts : List ℤ} {flag : Bool}
-    (inv : Going s offsets t₀ tags₀ numbers₀ generation i at count k t tags numbers kinds amounts flag) (more : k < count) (p : ℕ) (p-is : p ≡ getD (parentsOf (fieldItem s at)) k 0) where
-  pub parent-low : p < size (sheetOf s)
-  parent-low = omega (arith, going-below inv p p-is more, inv .low)
-
-  pub parent-fits : width * p + width ≤ length t
-  parent-fits = lent-fits (going-lent inv) p parent-low
-
-  pub parent-tagged : p < length tags
-  parent-tagged = omega (arith, parent-low, inv .gathering .memo .tag-room)
-
-  pub parent-numbered : p < length numbers
-  parent-numbered = omega (arith, parent-low, inv .gathering .memo .number-room)
-
--- a parent that is known is gathered
-pub continue-known : {s : List ℕ} {generation at count k₀ : ℕ} {t tags : List ℕ} {numbers : List ℤ} {kinds₀ : List ℕ} {amounts₀ : List ℤ} {flag₀ : Bool} {k : ℕ} {kinds : List ℕ} {amounts : List ℤ} {flag : Bool}
-    → Continues s generation at count t tags numbers k₀ kinds₀ amounts₀ flag₀ k kinds amounts flag → k < count
-    → (p : ℕ) → p ≡ getD (parentsOf (fieldItem s at)) k 0
-    → (recall : Rattle.memo.specs.declared.Recall.Recall) → recallMeaning recall ≡ knownOf (decodeTable t p) (remembered tags numbers generation p)
-    → (seen : Rattle.memo.specs.declared.Seen.Seen) → recall ≡ Known seen
-    → (flag′ : Bool) → flag′ ≡ (flag || (seenMeaning seen .flag))
-    → (kinds′ : List ℕ) (amounts′ : List ℤ) → kinds′ ≡ set kinds k (kindOf (seenMeaning seen .value)) → amounts′ ≡ set amounts k (numberOf (seenMeaning seen .value))
-    → Continues s generation at count t tags numbers k₀ kinds₀ amounts₀ flag₀ (k + 1) kinds′ amounts′ flag′
-continue-known {s} {generation} {at} {count} {k₀} {t} {tags} {numbers} {kinds₀} {amounts₀} {flag₀} {k} {kinds} {amounts} {flag} so-far more p p-is recall knows seen e flag′ flags kinds′ amounts′ ks ns offsets t₀ tags₀ numbers₀ i start =
-    let inv = so-far offsets t₀ tags₀ numbers₀ i start in
-    going-next inv p p-is more (seenMeaning seen) t tags numbers refl refl refl
-    (known-returns (going-lent inv) (parent-low inv more p p-is) (gathering-memo (inv .gathering)) recall knows seen e)
-    flag′ flags kinds′ amounts′ ks ns

@@ -1,4 +1,5 @@
 use Rattle.call_keep.proofs.Keeping.{kept-held, kept-unk}
+use Rattle.circuit.specs.Table.{isStored}
 use Rattle.table.specs.Meaning.{cellMeaning}
 use mathlib.Core.Path.{sym, ap, _∙_}
 use borrow.Author.Needs.{needs}
@@ -15,7 +16,10 @@ enum-told-2 : tie.Need-enum-told-2
 enum-told-2 c = search needs
 
 keep-new-requires : tie.Need-keep-new-requires
-keep-new-requires c κs = search needs
+keep-new-requires c κs =
+    let e = c .before .before .before .before .before .before .before .before in
+    let unstored = ap isStored (sym (c .before .before .before .read-cell .ensures) ∙ ap cellMeaning (c .before .enum-told2 .given .1)) in
+    (e .pre .0, (e .pre .1 .0, (e .pre .1 .1, unstored)))
 
 same-length : tie.Need-same-length
 same-length c = search needs
