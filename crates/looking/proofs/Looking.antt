@@ -145,7 +145,8 @@ memo-remembered S T tags numbers generation i f low memo is =
         → lookUp S T j ≡ looked T (g .value) (g .flag)
     right j g true e q =
         let same : j ≡ i = eqb-true j i e in
-        let found-f : some f ≡ some g = sym (remembered-here tags numbers generation i f tags-room numbers-room) ∙ ap (λ k. remembered (set tags i (tagOf generation f)) (set numbers i (numberOf (f .value))) generation k) (sym same) ∙ q in
+        let here = remembered-here tags numbers generation i f tags-room numbers-room in
+        let found-f : some f ≡ some g = sym here ∙ ap (remembered (set tags i (tagOf generation f)) (set numbers i (numberOf (f .value))) generation) (sym same) ∙ q in
         let f-g : f ≡ g = cc in
         ap (lookUp S T) same ∙ is ∙ ap (λ h. looked T (h .value) (h .flag)) f-g
     right j g false e q =
@@ -330,12 +331,12 @@ module _ {s offsets t : List ℕ} (lent : Lent s offsets t) {i : ℕ} (low : i <
       rw (settled .table-is, settled .tags-are, settled .numbers-are)
       (leaves-remembered lent low unstored-unk len worked f (settled .found-is) (k ∙ ap keptOf (located-item s offsets (lent .located) i low)) b over)
 
--- what is known, from the cell that was read and what was recalled
-module _ (T : Table) (i : ℕ) (r : Option Found) (cell : Rattle.table.specs.declared.Cell.Cell) (reads : cellMeaning cell ≡ T i) where
-  pub stored-known : (v : Rattle.value.specs.declared.Value.Value) (m : Rattle.table.specs.declared.Mark.Mark) → cell ≡ Held v m → (flag : Bool) → flag ≡ isNotice (markMeaning m)
-      → some (found (meaning v) flag) ≡ knownOf (T i) r
-  stored-known v m e flag f =
-      ap (λ x. some (found (meaning v) x)) f ∙ ap (λ c. knownOf c r) (sym (ap cellMeaning e) ∙ reads)
+-- what is known, from the cell that was read and what is recalled
+module _ {c : Cell} (r : Option Found) (read : Rattle.table.specs.declared.Cell.Cell) (reads : cellMeaning read ≡ c) (o : Option Found) where
+  pub held-known : (v : Rattle.value.specs.declared.Value.Value) (m : Rattle.table.specs.declared.Mark.Mark) → read ≡ Held v m
+      → (flag : Bool) → flag ≡ isNotice (markMeaning m) → o ≡ some (found (meaning v) flag) → o ≡ knownOf c r
+  held-known v m e flag f is =
+      is ∙ ap (λ x. some (found (meaning v) x)) f ∙ ap (λ x. knownOf x r) (sym (ap cellMeaning e) ∙ reads)
 
-  pub unstored-known : (noticed : Bool) → cell ≡ Unk noticed → (o : Option Found) → o ≡ r → o ≡ knownOf (T i) r
-  unstored-known noticed e o is = is ∙ ap (λ c. knownOf c r) (sym (ap cellMeaning e) ∙ reads)
+  pub unk-known : (noticed : Bool) → read ≡ Unk noticed → o ≡ r → o ≡ knownOf c r
+  unk-known noticed e is = is ∙ ap (λ x. knownOf x r) (sym (ap cellMeaning e) ∙ reads)

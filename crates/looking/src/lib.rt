@@ -1,6 +1,7 @@
 // Looking up and working out. The two call each other up the circuit: parents have lower numbers.
 ghost use mathlib.Core.Path.{_≡_};
 ghost use mathlib.Core.Bool.{true, false, _||_};
+ghost use mathlib.Core.Option.{some};
 ghost use Prim.Native.Nat.{ℕ, _+_, _*_, _<_, _≤_};
 ghost use lib.ListN.{length, set};
 ghost use Rattle.children.specs.Children.{places};
@@ -9,16 +10,18 @@ ghost use Rattle.circuit.specs.Table as circuit;
 ghost use Rattle.circuit.specs.Sheet.{size, itemAt, isFigure};
 ghost use Rattle.circuit.specs.Machine.{lookUp, work};
 ghost use Rattle.layout.specs.Opened.{sheetOf};
+ghost use Rattle.value.specs.Meaning.{meaning};
 ghost use Rattle.table.specs.Bytes.{decodeTable};
 ghost use Rattle.table.specs.Record.{width};
 ghost use Rattle.table.specs.Meaning.{markMeaning};
-ghost use Rattle.memo.specs.Memo.{seenMeaning, recallMeaning, remembered, knownOf, Memo};
+ghost use Rattle.memo.specs.Memo.{found, seenMeaning, recallMeaning, remembered, knownOf, Memo};
 ghost use Rattle.looking.specs.Pass.{Lent, Leaves, Settled};
 use children::PLACES;
 use memo::Recall;
 use memo::Seen;
 use table::Cell;
 use table::Mark;
+use value::Value;
 
 pub fn is_notice(m: Mark) -> bool
     ensures { λ r. ⌜ r ≡ circuit.isNotice (markMeaning m) ⌝ }
@@ -68,16 +71,20 @@ fn settle(
     seen
 }
 
+// A stored value is known, whatever it is.
+fn stored(value: Value, flag: bool) -> Recall
+    ensures { λ r. ⌜ recallMeaning r ≡ some (found (meaning value) flag) ⌝ }
+{
+    Recall::Known(Seen { value, flag })
+}
+
 // What looking up item i gives without working it out: what is stored, or what is remembered.
 fn known(table: &[u8], tags: &[u64], numbers: &[i64], generation: u64, i: usize) -> Recall
     requires { ⌜ width * i + width ≤ length (now table) ⌝ ∗ ⌜ i < length (now tags) ⌝ ∗ ⌜ i < length (now numbers) ⌝ }
     ensures { λ r. ⌜ recallMeaning r ≡ knownOf (decodeTable (now (table .entry)) i) (remembered (now (tags .entry)) (now (numbers .entry)) generation i) ⌝ }
 {
     match table::read_cell(table, i) {
-        Cell::Held(value, mark) => Recall::Known(Seen {
-            value,
-            flag: is_notice(mark),
-        }),
+        Cell::Held(value, mark) => stored(value, is_notice(mark)),
         Cell::Unk(_) => memo::recalled(tags, numbers, generation, i),
     }
 }

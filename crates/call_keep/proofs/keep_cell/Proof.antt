@@ -25,13 +25,21 @@ same-length : tie.Need-same-length
 same-length c = search needs
 
 returns : tie.Need-returns
-returns c = let a = c .before .before .before .before .before .before .before .args in let p = c .before .before .before .before .before .before .before .pre in kept-held (p .0) (a .i) (p .1 .0) _ _ (sym (c .before .before .read-cell .ensures) ∙ ap cellMeaning (c .enum-told .given .1))
+returns c =
+    let r = c .before .before in
+    let e = r .before .before .before .before .before in
+    kept-held (e .pre .0) (e .args .i) (e .pre .1 .0) _ _ (sym (r .read-cell .ensures) ∙ ap cellMeaning (c .enum-told .given .1))
 
 same-length-2 : tie.Need-same-length-2
 same-length-2 c = search needs
 
 returns-2 : tie.Need-returns-2
-returns-2 c = let a = c .before .before .before .before .before .before .before .before .before .before .before .args in let p = c .before .before .before .before .before .before .before .before .before .before .before .pre in kept-unk (p .0) (a .i) (p .1 .0) _ _ (sym (c .before .before .before .before .before .before .read-cell .ensures) ∙ ap cellMeaning (c .before .before .before .before .enum-told2 .given .1)) (c .before .before .keep-new .ensures)
+returns-2 c =
+    let u = c .before .before .before .before in
+    let r = u .before .before in
+    let e = r .before .before .before .before .before in
+    let unk-is = sym (r .read-cell .ensures) ∙ ap cellMeaning (u .enum-told2 .given .1) in
+    kept-unk (e .pre .0) (e .args .i) (e .pre .1 .0) _ _ unk-is (c .before .before .keep-new .ensures)
 
 pub keep-cell-spec : {M : Type 1} → statement M
 keep-cell-spec =

@@ -7,7 +7,7 @@ use borrow.Author.Needs.{needs}
 use Rattle.item.proofs.Located.{size-most, located-field}
 use Rattle.memo.specs.Memo.{seenMeaning}
 use Rattle.looking.proofs.Looking.{lent-fits, known-returns, unknown-unstored, worked-figure, worked-returns}
-use Rattle.looking.proofs.Gathering.{Going, gathering-memo, going-start, going-field, going-more, going-below, going-lent, going-figure, going-next}
+use Rattle.looking.proofs.Gathering.{Going, going-start, going-field, going-more, going-below, going-lent, going-memo, going-figure, going-next}
 use Rattle.looking.proofs.Gathering.{going-takes, going-formed, going-done}
 use borrow.Fn.Kinds.{In}
 use borrow.Fn.PlainCycle.{Measures, is, falls, and}
@@ -245,7 +245,7 @@ work-out-look-up-requires t c κs =
     let e = l .before .before .before .before .before .before .before in
     let inv = l .loop .inv in
     let low = going-below inv (p .parent .result) (p .parent .ensures) (p .before .loop-test .taken) in
-    (omega (arith, low, e .pre .0), (going-lent inv, (gathering-memo (inv .gathering), omega (arith, low, inv .low))))
+    (omega (arith, low, e .pre .0), (going-lent inv, (going-memo inv, omega (arith, low, inv .low))))
 
 work-out-gather-requires : (t : ℕ) → work-out-lts.Need-gather-requires (work-out-claims t) (work-out-at t) work-out.Post work-out-Inv-loop work-out-μ-loop
 work-out-gather-requires t c κs =

@@ -31,7 +31,9 @@ either-requires c κs = search needs
 returns : tie.Need-returns
 returns c =
     let a = c .before .before .before .before .args in
-    (c .either .ensures, (ap (set (a .kinds .now) (a .k)) (c .before .before .kind .ensures), ap (set (a .amounts .now) (a .k)) (back _ (search needs) ∙ c .before .number-or-zero .ensures)))
+    let kind = ap (set (a .kinds .now) (a .k)) (c .before .before .kind .ensures) in
+    let amount = ap (set (a .amounts .now) (a .k)) (back _ (search needs) ∙ c .before .number-or-zero .ensures) in
+    (c .either .ensures, (kind, amount))
 
 pub gather-spec : {M : Type 1} → statement M
 gather-spec =

@@ -1,4 +1,3 @@
-use Rattle.memo.specs.Memo.{seenMeaning}
 use Rattle.looking.proofs.Settling.{settled-kept, settled-remembered}
 use borrow.Author.Needs.{needs}
 use Rattle.looking.proofs.settle.Statement.{statement}
@@ -27,8 +26,9 @@ same-length c = search needs
 
 returns : tie.Need-returns
 returns c =
-    let a = c .before .before .before .before .before .before .before .before .before .before .args in
-    settled-kept (a .i) (a .generation) (a .kept) (a .noticed) (seenMeaning (a .worked)) (a .table .now) (a .tags .now) (a .numbers .now) _ (c .before .before .before .before .before .before .either .ensures) (c .before .before .before .before .before .if1 .taken) _ (c .before .before .before .notice-if .ensures) _ (c .before .before .store-cell .ensures)
+    let n = c .before .before .before in
+    let b = n .before .before in
+    settled-kept (b .before .either .ensures) (b .if1 .taken) _ (n .notice-if .ensures) _ (c .before .before .store-cell .ensures)
 
 same-length-2 : tie.Need-same-length-2
 same-length-2 c = search needs
@@ -38,8 +38,9 @@ same-length-3 c = search needs
 
 returns-2 : tie.Need-returns-2
 returns-2 c =
-    let a = c .before .before .before .before .before .before .before .before .before .before .before .args in
-    settled-remembered (a .i) (a .generation) (a .kept) (a .noticed) (seenMeaning (a .worked)) (a .table .now) (a .tags .now) (a .numbers .now) _ (c .before .before .before .before .before .before .before .either .ensures) (c .before .before .before .before .before .before .if1 .left) _ _ (c .before .before .before .remember .ensures .0) (c .before .before .before .remember .ensures .1)
+    let m = c .before .before .before in
+    let b = m .before .before .before in
+    settled-remembered (b .before .either .ensures) (b .if1 .left) _ _ (m .remember .ensures .0) (m .remember .ensures .1)
 
 pub settle-spec : {M : Type 1} → statement M
 settle-spec =
