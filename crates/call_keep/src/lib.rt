@@ -4,6 +4,7 @@ ghost use mathlib.Core.Bool.{true, false};
 ghost use mathlib.Core.List.{List};
 ghost use Prim.Native.Nat.{ℕ, _<_};
 ghost use Rattle.circuit.specs.Sheet.{size, itemAt, isFigure};
+ghost use Rattle.circuit.specs.Table.{isStored};
 ghost use Rattle.circuit.specs.Machine as machine;
 ghost use Rattle.circuit.specs.Call as machine_call;
 ghost use Rattle.layout.specs.Opened.{sheetOf};
@@ -66,12 +67,12 @@ pub fn drop_figure(sheet: &[u8], index: &[u8], table: &mut [u8], item: u64) -> A
 
 // A figure that is not stored is looked up and stored.
 fn keep_new(sheet: &[u8], offsets: &[usize], table: &mut [u8], i: usize)
-    requires { ⌜ Lent (now sheet) (now offsets) (now table) ⌝ ∗ ⌜ i < size (sheetOf (now sheet)) ⌝ ∗ ⌜ isFigure (itemAt (sheetOf (now sheet)) i) ≡ true ⌝ }
+    requires { ⌜ Lent (now sheet) (now offsets) (now table) ⌝ ∗ ⌜ i < size (sheetOf (now sheet)) ⌝ ∗ ⌜ isFigure (itemAt (sheetOf (now sheet)) i) ≡ true ⌝ ∗ ⌜ isStored (decodeTable (now table) i) ≡ false ⌝ }
     ensures { λ _. ⌜ Left (now (sheet .entry)) (machine.storeResult i (machine.lookUp (sheetOf (now (sheet .entry))) (decodeTable (now (table .entry))) i)) (now (table .exit)) ⌝ }
 {
     let mut tags = [0u64; sheet::limits::ITEM_LIMIT];
     let mut numbers = [0i64; sheet::limits::ITEM_LIMIT];
-    let seen = looking::look_up(sheet, offsets, table, &mut tags, &mut numbers, 1, i);
+    let seen = looking::look_unstored(sheet, offsets, table, &mut tags, &mut numbers, 1, i);
     let value = seen.value;
     table::store_cell(table, i, Cell::Held(value, looking::notice_if(seen.flag)));
 }
