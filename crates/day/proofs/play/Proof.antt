@@ -1,4 +1,4 @@
--- `day::run::play` meets its contract. The invariant: the whole day is the lines so far and what follows from the offset on. The
+-- `day::play` meets its contract. The invariant: the whole day is the lines so far and what follows from the offset on. The
 -- measure is what is left of the log. Assumes nothing.
 use Prim.Native.Nat.{_-_}
 use mathlib.Core.Path.{sym, ap, _∙_}

@@ -1,4 +1,4 @@
--- `day::run::reading_line` meets its contract. Assumes nothing.
+-- `day::reading_line` meets its contract. Assumes nothing.
 use mathlib.Core.Path.{sym, ap, _∙_}
 use mir.Syntax.{w64}
 use mir.ValLaws.{toZ-ofZ}
