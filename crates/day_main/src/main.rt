@@ -13,8 +13,12 @@ const INDEX_ROOM: usize = 4 * ITEM_LIMIT;
 
 const TABLE_ROOM: usize = table::WIDTH * ITEM_LIMIT;
 
-// The most output of a day: 6 bytes for each byte of its log, and 13 more.
-const OUTPUT_ROOM: usize = 6 * FILE_LIMIT + 13;
+// The most output of a day: so many bytes for each byte of its log, and so many more.
+const TEXT_PER_BYTE: usize = 6;
+
+const TEXT_BESIDES: usize = 13;
+
+const OUTPUT_ROOM: usize = TEXT_PER_BYTE * FILE_LIMIT + TEXT_BESIDES;
 
 // The first bytes of a file, as many as there is room for. A file that does not open counts as empty.
 fn load(path: &[u8], bytes: &mut [u8]) -> usize
