@@ -10,6 +10,7 @@ use lib.ListN.{length, take, drop}
 use lib.Seq.{take-all, length-take-le}
 use Rattle.circuit.specs.Call.{bare}
 use Rattle.layout.specs.Index.{indexWidth}
+use Rattle.table.specs.Record.{width}
 use Rattle.office.specs.Office.{Given, openOn, keeping}
 use Rattle.day_meaning.specs.Lines.{Appended, lastLine, sheetWord}
 use Rattle.day_meaning.specs.Day.{playFrom, PlayedOn, Day, ended, dayBy, dayOn, itemCount, indexSize, tableSize, runDay, Ran}
@@ -62,30 +63,28 @@ module _ (l : List ℕ) (m n : ℕ) (e : m ≡ min n (length l)) where
   pub front-length : m ≡ length (take m l)
   front-length = sym (length-take-le m l (omega arith))
 
-  front-take : take m l ≡ take n l
-  front-take = go (leb n (length l)) refl
+  -- what is the same for every number from the length on is the same for both
+  front : (f : ℕ → List ℕ) → ((k : ℕ) → length l ≤ k → f k ≡ f (length l)) → f m ≡ f n
+  front f past = go (leb n (length l)) refl
     where
-      go : (b : Bool) → leb n (length l) ≡ b → take m l ≡ take n l
-      go true t = let le : n ≤ length l = leb-true n (length l) t in let same : m ≡ n = omega (arith, e) in ap (λ k. take k l) same
+      go : (b : Bool) → leb n (length l) ≡ b → f m ≡ f n
+      go true t = let le : n ≤ length l = leb-true n (length l) t in let same : m ≡ n = omega (arith, e) in ap f same
       go false t =
           let more : length l < n = leb-false n (length l) t in
-          take-all m l (omega (arith, e)) ∙ sym (take-all n l (omega arith))
+          past m (omega (arith, e)) ∙ sym (past n (omega arith))
+
+  front-take : take m l ≡ take n l
+  front-take = front (λ k. take k l) (λ k h. take-all k l h ∙ sym (take-all (length l) l (omega arith)))
 
   front-drop : drop m l ≡ drop n l
-  front-drop = go (leb n (length l)) refl
-    where
-      go : (b : Bool) → leb n (length l) ≡ b → drop m l ≡ drop n l
-      go true t = let le : n ≤ length l = leb-true n (length l) t in let same : m ≡ n = omega (arith, e) in ap (λ k. drop k l) same
-      go false t =
-          let more : length l < n = leb-false n (length l) t in
-          drop-past l m (omega (arith, e)) ∙ sym (drop-past l n (omega arith))
+  front-drop = front (λ k. drop k l) (λ k h. drop-past l k h ∙ sym (drop-past l (length l) (omega arith)))
 
-pub ran-whole : {k m n count : ℕ} {x₁ t₁ out out′ : List ℕ} (s d x t : List ℕ) → k ≡ itemCount s → m ≡ min (4 * k) (length x) → n ≡ min (10 * k) (length t)
+pub ran-whole : {k m n count : ℕ} {x₁ t₁ out out′ : List ℕ} (s d x t : List ℕ) → k ≡ itemCount s → m ≡ min (indexWidth * k) (length x) → n ≡ min (width * k) (length t)
     → Ran (dayOn s d (take m x) (take n t)) out count x₁ t₁ out′ → Ran (runDay s d x t) out count (x₁ ++ drop m x) (t₁ ++ drop n t) out′
-unfolding runDay indexWidth
+unfolding runDay
 ran-whole {k} {m} {n} {count} {x₁} {t₁} {out} {out′} s d x t items left right r =
-    let a : m ≡ min (indexSize s) (length x) = left ∙ ap (λ i. min (4 * i) (length x)) items in
-    let b : n ≡ min (tableSize s) (length t) = right ∙ ap (λ i. min (10 * i) (length t)) items in
+    let a : m ≡ min (indexSize s) (length x) = left ∙ ap (λ i. min (indexWidth * i) (length x)) items in
+    let b : n ≡ min (tableSize s) (length t) = right ∙ ap (λ i. min (width * i) (length t)) items in
     let inner : dayOn s d (take m x) (take n t) ≡ dayOn s d (take (indexSize s) x) (take (tableSize s) t) =
     ap (λ y. dayOn s d y (take n t)) (front-take x m (indexSize s) a) ∙ ap (λ y. dayOn s d (take (indexSize s) x) y) (front-take t n (tableSize s) b)
     in

@@ -12,6 +12,13 @@ use call_ask::Reading;
 use day_order::Order;
 use day_order::Ordered;
 use field::Cut;
+use sheet::limits;
+
+// The number of a fault of the day log.
+const FAULT: u64 = 16;
+
+// Where a sheet has its item count.
+const COUNT_AT: usize = limits::FIELD_HEADER + limits::COUNT_AT;
 
 // The line of a call that gives no value.
 fn answer_line(out: &mut [u8], at: usize, number: u64) -> usize
@@ -19,7 +26,7 @@ fn answer_line(out: &mut [u8], at: usize, number: u64) -> usize
     ensures { λ r. ⌜ Appended (answerLine number) (now (out .entry)) at r (now (out .exit)) ⌝ }
 {
     if number == 0 {
-        return day_line::append(out, at, b"OK\n");
+        return day_line::append(out, at, &day_line::OK_LINE);
     }
     day_line::no_line(out, at, number)
 }
@@ -40,7 +47,7 @@ fn fault_line(out: &mut [u8], at: usize, offset: usize) -> usize
     requires { ⌜ at ≤ length (now out) ⌝ }
     ensures { λ r. ⌜ Appended (faultLine offset) (now (out .entry)) at r (now (out .exit)) ⌝ }
 {
-    day_line::last_line(out, at, b"DAY ", 16, offset as u64)
+    day_line::last_line(out, at, &day_line::DAY, FAULT, offset as u64)
 }
 
 // Makes a call, and appends its line.
@@ -111,7 +118,7 @@ fn day_on(sheet: &[u8], log: &[u8], index: &mut [u8], table: &mut [u8], out: &mu
 {
     let a = call_open::open_bare(sheet, index, table);
     if a.number != 0 {
-        return day_line::last_line(out, 0, b"SHEET ", a.number, a.offset);
+        return day_line::last_line(out, 0, &day_line::SHEET, a.number, a.offset);
     }
     play(sheet, index, table, log, out)
 }
@@ -119,10 +126,10 @@ fn day_on(sheet: &[u8], log: &[u8], index: &mut [u8], table: &mut [u8], out: &mu
 fn item_count(sheet: &[u8]) -> usize
     ensures { λ r. ⌜ (r ≡ itemCount (now (sheet .entry))) × (r ≤ 65535) ⌝ }
 {
-    if sheet.len() < 7 {
+    if sheet.len() < limits::HEAD_NEXT {
         return 0;
     }
-    field::u16_at(sheet, 5)
+    field::u16_at(sheet, COUNT_AT)
 }
 
 // The day program: opens the sheet bare with the fronts of the index and the table, makes the day log's calls, and prints a
@@ -138,6 +145,6 @@ pub fn run_day(
 {
     let n = item_count(sheet);
     let x = day_line::lesser(4 * n, index.len());
-    let t = day_line::lesser(10 * n, table.len());
+    let t = day_line::lesser(table::WIDTH * n, table.len());
     day_on(sheet, log, &mut index[..x], &mut table[..t], out)
 }

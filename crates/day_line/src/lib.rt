@@ -7,6 +7,29 @@ ghost use Rattle.printer.specs.Printing.{textOf};
 ghost use Rattle.value.specs.Meaning.{partsOf};
 ghost use Rattle.day_meaning.specs.Lines.{Appended, noLine, askLine, lastLine};
 
+// The words of the lines, each with the space after it, and what else they have.
+const ASK: [u8; 4] = *b"ASK ";
+
+const NO: [u8; 3] = *b"NO ";
+
+pub const SHEET: [u8; 6] = *b"SHEET ";
+
+pub const DAY: [u8; 4] = *b"DAY ";
+
+pub const OK_LINE: [u8; 3] = *b"OK\n";
+
+const SPACE: [u8; 1] = *b" ";
+
+const LINE_END: [u8; 1] = *b"\n";
+
+// The most digits of a number, and the place of the last of them.
+const MOST_DIGITS: usize = 20;
+
+const LAST_DIGIT: usize = MOST_DIGITS - 1;
+
+// The scratch bytes that the printer asks for.
+const SCRATCH: usize = 20;
+
 pub fn lesser(a: usize, b: usize) -> usize
     ensures { λ r. ⌜ r ≡ min a b ⌝ }
 {
@@ -26,14 +49,14 @@ pub fn append(out: &mut [u8], at: usize, bytes: &[u8]) -> usize
     at + n
 }
 
-// A number in decimal. The digits are stored from the last to the first; no number has more than 20.
+// A number in decimal. The digits are stored from the last to the first.
 fn append_number(out: &mut [u8], at: usize, m: u64) -> usize
     requires { ⌜ at ≤ length (now out) ⌝ }
     ensures { λ r. ⌜ Appended (digits m) (now (out .entry)) at r (now (out .exit)) ⌝ }
 {
-    let mut digits = [0u8; 20];
+    let mut digits = [0u8; MOST_DIGITS];
     let mut rest = m;
-    let mut place: usize = 19;
+    let mut place = LAST_DIGIT;
     while 10 <= rest {
         digits[place] = (48 + rest % 10) as u8;
         rest = rest / 10;
@@ -48,7 +71,7 @@ fn append_value(out: &mut [u8], at: usize, kind: u64, number: i64) -> usize
     requires { ⌜ at ≤ length (now out) ⌝ }
     ensures { λ r. ⌜ Appended (textOf (partsOf kind number)) (now (out .entry)) at r (now (out .exit)) ⌝ }
 {
-    let mut scratch = [0u8; 20];
+    let mut scratch = [0u8; SCRATCH];
     let part = printer::print(kind, number, &mut scratch);
     append(out, at, part)
 }
@@ -58,9 +81,9 @@ pub fn no_line(out: &mut [u8], at: usize, number: u64) -> usize
     requires { ⌜ at ≤ length (now out) ⌝ }
     ensures { λ r. ⌜ Appended (noLine number) (now (out .entry)) at r (now (out .exit)) ⌝ }
 {
-    let a = append(out, at, b"NO ");
+    let a = append(out, at, &NO);
     let b = append_number(out, a, number);
-    append(out, b, b"\n")
+    append(out, b, &LINE_END)
 }
 
 // `ASK item value`
@@ -68,11 +91,11 @@ pub fn ask_line(out: &mut [u8], at: usize, item: u64, kind: u64, number: i64) ->
     requires { ⌜ at ≤ length (now out) ⌝ }
     ensures { λ r. ⌜ Appended (askLine item (textOf (partsOf kind number))) (now (out .entry)) at r (now (out .exit)) ⌝ }
 {
-    let a = append(out, at, b"ASK ");
+    let a = append(out, at, &ASK);
     let b = append_number(out, a, item);
-    let c = append(out, b, b" ");
+    let c = append(out, b, &SPACE);
     let d = append_value(out, c, kind, number);
-    append(out, d, b"\n")
+    append(out, d, &LINE_END)
 }
 
 // `SHEET number offset` or `DAY number offset`, by the word.
@@ -82,7 +105,7 @@ pub fn last_line(out: &mut [u8], at: usize, word: &[u8], number: u64, offset: u6
 {
     let a = append(out, at, word);
     let b = append_number(out, a, number);
-    let c = append(out, b, b" ");
+    let c = append(out, b, &SPACE);
     let d = append_number(out, c, offset);
-    append(out, d, b"\n")
+    append(out, d, &LINE_END)
 }

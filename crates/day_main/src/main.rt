@@ -1,6 +1,24 @@
 // The day program: reads a sheet and a day log from the files sheet.bin and day.bin, and prints the day's lines.
 ghost use Rattle.io.specs.Counts.{Counts};
+ghost use Rattle.day_meaning.specs.Day.{runDay};
+ghost use Rattle.day_meaning.specs.Room.{Lent, Shown};
 use libc::STDOUT_FILENO;
+use sheet::limits::ITEM_LIMIT;
+
+// How many bytes of a file are taken at most.
+const FILE_LIMIT: usize = 65_536;
+
+// Index and table of the largest sheet.
+const INDEX_ROOM: usize = 4 * ITEM_LIMIT;
+
+const TABLE_ROOM: usize = table::WIDTH * ITEM_LIMIT;
+
+// The most output of a day: so many bytes for each byte of its log, and so many more.
+const TEXT_PER_BYTE: usize = 6;
+
+const TEXT_BESIDES: usize = 13;
+
+const OUTPUT_ROOM: usize = TEXT_PER_BYTE * FILE_LIMIT + TEXT_BESIDES;
 
 // The first bytes of a file, as many as there is room for. A file that does not open counts as empty.
 fn load(path: &[u8], bytes: &mut [u8]) -> usize
@@ -15,19 +33,21 @@ fn load(path: &[u8], bytes: &mut [u8]) -> usize
     n
 }
 
-// Runs the day with lent bytes, and writes its lines to standard output.
-fn show_day(sheet: &[u8], log: &[u8], index: &mut [u8], table: &mut [u8], out: &mut [u8]) {
+// Runs the day with lent bytes, which are enough for its whole text, and writes its lines to standard output.
+fn show_day(sheet: &[u8], log: &[u8], index: &mut [u8], table: &mut [u8], out: &mut [u8])
+    requires { ⌜ Lent (now sheet) (now log) (now index) (now table) (now out) ⌝ }
+    ensures { λ r. ⌜ Shown (runDay (now (sheet .entry)) (now (log .entry)) (now (index .entry)) (now (table .entry))) (now (out .entry)) (now (index .exit)) (now (table .exit)) (now (out .exit)) ⌝ }
+{
     let n = day::run_day(sheet, log, index, table, out);
     io::write_all(STDOUT_FILENO, &out[..n]);
 }
 
-// The output has room for every day: 6 bytes for each byte of the log, and 13 more. A sheet that is refused has one line.
 fn main() {
-    let mut sheet = [0u8; 65_536];
-    let mut log = [0u8; 65_536];
-    let mut index = [0u8; 4_096];
-    let mut table = [0u8; 10_240];
-    let mut out = [0u8; 393_229];
+    let mut sheet = [0u8; FILE_LIMIT];
+    let mut log = [0u8; FILE_LIMIT];
+    let mut index = [0u8; INDEX_ROOM];
+    let mut table = [0u8; TABLE_ROOM];
+    let mut out = [0u8; OUTPUT_ROOM];
     let s = load(b"sheet.bin", &mut sheet);
     let d = load(b"day.bin", &mut log);
     show_day(&sheet[..s], &log[..d], &mut index, &mut table, &mut out);

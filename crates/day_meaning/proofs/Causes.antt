@@ -19,9 +19,9 @@ use Rattle.field.specs.Field.{cutAt}
 use Rattle.field.specs.declared.Cut.{Cut}
 use Rattle.field.specs.declared.Cut.the-variants.{Field, Short, Absent}
 use Rattle.layout.specs.Read.{contentAt}
-use Rattle.day_meaning.specs.Orders.{postTag, askTag, keepTag, dropTag, stepTag, itemIn, kindIn, numberIn, postIn, callIn, orderOf}
+use Rattle.day_meaning.specs.Orders.{postTag, askTag, keepTag, dropTag, stepTag, postLength, callLength, itemIn, kindIn, numberIn, postIn, callIn, orderOf}
 use Rattle.day_meaning.specs.Day.{played, faultLine, playOrder, playCut, playFrom}
-use Rattle.day_meaning.specs.Causes.{FieldWrong, tagUnknown, postLength, callLength, kindOther, nullNotZero, DayFault, short, wrong, DaySound, ends, orders}
+use Rattle.day_meaning.specs.Causes.{FieldWrong, tagUnknown, postLengthOther, callLengthOther, kindOther, nullNotZero, DayFault, short, wrong, DaySound, ends, orders}
 
 -- an order, or none where P holds
 data Orders (P : Type 0) : Option Call → Type 0 where
@@ -31,17 +31,17 @@ data Orders (P : Type 0) : Option Call → Type 0 where
 module _ (tag : ℕ) (content : List ℕ) where
   post-orders : tag ≡ postTag → Orders (FieldWrong tag content) (postIn content)
   unfolding postIn
-  post-orders t = go (eqb (length content) 11) (eqb (kindIn content) 1) (eqb (kindIn content) 3) (sameNumber (numberIn content) (pos 0)) refl refl refl refl
+  post-orders t = go (eqb (length content) postLength) (eqb (kindIn content) 1) (eqb (kindIn content) 3) (sameNumber (numberIn content) (pos 0)) refl refl refl refl
     where
-      go : (l a b z : Bool) → eqb (length content) 11 ≡ l → eqb (kindIn content) 1 ≡ a → eqb (kindIn content) 3 ≡ b → sameNumber (numberIn content) (pos 0) ≡ z
+      go : (l a b z : Bool) → eqb (length content) postLength ≡ l → eqb (kindIn content) 1 ≡ a → eqb (kindIn content) 3 ≡ b → sameNumber (numberIn content) (pos 0) ≡ z
           → Orders (FieldWrong tag content) (cond (l && cond a z b) (some (post (itemIn content) (kindIn content) (numberIn content))) none)
-      go false a b z el ea eb ez = no-call (postLength t (eqb-false (length content) 11 el))
+      go false a b z el ea eb ez = no-call (postLengthOther t (eqb-false (length content) postLength el))
       go true true b true el ea eb ez = a-call _ no
         where
           no : FieldWrong tag content → ⊥
           no (tagUnknown p q r s u) = p t
-          no (postLength p q) = q (eqb-true (length content) 11 el)
-          no (callLength p q) = p t
+          no (postLengthOther p q) = q (eqb-true (length content) postLength el)
+          no (callLengthOther p q) = p t
           no (kindOther p q r) = q (eqb-true (kindIn content) 1 ea)
           no (nullNotZero p q r) = r (sameNumber-true (numberIn content) (pos 0) ez)
       go true true b false el ea eb ez = no-call (nullNotZero t (eqb-true (kindIn content) 1 ea) (not-zero (numberIn content) ez))
@@ -49,8 +49,8 @@ module _ (tag : ℕ) (content : List ℕ) where
         where
           no : FieldWrong tag content → ⊥
           no (tagUnknown p q r s u) = p t
-          no (postLength p q) = q (eqb-true (length content) 11 el)
-          no (callLength p q) = p t
+          no (postLengthOther p q) = q (eqb-true (length content) postLength el)
+          no (callLengthOther p q) = p t
           no (kindOther p q r) = r (eqb-true (kindIn content) 3 eb)
           no (nullNotZero p q r) = eqb-false (kindIn content) 1 ea q
       go true false false z el ea eb ez = no-call (kindOther t (eqb-false (kindIn content) 1 ea) (eqb-false (kindIn content) 3 eb))
@@ -58,16 +58,16 @@ module _ (tag : ℕ) (content : List ℕ) where
   call-orders : (call : ℕ → Call) → ¬ (tag ≡ postTag) → (¬ (tag ≡ askTag) → ¬ (tag ≡ keepTag) → ¬ (tag ≡ dropTag) → ¬ (tag ≡ stepTag) → ⊥)
       → Orders (FieldWrong tag content) (callIn call content)
   unfolding callIn
-  call-orders call t known = go (eqb (length content) 2) refl
+  call-orders call t known = go (eqb (length content) callLength) refl
     where
-      go : (l : Bool) → eqb (length content) 2 ≡ l → Orders (FieldWrong tag content) (cond l (some (call (itemIn content))) none)
-      go false el = no-call (callLength t (eqb-false (length content) 2 el))
+      go : (l : Bool) → eqb (length content) callLength ≡ l → Orders (FieldWrong tag content) (cond l (some (call (itemIn content))) none)
+      go false el = no-call (callLengthOther t (eqb-false (length content) callLength el))
       go true el = a-call _ no
         where
           no : FieldWrong tag content → ⊥
           no (tagUnknown p q r s u) = known q r s u
-          no (postLength p q) = t p
-          no (callLength p q) = q (eqb-true (length content) 2 el)
+          no (postLengthOther p q) = t p
+          no (callLengthOther p q) = q (eqb-true (length content) callLength el)
           no (kindOther p q r) = t p
           no (nullNotZero p q r) = t p
 

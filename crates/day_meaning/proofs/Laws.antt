@@ -15,11 +15,11 @@ use Rattle.circuit.specs.Call.{Call}
 use Rattle.printer.specs.Printing.{textOf, printed}
 use Rattle.value.specs.Meaning.{partsOf}
 use Rattle.value.proofs.PartsLaws.{parts-own}
-use Rattle.field.specs.Field.{cutAt, le16}
+use Rattle.field.specs.Field.{cutAt, le16, le16At}
 use Rattle.field.specs.declared.Cut.{Cut}
 use Rattle.field.specs.declared.Cut.the-variants.{Field, Short, Absent}
 use Rattle.field.proofs.Cutting.{FieldAt, field-iff, absent-iff}
-use Rattle.layout.specs.Read.{Placed, opens, readSheet, contentAt, headContent, headNext}
+use Rattle.layout.specs.Read.{Placed, opens, readSheet, contentAt, headContent, headNext, countIn}
 use Rattle.layout.specs.Layout.{headTag}
 use Rattle.layout.proofs.Scan.{opened, opened-length}
 use Rattle.office.specs.Office.{callOn, keeping}
@@ -56,14 +56,19 @@ enough-fields (suc f) (suc g) s x d t at p q = cut (λ u next. enough-fields f g
     cut ih Short e = play-short s x d t at f e ∙ sym (play-short s x d t at g e)
     cut ih (Field tag start len next) e = order ih tag start len next e (orderOf tag (contentAt d start len)) refl
 
+-- where the item count stands
+pub count-at : (s : List ℕ) → countIn (headContent s) ≡ le16At s 5
+count-at s = ap₂ le16 (at 2 (omega arith)) (at 3 (omega arith))
+  where
+    at : (k : ℕ) → k < 4 → getD (headContent s) k 0 ≡ getD s (3 + k) 0
+    at k h = getD-take 4 (ListN.drop 3 s) k 0 h ∙ getD-drop 3 s k 0
+
 -- the item count of a sheet that opens
 pub item-count : (s : List ℕ) (edition : ℕ) (ps : List Placed) → readSheet s ≡ opens edition ps → itemCount s ≡ length ps
 unfolding itemCount
 item-count s edition ps e =
-    let o = opened s edition ps e in
-    let w : FieldAt s 0 headTag 3 4 headNext = field-iff s 0 headTag 3 4 headNext .0 (o .head) in
-    let at : (k : ℕ) → k < 4 → getD (headContent s) k 0 ≡ getD s (3 + k) 0 = λ k h. getD-take 4 (ListN.drop 3 s) k 0 h ∙ getD-drop 3 s k 0 in
-    rw (le-ltb (length s) 7 (w .next-in)) (ap₂ le16 (sym (at 2 (omega arith))) (sym (at 3 (omega arith))) ∙ sym (opened-length s edition ps e))
+    let w : FieldAt s 0 headTag 3 4 headNext = field-iff s 0 headTag 3 4 headNext .0 (opened s edition ps e .head) in
+    rw (le-ltb (length s) headNext (w .next-in)) (sym (opened-length s edition ps e))
 
 -- what is printed of the kind and the number of a value is the value's text
 pub value-text : (v : Value) → wellFormed v ≡ true → textOf (partsOf (kindOf v) (numberOf v)) ≡ printed v

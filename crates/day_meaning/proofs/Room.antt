@@ -1,36 +1,44 @@
--- How long a day's text is: at most 6 bytes for each byte of the log, and 13 more. Assumes nothing.
+-- How long a day's text is, and that what the program lends is enough for every day. Assumes nothing.
 use Prim.Native.Nat.{ℕ, zero, suc, _+_, _-_, _*_, _≤_, _<_}
 use mathlib.Core.Path.{_≡_, refl, sym, ap, _∙_}
 use mathlib.Core.Bool.{Bool, true, false, cond, _&&_}
 use mathlib.Core.List.{List, [], _∷_, _++_}
 use mathlib.Core.Option.{Option, none, some}
 use native.Mathlib.Omega.{arith}
-use borrow.Author.Tests.{eqb-true}
+use borrow.Author.Tests.{eqb-true, eq-eqb}
 use lib.Dec.{eqb}
-use lib.ListN.{length, getD, length-append, length-take}
+use lib.ListN.{length, take, getD, length-append, length-take}
 use lib.ListN
-use lib.Seq.{getD-take, getD-drop}
-use Rattle.circuit.specs.Call.{bare, Call, post, keep, drop, step, ask}
+use lib.Seq.{getD-take, getD-drop, take-all, length-take-le}
+use Rattle.circuit.specs.Call.{bare}
+use Rattle.circuit.specs.Call.{Call, post, keep, drop, step, ask}
 use Rattle.circuit.specs.Calls.{Test, test, firstCause, tests, Outcome, effect}
 use Rattle.field.specs.Field.{cutAt, Bytes}
 use Rattle.field.specs.declared.Cut.{Cut}
 use Rattle.field.specs.declared.Cut.the-variants.{Field, Short, Absent}
 use Rattle.field.proofs.Cutting.{FieldAt, field-iff, le16-small}
-use Rattle.layout.specs.Read.{Placed, opens, readSheet, contentAt}
+use Rattle.layout.specs.Index.{indexWidth}
+use Rattle.layout.specs.Read.{Placed, SheetRead, opens, refused, readSheet, contentAt}
 use Rattle.layout.specs.Opened.{sheetRead}
+use Rattle.layout.proofs.Causes.{refused-number, refused-offset}
+use Rattle.layout.proofs.Scan.{opened-count}
+use Rattle.sheet.specs.Check.{mostItems}
 use Rattle.table.specs.Bytes.{decodeTable}
-use Rattle.office.specs.Office.{Given, openOn, callOn, callTests, unlessRefused, effectOn, keeping}
+use Rattle.table.specs.Record.{width}
+use Rattle.office.specs.Office.{Given, lengthsWrong, openRead, openOn, callOn, callTests, unlessRefused, effectOn, keeping}
 use Rattle.office.proofs.Agreeing.{opening-opens}
 use Rattle.printer.specs.Decimal.{digits}
-use Rattle.printer.specs.Printing.{textOf}
+use Rattle.printer.specs.Printing.{textOf, leastScratch}
 use Rattle.value.specs.Meaning.{partsOf}
 use Rattle.printer.proofs.Digits.{length-at-most}
 use Rattle.printer.proofs.Meaning.{part-small}
-use Rattle.day_meaning.specs.Lines.{noLine, askLine, space, lineEnd}
-use Rattle.day_meaning.specs.Orders.{itemIn, kindIn, numberIn, kindAllowed, postIn, callIn, orderOf}
-use Rattle.day_meaning.specs.Day.{answerLine, readingLine, lineOf, faultLine, playFrom, dayOn}
+use Rattle.day_meaning.specs.Lines.{noLine, askLine, lastLine, sheetWord, dayWord, space, lineEnd}
+use Rattle.day_meaning.specs.Orders.{postTag, askTag, keepTag, dropTag, stepTag, postLength, callLength, itemIn, kindIn, numberIn, kindAllowed, postIn, callIn, orderOf}
+use Rattle.day_meaning.specs.Day.{answerLine, readingLine, lineOf, faultNumber, faultLine, playFrom, dayBy, dayOn, itemCount, indexSize, tableSize, runDay, Ran}
+use Rattle.day_meaning.specs.Room.{fileLimit, textPerByte, textBesides, outputRoom, Lent, Shown}
 use Rattle.day_meaning.proofs.Storing.{part-whole}
 use Rattle.day_meaning.proofs.Playing.{play-absent, play-short, play-fault, play-call}
+use Rattle.day_meaning.proofs.Laws.{item-count}
 
 abbrev itemOf : Call → ℕ
 itemOf (post i kind z) = i
@@ -46,22 +54,22 @@ pub record Ordering (content : List ℕ) (c : Call) : Type 0 where
 
 call-ordering : (call : ℕ → Call) (content : List ℕ) (c : Call) → ((i : ℕ) → itemOf (call i) ≡ i) → callIn call content ≡ some c → Ordering content c
 unfolding callIn
-call-ordering call content c named = go (eqb (length content) 2) refl
+call-ordering call content c named = go (eqb (length content) callLength) refl
   where
-    go : (b : Bool) → eqb (length content) 2 ≡ b → cond b (some (call (itemIn content))) none ≡ some c → Ordering content c
+    go : (b : Bool) → eqb (length content) callLength ≡ b → cond b (some (call (itemIn content))) none ≡ some c → Ordering content c
     go true e h =
-        let two : length content ≡ 2 = eqb-true (length content) 2 e in
+        let two : length content ≡ callLength = eqb-true (length content) callLength e in
         let same : call (itemIn content) ≡ c = cc in
         record { two = omega arith; item = ap itemOf (sym same) ∙ named (itemIn content) }
     go false e h = let z : _≡_ {A = ℕ} 0 1 = cc in absurd (omega arith)
 
 post-ordering : (content : List ℕ) (c : Call) → postIn content ≡ some c → Ordering content c
 unfolding postIn
-post-ordering content c = go (eqb (length content) 11) (kindAllowed (kindIn content) (numberIn content)) refl
+post-ordering content c = go (eqb (length content) postLength) (kindAllowed (kindIn content) (numberIn content)) refl
   where
-    go : (b k : Bool) → eqb (length content) 11 ≡ b → cond (b && k) (some (post (itemIn content) (kindIn content) (numberIn content))) none ≡ some c → Ordering content c
+    go : (b k : Bool) → eqb (length content) postLength ≡ b → cond (b && k) (some (post (itemIn content) (kindIn content) (numberIn content))) none ≡ some c → Ordering content c
     go true true e h =
-        let eleven : length content ≡ 11 = eqb-true (length content) 11 e in
+        let eleven : length content ≡ postLength = eqb-true (length content) postLength e in
         let same : post (itemIn content) (kindIn content) (numberIn content) ≡ c = cc in
         record { two = omega arith; item = ap itemOf (sym same) }
     go true false e h = let z : _≡_ {A = ℕ} 0 1 = cc in absurd (omega arith)
@@ -70,7 +78,7 @@ post-ordering content c = go (eqb (length content) 11) (kindAllowed (kindIn cont
 
 ordering : (tag : ℕ) (content : List ℕ) (c : Call) → orderOf tag content ≡ some c → Ordering content c
 unfolding orderOf
-ordering tag content c = a (eqb tag 16) (eqb tag 17) (eqb tag 18) (eqb tag 19) (eqb tag 20)
+ordering tag content c = a (eqb tag postTag) (eqb tag askTag) (eqb tag keepTag) (eqb tag dropTag) (eqb tag stepTag)
   where
     e : (b : Bool) → cond b (callIn step content) none ≡ some c → Ordering content c
     e true h = call-ordering step content c (λ i. refl) h
@@ -124,7 +132,7 @@ number-at-most s x t c edition ps r = rw r (given (firstCause (callTests (sheetR
 
 -- the lines
 text-small : (kind : ℕ) (z : _) → length (textOf (partsOf kind z)) ≤ 19
-text-small kind z = rw (sym (part-whole kind 20 z z refl refl)) (part-small kind z 20)
+text-small kind z = rw (sym (part-whole kind leastScratch z z refl refl)) (part-small kind z leastScratch)
 
 no-line-short : (n : ℕ) → n ≤ 14 → length (noLine n) ≤ 30
 no-line-short n h = rw (length-append (digits n) lineEnd) (omega (arith, length-at-most 1 n (omega arith)))
@@ -148,10 +156,18 @@ line-short (drop i) g h k = answer-short (g .number) h
 line-short (step i) g h k = answer-short (g .number) h
 line-short (ask i) g h k = reading-short i (g .number) _ k (text-small (g .kind) (g .value)) h
 
-fault-short : (at : ℕ) → at ≤ 65536 → length (faultLine at) ≤ 13
-fault-short at h =
-    rw (length-append (digits 16) (space ++ (digits at ++ lineEnd)), length-append (digits at) lineEnd)
-    (omega (arith, length-at-most 1 16 (omega arith), length-at-most 4 at (omega arith)))
+-- a last line: its word, a number of at most two digits and an offset of at most five
+last-short : (word : List ℕ) (n at : ℕ) → n ≤ 16 → at ≤ fileLimit → length (lastLine word n at) ≤ length word + 9
+last-short word n at k h =
+    rw (
+      length-append word (digits n ++ (space ++ (digits at ++ lineEnd))),
+      length-append (digits n) (space ++ (digits at ++ lineEnd)),
+      length-append (digits at) lineEnd,
+    )
+    (omega (arith, length-at-most 1 n (omega arith), length-at-most 4 at (omega arith)))
+
+fault-short : (at : ℕ) → at ≤ fileLimit → length (faultLine at) ≤ textBesides
+fault-short at h = last-short dayWord faultNumber at (omega arith) h
 
 -- the item that a field names
 item-small : (d content : List ℕ) (start len : ℕ) (c : Call) → Bytes d → content ≡ contentAt d start len → Ordering content c → itemOf c < 65536
@@ -163,12 +179,12 @@ item-small d content start len c b e o =
     in
     rw (o .item, e) (le16-small (getD (contentAt d start len) 0 0) (getD (contentAt d start len) 1 0) (at 0 (omega arith)) (at 1 (omega arith)))
 
-module _ (s x d : List ℕ) (edition : ℕ) (ps : List Placed) (r : readSheet s ≡ opens edition ps) (b : Bytes d) (n : length d ≤ 65536) where
+module _ (s x d : List ℕ) (edition : ℕ) (ps : List Placed) (r : readSheet s ≡ opens edition ps) (b : Bytes d) (n : length d ≤ fileLimit) where
   abbrev Room : ℕ → List ℕ → ℕ → Type 0
-  Room f t at = length (playFrom f s x d at t .text) ≤ 6 * (length d - at) + 13
+  Room f t at = length (playFrom f s x d at t .text) ≤ textPerByte * (length d - at) + textBesides
 
   call-room : (f : ℕ) (t : List ℕ) (at tag start len next : ℕ) (c : Call) → FieldAt d at tag start len next → orderOf tag (contentAt d start len) ≡ some c
-      → Room f (callOn s (keeping x t) c .after .table) next → length (lineOf c (callOn s (keeping x t) c) ++ playFrom f s x d next (callOn s (keeping x t) c .after .table) .text) ≤ 6 * (length d - at) + 13
+      → Room f (callOn s (keeping x t) c .after .table) next → length (lineOf c (callOn s (keeping x t) c) ++ playFrom f s x d next (callOn s (keeping x t) c .after .table) .text) ≤ textPerByte * (length d - at) + textBesides
   call-room f t at tag start len next c w e ih =
       let o = ordering tag (contentAt d start len) c e in
       let within : length (contentAt d start len) ≤ len = omega (arith, length-take len (ListN.drop start d)) in
@@ -197,10 +213,62 @@ module _ (s x d : List ℕ) (edition : ℕ) (ps : List Placed) (r : readSheet s 
       cut ih (Field tag start len next) e = order ih tag start len next e (orderOf tag (contentAt d start len)) refl
 
 -- the text of a day whose sheet opens
-pub day-room : (s d x t : List ℕ) → openOn bare s (keeping x t) .number ≡ 0 → Bytes d → length d ≤ 65536 → length (dayOn s d x t .text) ≤ 6 * length d + 13
+pub day-room : (s d x t : List ℕ) → openOn bare s (keeping x t) .number ≡ 0 → Bytes d → length d ≤ fileLimit
+    → length (dayOn s d x t .text) ≤ textPerByte * length d + textBesides
 unfolding dayOn
 day-room s d x t h b n =
     let o = opening-opens s (keeping x t) bare h in
     let whole = room s (openOn bare s (keeping x t) .after .index) d (o .edition) (o .placed) (o .reads) b n (suc (length d)) (openOn bare s (keeping x t) .after .table) 0 (omega arith) in
     let all : length d - 0 ≡ length d = omega arith in
     rw h (rw all at whole)
+
+-- the number and the offset of an opening
+opening-small : (s x t : List ℕ) → (openOn bare s (keeping x t) .number ≤ 8) × (openOn bare s (keeping x t) .offset ≤ length s)
+unfolding openOn firstCause
+opening-small s x t = go (readSheet s) refl
+  where
+    lengths : (b : Bool) (g : Given) → g .number ≡ 0 → g .offset ≡ 0
+        → (unlessRefused (firstCause (test 8 b ∷ [])) (keeping x t) g .number ≤ 8) × (unlessRefused (firstCause (test 8 b ∷ [])) (keeping x t) g .offset ≤ length s)
+    lengths true g n o = (omega arith, omega arith)
+    lengths false g n o = (omega arith, omega arith)
+
+    go : (r : SheetRead) → readSheet s ≡ r → (openRead bare r (keeping x t) .number ≤ 8) × (openRead bare r (keeping x t) .offset ≤ length s)
+    go (refused k at) e = (omega (arith, refused-number s k at e), refused-offset s k at e)
+    go (opens edition ps) e = lengths (lengthsWrong ps x t) _ refl refl
+
+-- the text of any day
+text-room : (s d x t : List ℕ) → Bytes d → length s ≤ fileLimit → length d ≤ fileLimit → length (dayOn s d x t .text) ≤ outputRoom
+unfolding dayOn
+text-room s d x t b m n = go (openOn bare s (keeping x t) .number) refl
+  where
+    go : (k : ℕ) → openOn bare s (keeping x t) .number ≡ k → length (dayBy k s d (openOn bare s (keeping x t)) .text) ≤ outputRoom
+    go zero e = omega (arith, rw e at (day-room s d x t e b n))
+    go (suc k) e =
+        let o = opening-small s x t in
+        omega (arith, last-short sheetWord (suc k) (openOn bare s (keeping x t) .offset) (omega arith) (omega arith))
+
+-- What the program lends is enough: the whole text of the day is in the output.
+pub day-shown : {s d x t out x′ t′ out′ : List ℕ} {count : ℕ} → Lent s d x t out → Bytes d → Ran (runDay s d x t) out count x′ t′ out′
+    → Shown (runDay s d x t) out x′ t′ out′ × (count ≡ length (runDay s d x t .text))
+day-shown {s} {d} {x} {t} {out} l b r =
+    let fits : length (runDay s d x t .text) ≤ length out =
+    unfold runDay in omega (arith, l .output-room, text-room s d (take (indexSize s) x) (take (tableSize s) t) b (l .sheet-fits) (l .log-fits))
+    in (
+      record {
+        output-is = r .output-is ∙ ap (λ y. y ++ ListN.drop (length (runDay s d x t .text)) out) (take-all (length out) (runDay s d x t .text) fits);
+        index-is = r .index-is;
+        table-is = r .table-is;
+      },
+      omega (arith, r .count-is),
+    )
+
+-- and no sheet is turned back for want of index or table
+pub day-opens : {s d x t out : List ℕ} {edition : ℕ} {ps : List Placed} → Lent s d x t out → readSheet s ≡ opens edition ps
+    → openOn bare s (keeping (take (indexSize s) x) (take (tableSize s) t)) .number ≡ 0
+unfolding openOn firstCause mostItems indexWidth
+day-opens {s} {d} {x} {t} {out} {edition} {ps} l e =
+    let n : itemCount s ≡ length ps = item-count s edition ps e in
+    let most = opened-count s edition ps e in
+    let a : length (take (indexSize s) x) ≡ indexWidth * length ps = length-take-le (indexSize s) x (omega (arith, l .index-room)) ∙ ap (λ k. indexWidth * k) n in
+    let b : length (take (tableSize s) t) ≡ width * length ps = length-take-le (tableSize s) t (omega (arith, l .table-room)) ∙ ap (λ k. width * k) n in
+    rw (e, eq-eqb (length (take (indexSize s) x)) (indexWidth * length ps) a, eq-eqb (length (take (tableSize s) t)) (width * length ps) b)

@@ -14,7 +14,7 @@ use lib.ListN.{length, take, drop, set, getD, length-set, length-append, length-
 use lib.Seq.{sets, length-sets, set-out, take-suc, take-all, length-take-le, drop-cons, drop-set-lt, getD-set-same}
 use Rattle.circuit.specs.Value.{Value}
 use Rattle.printer.specs.Decimal.{digit, digits}
-use Rattle.printer.specs.Printing.{textOf, partOf, scratchShort}
+use Rattle.printer.specs.Printing.{textOf, partOf, leastScratch, scratchShort}
 use Rattle.value.specs.Meaning.{partsOf}
 use Rattle.circuit.specs.Calls.{test, firstCause, isNone}
 use Rattle.printer.proofs.Digits.{digits-small, digits-more}
@@ -105,20 +105,24 @@ appended-count p = omega (arith, p .place)
 
 -- ---- the digits of a number, stored from the last to the first
 
+-- the most digits of a number of 64 bits
+abbrev pub mostDigits : ℕ
+mostDigits = 20
+
 -- the digits of m are those of rest and then the bytes after the place, where the next digit goes
 pub record Backward (m : ℕ) (bytes : List ℕ) (rest place : ℕ) : Type 0 where
-  pub size : length bytes ≡ 20
-  pub room : place < 20
+  pub size : length bytes ≡ mostDigits
+  pub room : place < mostDigits
   pub small : rest < 10 ^ suc place
   pub text : digits m ≡ digits rest ++ drop (suc place) bytes
 
-pub backward-start : (m : ℕ) (bytes : List ℕ) → length bytes ≡ 20 → m < 2 ^ 64 → Backward m bytes m 19
+pub backward-start : (m : ℕ) (bytes : List ℕ) → length bytes ≡ mostDigits → m < 2 ^ 64 → Backward m bytes m (mostDigits - 1)
 backward-start m bytes e h =
     record {
       size = e;
       room = omega arith;
       small = omega arith;
-      text = sym (ap (λ r. digits m ++ r) (take-past bytes 20 e) ∙ append-nil (digits m));
+      text = sym (ap (λ r. digits m ++ r) (take-past bytes mostDigits e) ∙ append-nil (digits m));
     }
   where
     take-past : (l : List ℕ) (n : ℕ) → length l ≡ n → drop n l ≡ []
@@ -165,9 +169,9 @@ backward-end {m} {rest} {place} {bytes} w h =
 
 -- the stored digits, as a part of the bytes
 pub backward-part : {m rest place : ℕ} {bytes : List ℕ} → Backward m bytes rest place → rest < 10
-    → take (20 - place) (drop place (set bytes place (digit rest))) ≡ digits m
+    → take (mostDigits - place) (drop place (set bytes place (digit rest))) ≡ digits m
 backward-part {m} {rest} {place} {bytes} w h =
-    take-all (20 - place) (drop place (set bytes place (digit rest)))
+    take-all (mostDigits - place) (drop place (set bytes place (digit rest)))
     (omega (arith, length-drop place (set bytes place (digit rest)), length-set bytes place (digit rest), w .size))
     ∙ backward-end w h
 
@@ -175,11 +179,11 @@ backward-part {m} {rest} {place} {bytes} w h =
 pub appended-as : {xs ys before after : List ℕ} {at next : ℕ} → xs ≡ ys → Appended xs before at next after → Appended ys before at next after
 appended-as e p = rw e at p
 
--- in 20 bytes the printer prints the whole text of a value
-part-text : (v : Option Value) → cond (eqb (firstCause (test 10 (isNone v) ∷ test 15 (scratchShort 20) ∷ [])) 0) (textOf v) [] ≡ textOf v
+-- in the least scratch the printer prints the whole text of a value
+part-text : (v : Option Value) → cond (eqb (firstCause (test 10 (isNone v) ∷ test 15 (scratchShort leastScratch) ∷ [])) 0) (textOf v) [] ≡ textOf v
 unfolding firstCause
 part-text none = refl
 part-text (some v) = refl
 
-pub part-whole : (kind count : ℕ) (z y : ℤ) → count ≡ 20 → z ≡ y → partOf kind z count ≡ textOf (partsOf kind y)
+pub part-whole : (kind count : ℕ) (z y : ℤ) → count ≡ leastScratch → z ≡ y → partOf kind z count ≡ textOf (partsOf kind y)
 part-whole kind count z y e f = ap (λ n. partOf kind z n) e ∙ part-text (partsOf kind z) ∙ ap (λ x. textOf (partsOf kind x)) f

@@ -9,13 +9,13 @@ use Rattle.circuit.specs.Call.{Call}
 use Rattle.field.specs.Field.{cutAt}
 use Rattle.field.specs.declared.Cut.the-variants.{Field, Short, Absent}
 use Rattle.layout.specs.Read.{contentAt}
-use Rattle.day_meaning.specs.Orders.{postTag, askTag, keepTag, dropTag, stepTag, kindIn, numberIn, orderOf}
+use Rattle.day_meaning.specs.Orders.{postTag, askTag, keepTag, dropTag, stepTag, postLength, callLength, kindIn, numberIn, orderOf}
 
 -- tag unknown, length or posted kind wrong, or kind 1 with a number not 0
 pub data FieldWrong (tag : ℕ) (content : List ℕ) : Type 0 where
   tagUnknown : ¬ (tag ≡ postTag) → ¬ (tag ≡ askTag) → ¬ (tag ≡ keepTag) → ¬ (tag ≡ dropTag) → ¬ (tag ≡ stepTag) → FieldWrong tag content
-  postLength : tag ≡ postTag → ¬ (length content ≡ 11) → FieldWrong tag content
-  callLength : ¬ (tag ≡ postTag) → ¬ (length content ≡ 2) → FieldWrong tag content
+  postLengthOther : tag ≡ postTag → ¬ (length content ≡ postLength) → FieldWrong tag content
+  callLengthOther : ¬ (tag ≡ postTag) → ¬ (length content ≡ callLength) → FieldWrong tag content
   kindOther : tag ≡ postTag → ¬ (kindIn content ≡ 1) → ¬ (kindIn content ≡ 3) → FieldWrong tag content
   nullNotZero : tag ≡ postTag → kindIn content ≡ 1 → ¬ (numberIn content ≡ pos 0) → FieldWrong tag content
 

@@ -8,11 +8,12 @@ use mathlib.Core.Option.{Option, none, some}
 use lib.Dec.{ltb}
 use lib.ListN.{length, take}
 use lib.ListN
-use Rattle.circuit.specs.Call.{Call, post, keep, drop, step, ask, bare}
-use Rattle.field.specs.Field.{cutAt, le16At}
+use Rattle.circuit.specs.Call.{Call, post, keep, drop, step, ask}
+use Rattle.circuit.specs.Call.{bare}
+use Rattle.field.specs.Field.{cutAt}
 use Rattle.field.specs.declared.Cut.{Cut}
 use Rattle.field.specs.declared.Cut.the-variants.{Field, Short, Absent}
-use Rattle.layout.specs.Read.{contentAt}
+use Rattle.layout.specs.Read.{contentAt, headContent, headNext, countIn}
 use Rattle.layout.specs.Index.{indexWidth}
 use Rattle.table.specs.Record.{width}
 use Rattle.office.specs.Office.{Given, openOn, callOn, keeping}
@@ -39,9 +40,13 @@ lineOf (drop i) g = answerLine (g .number)
 lineOf (step i) g = answerLine (g .number)
 lineOf (ask i) g = readingLine i (g .number) (textOf (partsOf (g .kind) (g .value)))
 
+-- the number of a fault of the day log
+abbrev pub faultNumber : ℕ
+faultNumber = 16
+
 -- `DAY 16 offset`
 abbrev pub faultLine : ℕ → List ℕ
-faultLine at = lastLine dayWord 16 at
+faultLine at = lastLine dayWord faultNumber at
 
 -- what was printed, and the table afterwards
 pub record Played : Type 0 where
@@ -76,11 +81,11 @@ unfoldable pub playFrom : ℕ → List ℕ → List ℕ → List ℕ → ℕ →
 playFrom zero s x d at t = played [] t
 playFrom (suc k) s x d at t = playCut (playFrom k s x d) s x d at t (cutAt d at)
 
--- the item count that a sheet says: the two bytes at offset 5, if its first field is there
+-- the item count that a sheet says in its first field, if its bytes are there
 unfoldable pub itemCount : List ℕ → ℕ
-itemCount s = cond (ltb (length s) 7) 0 (le16At s 5)
+itemCount s = cond (ltb (length s) headNext) 0 (countIn (headContent s))
 
--- The parts of the lent index and table that are lent on to the calls: their fronts of 4 and 10 bytes an item, or all of them
+-- The parts of the lent index and table that are lent on to the calls: the fronts that so many items take, or all of them
 -- where they are shorter, which the opening then turns back (8).
 abbrev pub indexSize : List ℕ → ℕ
 indexSize s = indexWidth * itemCount s

@@ -1,4 +1,5 @@
 pub mod Lines
 pub mod Orders
 pub mod Day
+pub mod Room
 pub mod Causes

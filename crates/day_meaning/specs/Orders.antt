@@ -27,30 +27,46 @@ dropTag = 19
 abbrev pub stepTag : ℕ
 stepTag = 20
 
--- The parts of a content: the item in two bytes, and of a post the kind in one and the number in eight, signed.
+-- the length of a post's content, and of another call's
+abbrev pub postLength : ℕ
+postLength = 11
+
+abbrev pub callLength : ℕ
+callLength = 2
+
+-- where the parts of a content stand: the item in two bytes, and of a post the kind in one and the number in eight, signed
+abbrev pub itemAt : ℕ
+itemAt = 0
+
+abbrev pub kindAt : ℕ
+kindAt = 2
+
+abbrev pub numberAt : ℕ
+numberAt = 3
+
 abbrev pub itemIn : List ℕ → ℕ
-itemIn content = le16At content 0
+itemIn content = le16At content itemAt
 
 abbrev pub kindIn : List ℕ → ℕ
-kindIn content = getD content 2 0
+kindIn content = getD content kindAt 0
 
 abbrev pub numberIn : List ℕ → ℤ
-numberIn content = le64At content 3
+numberIn content = le64At content numberAt
 
 -- the posted kind is 1 with the number 0, or 3 with any number
 abbrev pub kindAllowed : ℕ → ℤ → Bool
 kindAllowed kind z = cond (eqb kind 1) (sameNumber z (pos 0)) (eqb kind 3)
 
--- a post has 11 bytes and an allowed kind
+-- a post has its length and an allowed kind
 unfoldable pub postIn : List ℕ → Option Call
 postIn content =
-    cond (eqb (length content) 11 && kindAllowed (kindIn content) (numberIn content))
+    cond (eqb (length content) postLength && kindAllowed (kindIn content) (numberIn content))
     (some (post (itemIn content) (kindIn content) (numberIn content)))
     none
 
--- another call has 2 bytes
+-- another call has its length
 unfoldable pub callIn : (ℕ → Call) → List ℕ → Option Call
-callIn call content = cond (eqb (length content) 2) (some (call (itemIn content))) none
+callIn call content = cond (eqb (length content) callLength) (some (call (itemIn content))) none
 
 -- the call that a field orders, by its tag and content; none is a fault
 unfoldable pub orderOf : ℕ → List ℕ → Option Call

@@ -1,9 +1,14 @@
 // Prints a fixed set of values, and what turns the printer back.
+ghost use mathlib.Core.Path.{_≡_};
+ghost use lib.ListN.{length};
+ghost use Rattle.printer.specs.Printing.{partOf, withFront};
 use libc::STDOUT_FILENO;
 use printer::Printed;
 use value::LIMIT;
 
-fn line(text: &[u8]) {
+fn line(text: &[u8])
+    ensures { λ r. ⌜ now (text .exit) ≡ now (text .entry) ⌝ }
+{
     io::write_all(STDOUT_FILENO, text);
     io::write_all(STDOUT_FILENO, b"\n");
 }
@@ -16,7 +21,9 @@ fn show(kind: u64, number: i64) {
 }
 
 // The worker's answer, and then all the scratch bytes.
-fn show_all(kind: u64, number: i64, scratch: &mut [u8]) {
+fn show_all(kind: u64, number: i64, scratch: &mut [u8])
+    ensures { λ r. ⌜ now (scratch .exit) ≡ withFront (partOf kind number (length (now (scratch .entry)))) (now (scratch .entry)) ⌝ }
+{
     match printer::print_into(kind, number, scratch) {
         Printed::Length(n) => {
             io::write_all(STDOUT_FILENO, b"length ");

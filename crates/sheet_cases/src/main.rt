@@ -1,9 +1,11 @@
 // Checks the sheets of standard input, and writes a line for each: its edition, its item count and the places of its items
 // (offset/level; of more than eight items the first eight and the last), or the number and the offset of its fault.
 // A case is two fields: a label and a sheet.
+ghost use mathlib.Core.Path.{_≡_};
 ghost use Prim.Native.Nat.{_≤_, _<_};
 ghost use lib.ListN.{length};
 ghost use Rattle.sheet.specs.Check.{mostItems};
+ghost use Rattle.sheet_cases.specs.Cases.{caseAt, Checks, Runs};
 use field::Cut;
 use libc::STDIN_FILENO;
 use libc::STDOUT_FILENO;
@@ -22,7 +24,9 @@ fn write_place(offset: usize, level: u8) {
     io::print_decimal(STDOUT_FILENO, level as u64);
 }
 
-fn write_item(offsets: &[usize], levels: &[u8], i: usize, count: usize) {
+fn write_item(offsets: &[usize], levels: &[u8], i: usize, count: usize)
+    ensures { λ r. ⌜ (now (offsets .exit) ≡ now (offsets .entry)) × (now (levels .exit) ≡ now (levels .entry)) ⌝ }
+{
     if count <= i {
         return;
     }
@@ -35,7 +39,9 @@ fn write_item(offsets: &[usize], levels: &[u8], i: usize, count: usize) {
     write_place(offsets[i], levels[i]);
 }
 
-fn write_items(offsets: &[usize], levels: &[u8], count: usize) {
+fn write_items(offsets: &[usize], levels: &[u8], count: usize)
+    ensures { λ r. ⌜ (now (offsets .exit) ≡ now (offsets .entry)) × (now (levels .exit) ≡ now (levels .entry)) ⌝ }
+{
     for i in 0..SHOWN {
         write_item(offsets, levels, i, count);
     }
@@ -46,6 +52,7 @@ fn write_items(offsets: &[usize], levels: &[u8], count: usize) {
 
 fn write_answer(s: &[u8], offsets: &mut [usize], levels: &mut [u8])
     requires { ⌜ (mostItems ≤ length (now offsets)) × (mostItems ≤ length (now levels)) ⌝ }
+    ensures { λ r. ⌜ Checks (now (s .entry)) (now (offsets .entry)) (now (levels .entry)) (now (offsets .exit)) (now (levels .exit)) ⌝ }
 {
     match sheet::check(s, offsets, levels) {
         Checked::Opens { edition, count } => {
@@ -66,7 +73,8 @@ fn write_answer(s: &[u8], offsets: &mut [usize], levels: &mut [u8])
 // The case at an offset. Gives the offset after it; where there is no whole case, the length.
 fn run_case(cases: &[u8], at: usize, offsets: &mut [usize], levels: &mut [u8]) -> usize
     requires { ⌜ (mostItems ≤ length (now offsets)) × (mostItems ≤ length (now levels)) × (at < length (now cases)) ⌝ }
-    ensures { λ r. ⌜ at < r ⌝ }
+    ensures onward { λ r. ⌜ at < r ⌝ }
+    ensures left { λ r. ⌜ Runs (now (cases .entry)) (now (offsets .entry)) (now (levels .entry)) r (now (offsets .exit)) (now (levels .exit)) (caseAt (now (cases .entry)) at) ⌝ }
 {
     let Cut::Field {
         tag: _,
@@ -91,7 +99,9 @@ fn run_case(cases: &[u8], at: usize, offsets: &mut [usize], levels: &mut [u8]) -
     after
 }
 
-fn run(cases: &[u8]) {
+fn run(cases: &[u8])
+    ensures { λ r. ⌜ now (cases .exit) ≡ now (cases .entry) ⌝ }
+{
     let mut offsets = [0usize; sheet::limits::ITEM_LIMIT];
     let mut levels = [0u8; sheet::limits::ITEM_LIMIT];
     let mut at = 0;

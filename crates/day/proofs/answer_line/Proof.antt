@@ -1,4 +1,4 @@
--- `day::run::answer_line` meets its contract. Assumes nothing.
+-- `day::answer_line` meets its contract. Assumes nothing.
 use mathlib.Core.Path.{sym, ap}
 use Rattle.day_meaning.specs.Day.{answerLine}
 use Rattle.day_meaning.proofs.Storing.{appended-as}

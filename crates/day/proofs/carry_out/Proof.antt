@@ -1,4 +1,4 @@
--- `day::run::carry_out` meets its contract, call by call. Assumes nothing.
+-- `day::carry_out` meets its contract, call by call. Assumes nothing.
 use mathlib.Core.Path.{refl, sym, ap, _∙_}
 use mir.Syntax.{w64}
 use mir.ValLaws.{toZ-ofZ}

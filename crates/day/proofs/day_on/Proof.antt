@@ -1,4 +1,4 @@
--- `day::run::day_on` meets its contract. Assumes nothing.
+-- `day::day_on` meets its contract. Assumes nothing.
 use Rattle.day.proofs.Running.{day-refused, day-played}
 use borrow.Author.Needs.{needs}
 use Rattle.day.proofs.day_on.Statement.{statement}

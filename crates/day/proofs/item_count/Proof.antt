@@ -1,7 +1,9 @@
--- `day::run::item_count` meets its contract. Assumes nothing.
+-- `day::item_count` meets its contract. Assumes nothing.
+use mathlib.Core.Path.{sym, _∙_}
 use native.Mathlib.Omega.{arith}
 use borrow.Author.Tests.{lt-ltb, le-ltb}
 use Rattle.day_meaning.specs.Day.{itemCount}
+use Rattle.day_meaning.proofs.Laws.{count-at}
 use borrow.Author.Needs.{needs}
 use Rattle.day.proofs.item_count.Statement.{statement}
 use Rattle.day.proofs.item_count.Tie as tie
@@ -15,7 +17,7 @@ u16-at-requires c κs = search needs
 
 returns-2 : tie.Need-returns-2
 unfolding itemCount
-returns-2 c = (rw (le-ltb _ _ (c .before .if1 .left)) (c .u16-at .ensures .0), omega (arith, c .u16-at .ensures .1))
+returns-2 c = (rw (le-ltb _ _ (c .before .if1 .left)) (c .u16-at .ensures .0 ∙ sym (count-at (c .before .before .before .args .sheet .now))), omega (arith, c .u16-at .ensures .1))
 
 pub item-count-spec : {M : Type 1} → statement M
 item-count-spec = tie.close (tie.spec returns u16-at-requires returns-2)

@@ -1,4 +1,4 @@
--- `day::run::play` meets its contract. The invariant: the whole day is the lines so far and what follows from the offset on. The
+-- `day::play` meets its contract. The invariant: the whole day is the lines so far and what follows from the offset on. The
 -- measure is what is left of the log. Assumes nothing.
 use Prim.Native.Nat.{_-_}
 use mathlib.Core.Path.{sym, ap, _∙_}
@@ -51,7 +51,8 @@ same-length-4 c = appended-length (c .before .before .fault-line .ensures) ∙ a
 returns-2 : tie.Need-returns-2 Inv-loop μ-loop
 returns-2 c =
     let call = c .before .before in
-    playing-short (call .before .before .before .before .before .loop .inv) (call .before .before .before .before .field-at .ensures) (call .before .before .enum-told2 .given .1) (call .fault-line .ensures)
+    let cut = call .before .before in
+    playing-short (cut .before .before .before .loop .inv) (cut .before .before .field-at .ensures) (cut .enum-told2 .given .1) (call .fault-line .ensures)
 
 enum-known-tag : tie.Need-enum-known-tag Inv-loop μ-loop
 enum-known-tag c = search needs
@@ -84,7 +85,10 @@ same-length-5 : tie.Need-same-length-5 Inv-loop μ-loop
 same-length-5 c = c .before .before .before .before .before .before .before .before .before .before .before .before .loop .inv .size
 
 same-length-6 : tie.Need-same-length-6 Inv-loop μ-loop
-same-length-6 c = appended-length (c .before .before .fault-line2 .ensures) ∙ appended-length (c .before .before .before .before .before .before .before .before .before .before .before .before .loop .inv .lines)
+same-length-6 c =
+    let call = c .before .before in
+    let turn = call .before .before .before .before .before .before .before .before .before .before in
+    appended-length (call .fault-line2 .ensures) ∙ appended-length (turn .loop .inv .lines)
 
 returns-3 : tie.Need-returns-3 Inv-loop μ-loop
 returns-3 c =

@@ -1,4 +1,4 @@
--- `day::run::reading_line` meets its contract. Assumes nothing.
+-- `day::reading_line` meets its contract. Assumes nothing.
 use mathlib.Core.Path.{sym, ap, _∙_}
 use mir.Syntax.{w64}
 use mir.ValLaws.{toZ-ofZ}
@@ -22,7 +22,8 @@ returns : tie.Need-returns
 returns c =
     let call = c .before .before in
     let start = call .before .before .before .before .before .before in
-    appended-as (ap (λ z. askLine (start .args .item) (textOf (partsOf (start .args .r .kind) z))) (toZ-ofZ w64 (start .args .r .value) (record { sfits = call .before .struct-told .given .1 .1 .1 .0 .1 }))
+    let read = toZ-ofZ w64 (start .args .r .value) (record { sfits = call .before .struct-told .given .1 .1 .1 .0 .1 }) in
+    appended-as (ap (λ z. askLine (start .args .item) (textOf (partsOf (start .args .r .kind) z))) read
     ∙ ap (λ n. readingLine (start .args .item) n (textOf (partsOf (start .args .r .kind) (start .args .r .value)))) (sym (call .before .before .before .if1 .taken)))
     (call .ask-line .ensures)
 

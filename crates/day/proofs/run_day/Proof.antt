@@ -1,6 +1,7 @@
--- `day::run::run_day` meets its contract. Assumes nothing.
+-- `day::run_day` meets its contract. Assumes nothing.
 use Rattle.day.proofs.Running.{front-length, ran-whole}
 use borrow.Author.Needs.{needs}
+use Rattle.layout.specs.Index.{indexWidth}
 use Rattle.day.proofs.run_day.Statement.{statement}
 use Rattle.day.proofs.run_day.Tie as tie
 
@@ -44,6 +45,7 @@ same-length-3 : tie.Need-same-length-3
 same-length-3 c = search needs
 
 returns : tie.Need-returns
+unfolding indexWidth
 returns c =
     let call = c .before .before .before .before .before .before in
     let right = call .before .before .before .before in

@@ -1,4 +1,4 @@
--- `day::text::append` meets its contract. The invariant: the first k bytes are stored. Assumes nothing.
+-- `day_line::append` meets its contract. The invariant: the first k bytes are stored. Assumes nothing.
 use Prim.Native.Nat.{_-_, _+_, _≤_, _<_}
 use mathlib.Core.Path.{_≡_, refl, ap, _∙_}
 use native.Mathlib.Omega.{arith}

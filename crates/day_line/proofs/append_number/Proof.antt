@@ -1,4 +1,4 @@
--- `day::text::append_number` meets its contract. The invariant: the digits of m are those of the rest and then the stored ones.
+-- `day_line::append_number` meets its contract. The invariant: the digits of m are those of the rest and then the stored ones.
 -- Assumes nothing.
 use Prim.Native.Nat.{_+_}
 use mathlib.Core.Path.{refl}

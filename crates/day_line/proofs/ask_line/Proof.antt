@@ -1,4 +1,4 @@
--- `day::text::ask_line` meets its contract, text after text. Assumes nothing.
+-- `day_line::ask_line` meets its contract, text after text. Assumes nothing.
 use mathlib.Core.Path.{ap}
 use mir.Syntax.{w64}
 use mir.ValLaws.{toZ-ofZ}

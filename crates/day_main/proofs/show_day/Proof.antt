@@ -1,13 +1,11 @@
--- `day_main::show_day` meets its contract: what is written is within the output bytes. Assumes nothing.
+-- `day_main::show_day` meets its contract: what is lent is enough for the whole text, and what is written is within the output
+-- bytes. Assumes nothing.
 use mathlib.Core.Path.{sym}
 use lib.Seq.{length-take-le}
 use borrow.Author.Needs.{needs}
+use Rattle.day_meaning.proofs.Room.{day-shown}
 use Rattle.day_main.proofs.show_day.Statement.{statement}
 use Rattle.day_main.proofs.show_day.Tie as tie
-use Rattle.day_main.proofs.show_day.Reads as reads
-use Rattle.day_main.proofs.show_day.Lts as lts
-use Rattle.day.proofs.run_day.Reads as run-day-reads
-use Rattle.io.proofs.write_all.Reads as write-all-reads
 
 run-day-requires : tie.Need-run-day-requires
 run-day-requires c κs = search needs
@@ -31,7 +29,10 @@ same-length-3 : tie.Need-same-length-3
 same-length-3 c = search needs
 
 returns : tie.Need-returns
-returns c = search needs
+returns c =
+    let run = c .before .before .before .before .before .before .before .before in
+    let known = run .before .before .before .before .before .before .before in
+    day-shown (known .before .before .pre) (λ i. known .shared-slice-known2 .given i .fits) (run .run-day .ensures) .0
 
 pub show-day-spec : {M : Type 1} → statement M
 show-day-spec =

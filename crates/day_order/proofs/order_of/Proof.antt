@@ -1,4 +1,4 @@
--- `day::order::order_of` meets its contract, case by case. Assumes nothing.
+-- `day_order::order_of` meets its contract, case by case. Assumes nothing.
 use mathlib.Core.Path.{sym, _∙_}
 use Rattle.day_order.proofs.Reading.{order-post, order-ask, order-keep, order-drop, order-step, order-length, order-unknown}
 use borrow.Author.Needs.{needs}

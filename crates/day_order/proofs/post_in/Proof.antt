@@ -1,4 +1,4 @@
--- `day::order::post_in` meets its contract, case by case. Assumes nothing.
+-- `day_order::post_in` meets its contract, case by case. Assumes nothing.
 use mathlib.Core.Path.{refl}
 use mir.Syntax.{w64}
 use mir.ValLaws.{toZ-ofZ}
