@@ -14,7 +14,7 @@ use Rattle.circuit.specs.Value.{Value, wellFormed, kindOf, numberOf}
 use Rattle.circuit.specs.Calls.{Call}
 use Rattle.printer.specs.Printing.{textOf, printed}
 use Rattle.value.specs.Meaning.{partsOf}
-use Rattle.value.proofs.PartsLaws.{parts-own}
+use Rattle.circuit.proofs.Parts.{parts-own}
 use Rattle.field.specs.Field.{cutAt, le16}
 use Rattle.field.specs.declared.Cut.{Cut}
 use Rattle.field.specs.declared.Cut.the-variants.{Field, Short, Absent}

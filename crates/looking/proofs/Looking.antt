@@ -10,7 +10,7 @@ use lib.IntN.{ℤ, pos}
 use lib.ListN.{length, getD, set, length-set}
 use lib.Seq.{getD-set-same, getD-set-other}
 use borrow.Author.Tests.{eq-eqb, eqb-true, eqb-false}
-use Rattle.circuit.specs.Value.{Value, null, out, num, wellFormed, kindOf, numberOf}
+use Rattle.circuit.specs.Value.{Value, null, out, num, wellFormed, kindOf, numberOf, ofParts}
 use Rattle.circuit.specs.Sheet.{Sheet, size, itemAt, isFigure, keptOf, Ordered}
 use Rattle.circuit.specs.Table.{Table, Cell, Mark, unk, held, upd, noticeIf, isMark, isMarked, isNotice}
 use Rattle.circuit.specs.Machine.{Looked, looked, storeIf, flagged, lookCell, lookUp, work}
@@ -23,11 +23,11 @@ use Rattle.item.proofs.Located.{sheet-ordered, located-item}
 use Rattle.table.specs.Record.{width, mayHold}
 use Rattle.table.specs.Bytes.{decodeTable, Holdable}
 use Rattle.table.proofs.Tables.{decoded-holdable, decode-setRow, setRow-form, record-fits, holdable-wellFormed}
-use Rattle.value.specs.Meaning.{meaning, ofParts}
+use Rattle.value.specs.Meaning.{meaning}
 use Rattle.table.specs.Meaning.{markMeaning, cellMeaning}
 use Rattle.table.specs.declared.Cell.the-variants.{Unk, Held}
 use Rattle.memo.specs.declared.Recall.the-variants.{Known, Unknown}
-use Rattle.value.proofs.Parents.{of-own-parts}
+use Rattle.circuit.proofs.Parts.{of-own-parts}
 use Rattle.memo.specs.Memo.{Found, found, seenMeaning, recallMeaning, bit, codeOf, tagOf, foundIn, remembered, knownOf, Memo}
 use Rattle.looking.specs.Pass.{Lent, Leaves, Settled}
 use Rattle.office.proofs.Holdable.{look-formed}
