@@ -14,7 +14,7 @@ use Rattle.circuit.specs.Rules as rules
 use Rattle.circuit.specs.Value as circuit
 use Rattle.circuit.specs.WellFormed.{allWellFormed}
 use Rattle.value.specs.Meaning.{meaning, valueAt, firstValues}
-use Rattle.tally.specs.Tally.{Room, empty, counted, taken, takenAll}
+use Rattle.tally.specs.Tally.{Room, empty, counted, taken, takenAll, ruleResult}
 use Rattle.value.specs.declared.Amount.the-variants.{Out, Number}
 use Rattle.tally.specs.declared.Tally.{Tally}
 use Rattle.value.specs.declared.Value.{Value}
@@ -79,6 +79,15 @@ take-out t v p f g h = rw (back (t .total) f, back (t .least) g, back (t .greate
 
 pub take-number : (t : Tally) (v : Value) (z : ℤ) (r : Tally) → v .amount ≡ Number z → SFits w64 z → r ≡ counted t (read z) → r ≡ taken t (meaning v)
 take-number t v z r p f e = e ∙ rw (back z f, p)
+
+-- ---- a rule's result
+
+module _ (t : Tally) (z : ℤ) (no : t .out ≡ false) where
+  pub result-null : t .count ≡ 0 → circuit.null ≡ ruleResult t z
+  result-null e = rw (no, eq-eqb (t .count) 0 e)
+
+  pub result-number : (t .count ≡ 0 → ⊥) → SFits w64 z → (r : circuit.Value) → r ≡ circuit.ranged (read z) → r ≡ ruleResult t z
+  result-number n f r e = e ∙ rw (back z f, no, ne-eqb (t .count) 0 n)
 
 -- ---- the parents' values, one after the other
 
