@@ -1,8 +1,8 @@
 -- What taking values into a tally asks, case by case, over plain variables. Assumes nothing.
 use Prim.Native.Nat.{ℕ, _+_, _≤_, _<_}
-use mathlib.Core.Bool.{true, false}
+use mathlib.Core.Bool.{Bool, true, false, cond}
 use mathlib.Core.List.{List}
-use mathlib.Core.Path.{_≡_, _∙_}
+use mathlib.Core.Path.{_≡_, sym, ap, _∙_}
 use native.Mathlib.Numerals.{add-one}
 use native.Mathlib.Omega.{arith}
 use borrow.Author.Tests.{eq-eqb, ne-eqb}
@@ -24,25 +24,20 @@ use Rattle.tally.proofs.Tallies.{takenAll-snoc, room}
 
 -- ---- numbers that are compared
 
-pub lesser-yes : (a b : ℤ) → SFits w64 a → SFits w64 b → leZ (read a) (read b) ≡ true → read a ≡ rules.lesser a b
-lesser-yes a b f g e =
-    let k : leZ a b ≡ true = rw (back a f, back b g) at e in
-    rw (back a f, k)
+module _ (a b : ℤ) (f : SFits w64 a) (g : SFits w64 b) (t : Bool) (e : leZ (read a) (read b) ≡ t) where
+  -- the test's answer chooses as that of the definitions does, and what it chooses is read back
+  chosen : (x y : ℤ) → SFits w64 x → SFits w64 y → read (cond t x y) ≡ cond (leZ a b) x y
+  chosen x y h k = go t ∙ ap (λ (s : Bool). cond s x y) (sym (rw (back a f, back b g) at e))
+    where
+      go : (s : Bool) → read (cond s x y) ≡ cond s x y
+      go true = back x h
+      go false = back y k
 
-pub lesser-no : (a b : ℤ) → SFits w64 a → SFits w64 b → leZ (read a) (read b) ≡ false → read b ≡ rules.lesser a b
-lesser-no a b f g e =
-    let k : leZ a b ≡ false = rw (back a f, back b g) at e in
-    rw (back b g, k)
+  pub lesser-is : read (cond t a b) ≡ rules.lesser a b
+  lesser-is = chosen a b f g
 
-pub greater-yes : (a b : ℤ) → SFits w64 a → SFits w64 b → leZ (read a) (read b) ≡ true → read b ≡ rules.greater a b
-greater-yes a b f g e =
-    let k : leZ a b ≡ true = rw (back a f, back b g) at e in
-    rw (back b g, k)
-
-pub greater-no : (a b : ℤ) → SFits w64 a → SFits w64 b → leZ (read a) (read b) ≡ false → read a ≡ rules.greater a b
-greater-no a b f g e =
-    let k : leZ a b ≡ false = rw (back a f, back b g) at e in
-    rw (back a f, k)
+  pub greater-is : read (cond t b a) ≡ rules.greater a b
+  greater-is = chosen b a g f
 
 -- ---- a tally
 

@@ -12,7 +12,7 @@ is-out-requires c κs = search needs
 returns : tie.Need-returns
 returns c =
     let s = c .before .before in
-    first-out (meaning (s .args .a)) (meaning (s .args .b)) (meaning (s .args .c)) _ _ (c .before .is-out .ensures) refl
+    first-out _ _ _ _ _ (c .before .is-out .ensures) refl
     (c .if1 .taken)
 
 either-out-requires : tie.Need-either-out-requires
@@ -21,7 +21,7 @@ either-out-requires c κs = search needs
 returns-2 : tie.Need-returns-2
 returns-2 c =
     let s = c .before .before .before .before in
-    later-out (meaning (s .args .a)) (meaning (s .args .b)) (meaning (s .args .c)) _ _ (c .before .before .before .is-out .ensures)
+    later-out _ _ _ _ _ (c .before .before .before .is-out .ensures)
     (c .before .either-out .ensures) (c .before .before .if1 .left) (c .if2 .taken)
 
 is-null-requires : tie.Need-is-null-requires
@@ -30,7 +30,7 @@ is-null-requires c κs = search needs
 returns-3 : tie.Need-returns-3
 returns-3 c =
     let s = c .before .before .before .before .before .before in
-    choice-null (meaning (s .args .a)) (meaning (s .args .b)) (meaning (s .args .c)) _ _ (c .before .before .before .before .before .is-out .ensures)
+    choice-null _ _ _ _ _ (c .before .before .before .before .before .is-out .ensures)
     (c .before .before .before .either-out .ensures) (c .before .before .before .before .if1 .left) (c .before .before .if2 .left)
     _ (c .before .is-null .ensures) (c .if3 .taken)
 
@@ -40,7 +40,7 @@ number-or-zero-requires c κs = search needs
 returns-4 : tie.Need-returns-4
 returns-4 c =
     let s = c .before .before .before .before .before .before .before .before in
-    choice-is (meaning (s .args .a)) (meaning (s .args .b)) (meaning (s .args .c)) _ _ (c .before .before .before .before .before .before .before .is-out .ensures)
+    choice-is _ _ _ _ _ (c .before .before .before .before .before .before .before .is-out .ensures)
     (c .before .before .before .before .before .either-out .ensures) (c .before .before .before .before .before .before .if1 .left)
     (c .before .before .before .before .if2 .left) _ (c .before .before .before .is-null .ensures) (c .before .before .if3 .left)
     _ (c .before .number-or-zero .ensures) (search needs) _ (c .if4 .taken)
@@ -48,7 +48,7 @@ returns-4 c =
 returns-5 : tie.Need-returns-5
 returns-5 c =
     let s = c .before .before .before .before .before .before .before .before in
-    choice-is (meaning (s .args .a)) (meaning (s .args .b)) (meaning (s .args .c)) _ _ (c .before .before .before .before .before .before .before .is-out .ensures)
+    choice-is _ _ _ _ _ (c .before .before .before .before .before .before .before .is-out .ensures)
     (c .before .before .before .before .before .either-out .ensures) (c .before .before .before .before .before .before .if1 .left)
     (c .before .before .before .before .if2 .left) _ (c .before .before .before .is-null .ensures) (c .before .before .if3 .left)
     _ (c .before .number-or-zero .ensures) (search needs) _ (c .if4 .left)
