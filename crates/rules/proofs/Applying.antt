@@ -58,7 +58,8 @@ module _ (op v : Operation) (told : op ≡ v) (o : rules.Operation) (is : operat
     pub applied-two : (r : Value) (a b : circuit.Value) → a ≡ valueAt ks zs 0 → b ≡ valueAt ks zs 1 → meaning r ≡ rules.apply o (a ∷ b ∷ []) → Applied op (firstValues ks zs n) r
     applied-two r a b ea eb q = applied-all r (q ∙ rw (ea, eb, first-two ks zs n two))
 
-  pub applied-three : rules.countAllowed o n ≡ eqb n 3 → (r : Value) (a b c : circuit.Value) → a ≡ valueAt ks zs 0 → b ≡ valueAt ks zs 1 → c ≡ valueAt ks zs 2 → meaning r ≡ rules.apply o (a ∷ b ∷ c ∷ []) → Applied op (firstValues ks zs n) r
+  pub applied-three : rules.countAllowed o n ≡ eqb n 3 → (r : Value) (a b c : circuit.Value) → a ≡ valueAt ks zs 0 → b ≡ valueAt ks zs 1 → c ≡ valueAt ks zs 2
+      → meaning r ≡ rules.apply o (a ∷ b ∷ c ∷ []) → Applied op (firstValues ks zs n) r
   applied-three e r a b c ea eb ec q =
       applied-all r (q ∙ rw (ea, eb, ec, first-three ks zs n (eqb-true n 3 (sym e ∙ takes-count))))
 

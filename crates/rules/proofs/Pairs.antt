@@ -76,7 +76,8 @@ module _ (a b : circuit.Value) (t : Bool) (et : t ≡ (circuit.isOut a || circui
       second-is : read y ≡ rules.orZero b
       second-is = back y fy ∙ ey ∙ sym (orZero-is b)
 
-      pub difference-is : (n : Bool) → n ≡ (circuit.isNull a && circuit.isNull b) → n ≡ false → (d : ℤ) (r : circuit.Value) → SFits w64 d → d ≡ (read x -ℤ read y) → r ≡ circuit.ranged (read d) → r ≡ rules.apply rules.difference (a ∷ b ∷ [])
+      pub difference-is : (n : Bool) → n ≡ (circuit.isNull a && circuit.isNull b) → n ≡ false → (d : ℤ) (r : circuit.Value)
+          → SFits w64 d → d ≡ (read x -ℤ read y) → r ≡ circuit.ranged (read d) → r ≡ rules.apply rules.difference (a ∷ b ∷ [])
       unfolding rules.apply
       difference-is n en h d r f ed er =
           let k : read d ≡ (rules.orZero a -ℤ rules.orZero b) = rw (back d f, ed, first-is, second-is) in
@@ -104,6 +105,7 @@ module _ (a b c : circuit.Value) (s t : Bool) (es : s ≡ circuit.isOut a) (et :
     unfolding rules.apply
     choice-null n en h = rw (three-in, sym en ∙ h)
 
-    pub choice-is : (n : Bool) → n ≡ circuit.isNull a → n ≡ false → (x : ℤ) → x ≡ circuit.numberOf a → SFits w64 x → (u : Bool) → ltZ (pos 0) (read x) ≡ u → cond u b c ≡ rules.apply rules.choice (a ∷ b ∷ c ∷ [])
+    pub choice-is : (n : Bool) → n ≡ circuit.isNull a → n ≡ false → (x : ℤ) → x ≡ circuit.numberOf a → SFits w64 x
+        → (u : Bool) → ltZ (pos 0) (read x) ≡ u → cond u b c ≡ rules.apply rules.choice (a ∷ b ∷ c ∷ [])
     unfolding rules.apply
     choice-is n en h x ex f u eu = rw (three-in, sym en ∙ h, rw (back x f ∙ ex ∙ sym (orZero-is a)) at eu)

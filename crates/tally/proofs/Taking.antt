@@ -50,7 +50,9 @@ module _ (t : Tally) (z : ℤ) (room : Room t) (e : circuit.inRange z ≡ true) 
 
   -- with the sum s, the smaller low and the larger high of the last number and z
   module _ (s low high : ℤ) (fs : SFits w64 s) (flow : SFits w64 low) (fhigh : SFits w64 high) where
-    pub count-next : (t .count ≡ 0 → ⊥) → SFits w64 (t .least) → SFits w64 (t .greatest) → s ≡ (read (t .total) +ℤ read z) → low ≡ rules.lesser (read (t .least)) (read z) → high ≡ rules.greater (read (t .greatest)) (read z) → _≡_ {A = Tally} (record { out = t .out; count = t .count + 1; total = read s; least = read low; greatest = read high }) (counted t z)
+    pub count-next : (t .count ≡ 0 → ⊥) → SFits w64 (t .least) → SFits w64 (t .greatest) → s ≡ (read (t .total) +ℤ read z)
+        → low ≡ rules.lesser (read (t .least)) (read z) → high ≡ rules.greater (read (t .greatest)) (read z)
+        → _≡_ {A = Tally} (record { out = t .out; count = t .count + 1; total = read s; least = read low; greatest = read high }) (counted t z)
     count-next h fl fg es el eg =
         rw (
           back s fs,
@@ -69,7 +71,8 @@ module _ (t : Tally) (z : ℤ) (room : Room t) (e : circuit.inRange z ≡ true) 
 pub number-in-range : (v : Value) (z : ℤ) → v .amount ≡ Number z → SFits w64 z → circuit.wellFormed (meaning v) ≡ true → circuit.inRange (read z) ≡ true
 number-in-range v z p f e = rw (back z f) (rw p at e)
 
-pub take-out : (t : Tally) (v : Value) → v .amount ≡ Out → SFits w64 (t .total) → SFits w64 (t .least) → SFits w64 (t .greatest) → _≡_ {A = Tally} (record { out = true; count = t .count; total = read (t .total); least = read (t .least); greatest = read (t .greatest) }) (taken t (meaning v))
+pub take-out : (t : Tally) (v : Value) → v .amount ≡ Out → SFits w64 (t .total) → SFits w64 (t .least) → SFits w64 (t .greatest)
+    → _≡_ {A = Tally} (record { out = true; count = t .count; total = read (t .total); least = read (t .least); greatest = read (t .greatest) }) (taken t (meaning v))
 take-out t v p f g h = rw (back (t .total) f, back (t .least) g, back (t .greatest) h, p)
 
 pub take-number : (t : Tally) (v : Value) (z : ℤ) (r : Tally) → v .amount ≡ Number z → SFits w64 z → r ≡ counted t (read z) → r ≡ taken t (meaning v)
@@ -86,7 +89,8 @@ module _ (t : Tally) (z : ℤ) (no : t .out ≡ false) where
 
 -- ---- the parents' values, one after the other
 
-module _ (ks : List ℕ) (zs : List ℤ) (n i : ℕ) (t : Tally) (is : t ≡ takenAll empty (firstValues ks zs i)) (h : i < n) (formed : allWellFormed (firstValues ks zs n) ≡ true) (v : circuit.Value) (ev : v ≡ valueAt ks zs i) where
+module _ (ks : List ℕ) (zs : List ℤ) (n i : ℕ) (t : Tally) (is : t ≡ takenAll empty (firstValues ks zs i)) (h : i < n)
+    (formed : allWellFormed (firstValues ks zs n) ≡ true) (v : circuit.Value) (ev : v ≡ valueAt ks zs i) where
   pub turn-room : n ≤ 16 → Room t
   turn-room l =
       rw is

@@ -7,7 +7,7 @@ use native.Mathlib.Decide.{decLe}
 use native.Mathlib.Numerals.{add-one}
 use native.Mathlib.Omega.{arith}
 use lib.IntN.{ℤ, pos}
-use lib.ListN.{length, getD, set, length-append}
+use lib.ListN.{length, set, length-append}
 use lib.Seq.{getD-set-same, getD-set-other}
 use Rattle.circuit.proofs.Parts.{of-own-parts}
 use Rattle.circuit.proofs.RuleLaws.{allWellFormed-snoc, and-left, and-right}
@@ -59,7 +59,8 @@ firstValues-past ks zs (suc n) i k z h =
     )
 
 -- a value stored at n, as its kind and its number, is the last of the first n + 1
-pub firstValues-store : (ks : List ℕ) (zs : List ℤ) (n : ℕ) (v : Value) → n < length ks → n < length zs → firstValues (set ks n (kindOf v)) (set zs n (numberOf v)) (n + 1) ≡ firstValues ks zs n ++ (v ∷ [])
+pub firstValues-store : (ks : List ℕ) (zs : List ℤ) (n : ℕ) (v : Value) → n < length ks → n < length zs
+    → firstValues (set ks n (kindOf v)) (set zs n (numberOf v)) (n + 1) ≡ firstValues ks zs n ++ (v ∷ [])
 unfolding firstValues
 firstValues-store ks zs n v h l =
     rw (

@@ -88,7 +88,10 @@ unfolding coded countAllowed
 returns-20 c = refused _ _ rules.atLeast (ap coded (c .before .match .keys8)) (ne-eqb _ 2 (c .match5 .rest .1))
 
 returns-21 : tie.Need-returns-21
-returns-21 c = not-coded _ _ (no-code _ (c .match .rest .0 .0 .0 .0 .0 .0 .0 .1) (c .match .rest .0 .0 .0 .0 .0 .0 .1) (c .match .rest .0 .0 .0 .0 .0 .1) (c .match .rest .0 .0 .0 .0 .1) (c .match .rest .0 .0 .0 .1) (c .match .rest .0 .0 .1) (c .match .rest .0 .1) (c .match .rest .1))
+returns-21 c =
+    let not-4 = c .match .rest .0 .0 .0 .0 in
+    not-coded _ _ (no-code _ (not-4 .0 .0 .0 .1) (not-4 .0 .0 .1) (not-4 .0 .1) (not-4 .1)
+    (c .match .rest .0 .0 .0 .1) (c .match .rest .0 .0 .1) (c .match .rest .0 .1) (c .match .rest .1))
 
 pub operation-of-spec : {M : Type 1} → statement M
 operation-of-spec =
