@@ -24,18 +24,29 @@ is-null-requires c κs = search needs
 
 returns-3 : tie.Need-returns-3
 returns-3 c =
-    choice-null _ _ _ _ _ (c .before .before .before .before .before .is-out .ensures) (c .before .before .before .either-out .ensures) (c .before .before .before .before .if1 .left) (c .before .before .if2 .left) _ (c .before .is-null .ensures) (c .if3 .taken)
+    let later = c .before .before in
+    let first = later .before .before in
+    choice-null _ _ _ _ _ (first .before .is-out .ensures) (later .before .either-out .ensures) (first .if1 .left) (later .if2 .left)
+    _ (c .before .is-null .ensures) (c .if3 .taken)
 
 number-or-zero-requires : tie.Need-number-or-zero-requires
 number-or-zero-requires c κs = search needs
 
 returns-4 : tie.Need-returns-4
 returns-4 c =
-    choice-is _ _ _ _ _ (c .before .before .before .before .before .before .before .is-out .ensures) (c .before .before .before .before .before .either-out .ensures) (c .before .before .before .before .before .before .if1 .left) (c .before .before .before .before .if2 .left) _ (c .before .before .before .is-null .ensures) (c .before .before .if3 .left) _ (c .before .number-or-zero .ensures) (search needs) _ (c .if4 .taken)
+    let null = c .before .before in
+    let later = null .before .before in
+    let first = later .before .before in
+    choice-is _ _ _ _ _ (first .before .is-out .ensures) (later .before .either-out .ensures) (first .if1 .left) (later .if2 .left)
+    _ (null .before .is-null .ensures) (null .if3 .left) _ (c .before .number-or-zero .ensures) (search needs) _ (c .if4 .taken)
 
 returns-5 : tie.Need-returns-5
 returns-5 c =
-    choice-is _ _ _ _ _ (c .before .before .before .before .before .before .before .is-out .ensures) (c .before .before .before .before .before .either-out .ensures) (c .before .before .before .before .before .before .if1 .left) (c .before .before .before .before .if2 .left) _ (c .before .before .before .is-null .ensures) (c .before .before .if3 .left) _ (c .before .number-or-zero .ensures) (search needs) _ (c .if4 .left)
+    let null = c .before .before in
+    let later = null .before .before in
+    let first = later .before .before in
+    choice-is _ _ _ _ _ (first .before .is-out .ensures) (later .before .either-out .ensures) (first .if1 .left) (later .if2 .left)
+    _ (null .before .is-null .ensures) (null .if3 .left) _ (c .before .number-or-zero .ensures) (search needs) _ (c .if4 .left)
 
 pub choice-spec : {M : Type 1} → statement M
 choice-spec =
