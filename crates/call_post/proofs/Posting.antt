@@ -27,7 +27,7 @@ use Rattle.admission.proofs.Admitting.{item-refused, item-passed, item-low, ref
 -- ---- post
 
 pub posted-other : (kind : ℕ) (z : ℤ) (r : Option Value) → (kind ≡ 2 → ⊥) → r ≡ partsOf kind z → r ≡ postedValue kind z
-unfolding partsOf postedValue
+unfolding postedValue
 posted-other kind z r h e = e ∙ rw (ne-eqb kind 2 h)
 
 module _ {s offsets t : List ℕ} (lent : Lent s offsets t) (bytes : Bytes t) (x : List ℕ) (item kind : ℕ) (z : ℤ) (cause : ℕ)

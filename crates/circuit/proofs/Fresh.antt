@@ -2,13 +2,13 @@
 -- (`postable-value`): so a post sets its entry to the calls' posted value (`hear-post`). Assumes nothing.
 use Prim.Native.Nat.{ℕ, suc}
 use native.Mathlib.Omega.{arith}
-use mathlib.Core.Path.{_≡_, refl, sym, ap, _∙_}
+use mathlib.Core.Path.{_≡_, refl, sym}
 use mathlib.Core.Bool.{Bool, true, false, cond, not, _&&_, _||_}
 use mathlib.Core.Option.{Option, none, some}
 use lib.Dec.{eqb}
 use lib.IntN.{ℤ, pos, negsuc, natAbs}
 use borrow.Author.Tests.{eqb-true, ne-eqb}
-use Rattle.circuit.specs.Value.{Value, null, num, inRange, sameNumber}
+use Rattle.circuit.specs.Value.{Value, null, out, num, inRange, sameNumber, partsOf}
 use Rattle.circuit.specs.Sheet.{Sheet, Entries, itemAt, isFigure, beyond}
 use Rattle.circuit.specs.Call.{post}
 use Rattle.circuit.specs.Calls.{postedValue}
@@ -20,17 +20,21 @@ zero-number (negsuc n) = sym (ne-eqb (suc n) 0 (λ e. omega arith))
 
 -- what the calls take for posted, by the fresh office's words
 pub postable-value : (kind : ℕ) (z : ℤ) → postedValue kind z ≡ cond (postable kind z) (some (postedAs kind z)) none
-unfolding postedValue postable inRange
-postable-value kind z = rw (zero-number z) (go (eqb kind 1) (eqb kind 3) (eqb (natAbs z) 0) (inRange z) refl refl)
+unfolding postedValue partsOf postable inRange
+postable-value kind z =
+    rw (zero-number z) (go (eqb kind 1) (eqb kind 2) (eqb kind 3) (eqb (natAbs z) 0) (inRange z) refl refl refl)
   where
-    go : (one three nil within : Bool) → eqb kind 1 ≡ one → eqb kind 3 ≡ three
-        → cond one (cond nil (some null) none) (cond three (cond within (some (num z)) none) none) ≡ cond ((one && nil) || (three && within)) (some (cond one null (num z))) none
-    go true three true within e h = refl
-    go true three false within e h =
-        let other : three ≡ false = sym h ∙ ap (λ k. eqb k 3) (eqb-true kind 1 e) in
-        ap (λ b. cond {A = Option Value} (b && within) (some null) none) (sym other)
-    go false true nil within e h = refl
-    go false false nil within e h = refl
+    go : (one two three nil within : Bool) → eqb kind 1 ≡ one → eqb kind 2 ≡ two → eqb kind 3 ≡ three
+        → cond two none (cond one (cond nil (some null) none) (cond two (cond nil (some out) none) (cond three (cond within (some (num z)) none) none)))
+        ≡ cond ((one && nil) || (three && within)) (some (cond one null (num z))) none
+    go true true three nil within e f h = absurd (omega (arith, eqb-true kind 1 e, eqb-true kind 2 f))
+    go false true true nil within e f h = absurd (omega (arith, eqb-true kind 2 f, eqb-true kind 3 h))
+    go false true false nil within e f h = refl
+    go true false true nil within e f h = absurd (omega (arith, eqb-true kind 1 e, eqb-true kind 3 h))
+    go true false false true within e f h = refl
+    go true false false false within e f h = refl
+    go false false true nil within e f h = refl
+    go false false false nil within e f h = refl
 
 -- a posted value sets the entry
 abbrev pub setIf : Entries → ℕ → Option Value → Entries

@@ -1,6 +1,7 @@
 pub mod Figures
 pub mod Examples
 pub mod RuleLaws
+pub mod Parts
 pub mod Acyclic
 pub mod Solution
 pub mod Fresh

@@ -5,13 +5,12 @@ use Prim.Native.Nat.{ℕ, zero, suc, _+_, _-_, _*_, _/_, _≤_, _<_}
 use mathlib.Core.Bool.{Bool, true, false, cond, _&&_, _||_}
 use mathlib.Core.List.{List, [], _∷_, _++_, map}
 use mathlib.Core.Path.{_≡_, refl, ap}
-use native.Mathlib.Nat.{zero-mul, suc-mul, mul-comm, div-mul-le-self, lt-mul-div-succ}
+use native.Mathlib.Nat.{suc-mul, mul-comm, div-mul-le-self, lt-mul-div-succ}
 use native.Mathlib.Numerals.{add-one}
 use native.Mathlib.Omega.{arith}
 use borrow.Author.Tests.{eqb-true, eq-eqb, ltb-true, leb-true, le-leb, lt-ltb}
 use lib.Dec.{ltb}
 use lib.IntN.{ℤ, pos, negsuc, natAbs, negℤ, sucℤ, subℕ, _+ℤ_, _-ℤ_, _*ℤ_}
-use lib.ListN.{length}
 use lib.Signed.{leZ, ltZ}
 use Rattle.circuit.specs.Rules.{Operation, sum, difference, smallest, largest, share, choice, count, atLeast, apply, anyOut, numbers, nth, ofNumbers, total, least, greatest, howMany, orZero, floorDiv, whole}
 use Rattle.circuit.specs.Value.{Value, null, out, num, limit, inRange, isNull, isOut, wellFormed, ranged, same, sameNumber}
@@ -218,23 +217,6 @@ inRange-size z e = leb-true (natAbs z) limit e
 pub size-inRange : (z : ℤ) → natAbs z ≤ limit → inRange z ≡ true
 unfolding inRange
 size-inRange z h = le-leb (natAbs z) limit h
-
-unfoldable pub allInRange : List ℤ → Bool
-allInRange [] = true
-allInRange (z ∷ zs) = inRange z && allInRange zs
-
--- the sum of numbers within the range is at most that many times the limit
-pub total-size : (zs : List ℤ) (z : ℤ) → allInRange zs ≡ true → natAbs (total z zs) ≤ natAbs z + length zs * limit
-unfolding total allInRange
-total-size [] z e = omega (arith, zero-mul limit)
-total-size (y ∷ zs) z e =
-    omega (
-      arith,
-      total-size zs (z +ℤ y) (and-right (inRange y) (allInRange zs) e),
-      add-size z y,
-      inRange-size y (and-left (inRange y) (allInRange zs) e),
-      suc-mul (length zs) limit,
-    )
 
 -- ---- a quotient rounded down
 

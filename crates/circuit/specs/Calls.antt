@@ -5,18 +5,16 @@ use mathlib.Core.Bool.{Bool, true, false, cond, not}
 use mathlib.Core.List.{List, [], _∷_, _++_}
 use mathlib.Core.Option.{Option, none, some}
 use lib.Dec.{eqb}
-use lib.IntN.{ℤ, pos}
-use Rattle.circuit.specs.Value.{Value, null, num, inRange, sameNumber}
+use lib.IntN.{ℤ}
+use Rattle.circuit.specs.Value.{Value, partsOf}
 use Rattle.circuit.specs.Sheet.{Sheet, itemAt, isFigure, beyond}
 use Rattle.circuit.specs.Table.{Table, isMarked}
 use Rattle.circuit.specs.Call.{Call, post, keep, drop, step, ask, Posting}
 use Rattle.circuit.specs.Machine.{Looked, storePosting, keepFigure, dropFigure, stepItem, catchUp, lookUp}
 
--- The value of a posted kind and number: NULL is kind 1 with 0, a number is kind 3 within the range; none is refused (13).
+-- The value of a posted kind and number, in form, and not OUT, which cannot be posted; none is refused (13).
 unfoldable pub postedValue : ℕ → ℤ → Option Value
-postedValue kind z =
-    cond (eqb kind 1) (cond (sameNumber z (pos 0)) (some null) none)
-    (cond (eqb kind 3) (cond (inRange z) (some (num z)) none) none)
+postedValue kind z = cond (eqb kind 2) none (partsOf kind z)
 
 abbrev pub isNone : {A : Type 0} → Option A → Bool
 isNone none = true

@@ -2,6 +2,7 @@
 -- work table can be without a value. Assumes nothing.
 use Prim.Native.Nat.{ℕ}
 use mathlib.Core.Bool.{Bool, true, false, cond}
+use mathlib.Core.Option.{Option, none, some}
 use lib.Dec.{leb, eqb}
 use lib.IntN.{ℤ, pos, negsuc, natAbs}
 
@@ -68,3 +69,17 @@ abbrev pub numberOf : Value → ℤ
 numberOf null = pos 0
 numberOf out = pos 0
 numberOf (num z) = z
+
+-- The value of a kind and a number, if they are in form: kind 1, 2 or 3, number 0 unless the kind is 3, and then within
+-- the range.
+unfoldable pub partsOf : ℕ → ℤ → Option Value
+partsOf kind number =
+    cond (eqb kind 1) (cond (sameNumber number (pos 0)) (some null) none)
+    (cond (eqb kind 2) (cond (sameNumber number (pos 0)) (some out) none)
+    (cond (eqb kind 3) (cond (inRange number) (some (num number)) none)
+    none))
+
+-- A value kept as its kind and its number. What was made by a value's own kind and number is that value again; no value has
+-- a kind other than 1, 2 and 3, and any other reads as 3.
+abbrev pub ofParts : ℕ → ℤ → Value
+ofParts kind number = cond (eqb kind 1) null (cond (eqb kind 2) out (num number))

@@ -2,50 +2,60 @@
 ghost use mathlib.Core.Path.{_≡_};
 ghost use mathlib.Core.Bool.{true};
 ghost use Prim.Native.Nat.{_≤_};
-ghost use lib.IntN.{natAbs};
-ghost use Rattle.circuit.specs.Value as circuit;
 ghost use Rattle.value.specs.Meaning.{meaning};
+ghost use Rattle.rules.specs.Operations.{operationMeaning, refuses, allows, Applied};
+ghost use Rattle.figures.specs.Figures.{tested, firstOf};
+use libc::STDOUT_FILENO;
+use rules::Operation;
 use value::Amount;
+use value::LIMIT;
 use value::Value;
 
 fn write(text: &[u8]) {
-    io::write_all(libc::STDOUT_FILENO, text);
+    io::write_all(STDOUT_FILENO, text);
 }
 
-// The number without its sign.
-fn size(n: i64) -> u64
-    ensures { λ r. ⌜ r ≡ natAbs n ⌝ }
-{
-    if n < 0 {
-        return ((-1 - n) as u64) + 1;
-    }
-    n as u64
-}
-
-// A number in decimal, the highest of the range by its name.
-fn write_number(n: i64) {
-    if n == value::limit() {
-        write(b"LIMIT");
+// A value as the printer writes it, but NULL by its name.
+fn write_value(v: Value) {
+    if v.is_null() {
+        write(b"NULL");
         return;
     }
-    if n < 0 {
-        write(b"-");
-    }
-    io::print_decimal(libc::STDOUT_FILENO, size(n));
+    let mut scratch = [0u8; 20];
+    let part = printer::print(v.kind() as u64, v.number_or_zero(), &mut scratch);
+    write(part);
 }
 
-fn write_value(v: Value) {
-    let a = v.amount;
-    match a {
-        Amount::Null => write(b"NULL"),
-        Amount::Out => write(b"OUT"),
-        Amount::Number(n) => write_number(n),
+fn write_parents(n: usize, a: Value, b: Value, c: Value) {
+    write_value(a);
+    write(b", ");
+    write_value(b);
+    if n == 3 {
+        write(b", ");
+        write_value(c);
     }
 }
 
-// The value with its number tested against the range.
-fn formed(v: Value) -> Value
-    ensures { λ r. ⌜ circuit.wellFormed (meaning r) ≡ true ⌝ }
+// Whether the rule or its count of parents was refused.
+fn is_refused(op: Operation) -> bool
+    ensures { λ r. ⌜ r ≡ refuses (operationMeaning op) ⌝ }
+{
+    match op {
+        Operation::Sum => false,
+        Operation::Difference => false,
+        Operation::Smallest => false,
+        Operation::Largest => false,
+        Operation::Share => false,
+        Operation::Choice => false,
+        Operation::Count => false,
+        Operation::AtLeast => false,
+        Operation::Refused => true,
+    }
+}
+
+// The value, or OUT if its number is beyond the range.
+fn in_form(v: Value) -> Value
+    ensures { λ r. ⌜ meaning r ≡ tested (meaning v) ⌝ }
 {
     let a = v.amount;
     match a {
@@ -55,13 +65,14 @@ fn formed(v: Value) -> Value
     }
 }
 
-// A line: the figure as it is written, and what the rule gives on the first n of three values.
-fn figure(text: &[u8], code: u8, n: usize, a: Value, b: Value, c: Value)
-    requires { ⌜ n ≤ 3 ⌝ }
+// What the rule gives on the first n of three values.
+fn worked(op: Operation, n: usize, a: Value, b: Value, c: Value) -> Value
+    requires { ⌜ n ≤ 3 ⌝ ∗ ⌜ allows (operationMeaning op) n ≡ true ⌝ }
+    ensures { λ r. ⌜ Applied op (firstOf n (meaning a) (meaning b) (meaning c)) r ⌝ }
 {
-    let first = formed(a);
-    let second = formed(b);
-    let third = formed(c);
+    let first = in_form(a);
+    let second = in_form(b);
+    let third = in_form(c);
     let mut kinds = [1u8; 16];
     let mut numbers = [0i64; 16];
     kinds[0] = first.kind();
@@ -70,71 +81,48 @@ fn figure(text: &[u8], code: u8, n: usize, a: Value, b: Value, c: Value)
     numbers[1] = second.number_or_zero();
     kinds[2] = third.kind();
     numbers[2] = third.number_or_zero();
-    write(text);
-    write(b" = ");
+    rules::apply(op, &kinds, &numbers, n)
+}
+
+// A line: the rule's name, the first n of three values, and what the rule gives on them.
+fn figure(name: &[u8], code: u8, n: usize, a: Value, b: Value, c: Value)
+    requires { ⌜ n ≤ 3 ⌝ }
+{
+    write(name);
+    write(b"(");
+    write_parents(n, a, b, c);
+    write(b") = ");
     let op = rules::operation_of(code, n);
-    if rules::is_refused(op) {
+    if is_refused(op) {
         write(b"refused\n");
         return;
     }
-    write_value(rules::apply(op, &kinds, &numbers, n));
+    write_value(worked(op, n, a, b, c));
     write(b"\n");
 }
 
 fn main() {
     let none = Value::NULL;
-    let top = value::limit();
-    figure(b"sum(NULL, NULL)", 1, 2, none, none, none);
-    figure(b"sum(5, NULL)", 1, 2, Value::number(5), none, none);
+    let top = Value::number(LIMIT);
+    let one = Value::number(1);
+    let three = Value::number(3);
+    let minus_one = Value::number(-1);
+    figure(b"sum", 1, 2, none, none, none);
+    figure(b"sum", 1, 2, Value::number(5), none, none);
+    figure(b"sum", 1, 2, top, one, none);
+    figure(b"sum", 1, 3, top, one, minus_one);
+    figure(b"difference", 2, 2, none, three, none);
+    figure(b"share", 5, 2, minus_one, Value::number(5000), none);
+    figure(b"share", 5, 2, Value::number(7), Value::number(10001), none);
     figure(
-        b"sum(LIMIT, 1)",
-        1,
-        2,
-        Value::number(top),
-        Value::number(1),
-        none,
-    );
-    figure(
-        b"sum(LIMIT, 1, -1)",
-        1,
-        3,
-        Value::number(top),
-        Value::number(1),
-        Value::number(-1),
-    );
-    figure(b"difference(NULL, 3)", 2, 2, none, Value::number(3), none);
-    figure(
-        b"share(-1, 5000)",
-        5,
-        2,
-        Value::number(-1),
-        Value::number(5000),
-        none,
-    );
-    figure(
-        b"share(7, 10001)",
-        5,
-        2,
-        Value::number(7),
-        Value::number(10001),
-        none,
-    );
-    figure(
-        b"choice(0, 7, 9)",
+        b"choice",
         6,
         3,
         Value::number(0),
         Value::number(7),
         Value::number(9),
     );
-    figure(b"count(NULL, 4)", 7, 2, none, Value::number(4), none);
-    figure(
-        b"at least(3, 3)",
-        8,
-        2,
-        Value::number(3),
-        Value::number(3),
-        none,
-    );
-    figure(b"smallest(NULL, -2)", 3, 2, none, Value::number(-2), none);
+    figure(b"count", 7, 2, none, Value::number(4), none);
+    figure(b"at least", 8, 2, three, three, none);
+    figure(b"smallest", 3, 2, none, Value::number(-2), none);
 }

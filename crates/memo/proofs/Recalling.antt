@@ -1,7 +1,7 @@
 -- The memo of a pass of look-ups: what the arrays say after a store, and that what is remembered stays right. Assumes
 -- nothing.
 use Prim.Native.Nat.{ℕ, _+_, _*_, _/_, _%_}
-use mathlib.Core.Path.{_≡_, _∙_}
+use mathlib.Core.Path.{_≡_}
 use mathlib.Core.Bool.{Bool, true, false}
 use mathlib.Core.List.{List}
 use mathlib.Core.Option.{none, some}
@@ -12,20 +12,9 @@ use lib.ListN.{getD}
 use borrow.Author.Tests.{eq-eqb, ne-eqb}
 use mir.Syntax.{w64}
 use mir.Val.{SFits, toZ, ofZ}
-use Rattle.circuit.specs.Value.{Value, null, out, num, kindOf}
-use Rattle.value.specs.Meaning.{ofParts}
+use Rattle.circuit.specs.Value.{Value, kindOf, ofParts}
 use Rattle.value.proofs.Signed.{back}
 use Rattle.memo.specs.Memo.{found, tagOf, remembered}
-
--- a value's parts
-pub parts-null : (k : ℕ) (z : ℤ) → k ≡ 1 → ofParts k z ≡ null
-parts-null k z e = rw e
-
-pub parts-out : (k : ℕ) (z : ℤ) → k ≡ 2 → ofParts k z ≡ out
-parts-out k z e = rw e
-
-pub parts-number : (k : ℕ) (z : ℤ) → (k ≡ 1 → ⊥) → (k ≡ 2 → ⊥) → SFits w64 z → (r : Value) → r ≡ num (toZ w64 (ofZ w64 z)) → r ≡ ofParts k z
-parts-number k z a b f r e = e ∙ rw (back z f, ne-eqb k 1 a, ne-eqb k 2 b)
 
 -- a tag, with the flag and without
 pub tagged : (generation kind wide : ℕ) (v : Value) (flag : Bool) → flag ≡ true → wide ≡ kind → kind ≡ kindOf v → 8 * generation + 2 * wide + 1 ≡ tagOf generation (found v flag)

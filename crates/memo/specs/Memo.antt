@@ -8,11 +8,11 @@ use mathlib.Core.Option.{Option, none, some}
 use lib.Dec.{eqb}
 use lib.IntN.{ℤ, pos}
 use lib.ListN.{getD, length}
-use Rattle.circuit.specs.Value.{Value, kindOf}
+use Rattle.circuit.specs.Value.{Value, kindOf, ofParts}
 use Rattle.circuit.specs.Sheet.{Sheet, size}
 use Rattle.circuit.specs.Table.{Table, Cell, unk, held, isNotice}
 use Rattle.circuit.specs.Machine.{looked, lookUp}
-use Rattle.value.specs.Meaning.{meaning, ofParts}
+use Rattle.value.specs.Meaning.{meaning}
 use Rattle.memo.specs.declared.Seen.{Seen}
 use Rattle.memo.specs.declared.Recall.{Recall}
 use Rattle.memo.specs.declared.Recall.the-variants.{Known, Unknown}

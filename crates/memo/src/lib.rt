@@ -19,17 +19,6 @@ pub enum Recall {
     Unknown,
 }
 
-// The value of a kind and a number that a value was taken apart into.
-fn value_of(kind: u64, number: i64) -> Value
-    ensures { λ r. ⌜ meaning r ≡ Rattle.value.specs.Meaning.ofParts kind number ⌝ }
-{
-    match kind {
-        1 => Value::NULL,
-        2 => Value::OUT,
-        _ => Value::number(number),
-    }
-}
-
 // What is remembered of item i.
 pub fn recalled(tags: &[u64], numbers: &[i64], generation: u64, i: usize) -> Recall
     requires { ⌜ i < length (now tags) ⌝ ∗ ⌜ i < length (now numbers) ⌝ }
@@ -42,7 +31,7 @@ pub fn recalled(tags: &[u64], numbers: &[i64], generation: u64, i: usize) -> Rec
     let code = tag % 8;
     let number = numbers[i];
     Recall::Known(Seen {
-        value: value_of(code / 2, number),
+        value: Value::of_parts((code / 2) as u8, number),
         flag: code % 2 == 1,
     })
 }

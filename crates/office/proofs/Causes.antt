@@ -10,7 +10,7 @@ use lib.Dec.{leb}
 use lib.IntN.{ℤ, pos, negsuc, natAbs}
 use lib.ListN.{length}
 use borrow.Author.Tests.{leb-true, leb-false}
-use Rattle.circuit.specs.Value.{null, num, limit, inRange, sameNumber}
+use Rattle.circuit.specs.Value.{null, out, num, limit, inRange, sameNumber, partsOf, ofParts}
 use Rattle.circuit.specs.Sheet.{Sheet, size, itemAt, isFigure, beyond}
 use Rattle.circuit.specs.Table.{unmarked, refresh, notice, unk, held, isMarked}
 use Rattle.circuit.specs.Calls.{postedValue, isNone}
@@ -18,7 +18,7 @@ use Rattle.layout.specs.Read.{Placed}
 use Rattle.layout.specs.Index.{indexWidth, indexBytes}
 use Rattle.layout.proofs.Tests.{Tells, holds, fails, tells-if, tells-and, Refutes, right, wrong, refutes-if, refutes-and, tells-not, refutes-tells, tells-eq, refutes-le}
 use Rattle.table.specs.Rows.{row, allBelow}
-use Rattle.table.specs.Record.{width, kindIn, markIn, numberIn, decodeCell, valueCoded, allowed, codesForm, numberForm, recordForm}
+use Rattle.table.specs.Record.{width, kindIn, markIn, numberIn, decodeCell, allowed, codesForm, numberForm, recordForm}
 use Rattle.table.specs.Bytes.{tableForm, recordInForm}
 use Rattle.office.specs.Office.{Office, lengthsWrong, indexWrong, tableWrong}
 use Rattle.office.specs.Demand1Words.{LengthsWrong, IndexNotAsOpened, BeyondRange, RecordBroken, kindUnknown, markUnknown, entryUnk, entryOut, entryRefresh, unkRefresh, numberNotZero, beyondRange, RecordBrokenAt, TableBroken, NoSuchItem, NotPostable, kindOther, nullNotZero, numberBeyond}
@@ -151,26 +151,27 @@ tells-beyond S i = go (leb (size S) i) refl
 
 -- 13
 pub tells-posted : (kind : ℕ) (z : ℤ) → Tells (NotPostable kind z) (isNone (postedValue kind z))
-unfolding postedValue
-tells-posted kind z = go (tells-eq kind 1) (tells-zero z) (tells-eq kind 3) (refutes-range z)
+unfolding postedValue partsOf
+tells-posted kind z = go (tells-eq kind 2) (tells-eq kind 1) (tells-zero z) (tells-eq kind 3) (refutes-range z)
   where
-    go : {a b c d : Bool} → Tells (kind ≡ 1) a → Tells (z ≡ pos 0) b → Tells (kind ≡ 3) c → Refutes (BeyondRange z) d
-        → Tells (NotPostable kind z) (isNone (cond a (cond b (some null) none) (cond c (cond d (some (num z)) none) none)))
-    go (holds p) (holds q) r s = fails no
+    go : {e a b c d : Bool} → Tells (kind ≡ 2) e → Tells (kind ≡ 1) a → Tells (z ≡ pos 0) b → Tells (kind ≡ 3) c → Refutes (BeyondRange z) d
+        → Tells (NotPostable kind z) (isNone (cond e none (cond a (cond b (some null) none) (cond e (cond b (some out) none) (cond c (cond d (some (num z)) none) none)))))
+    go (holds o) p q r s = holds (kindOther (λ h. omega arith) (λ h. omega arith))
+    go (fails o) (holds p) (holds q) r s = fails no
       where
         no : NotPostable kind z → ⊥
         no (kindOther h l) = h p
         no (nullNotZero h l) = l q
         no (numberBeyond h l) = omega arith
-    go (holds p) (fails q) r s = holds (nullNotZero p q)
-    go (fails p) q (holds r) (right n) = fails no
+    go (fails o) (holds p) (fails q) r s = holds (nullNotZero p q)
+    go (fails o) (fails p) q (holds r) (right n) = fails no
       where
         no : NotPostable kind z → ⊥
         no (kindOther h l) = l r
         no (nullNotZero h l) = p h
         no (numberBeyond h l) = n l
-    go (fails p) q (holds r) (wrong b) = holds (numberBeyond r b)
-    go (fails p) q (fails r) s = holds (kindOther p r)
+    go (fails o) (fails p) q (holds r) (wrong b) = holds (numberBeyond r b)
+    go (fails o) (fails p) q (fails r) s = holds (kindOther p r)
 
 -- 14, where the record is in form
 pub tells-mark : (figure : Bool) (r : List ℕ) → ¬ RecordBroken figure (kindIn r) (markIn r) (numberIn r)
@@ -195,7 +196,7 @@ tells-mark figure r form = go (tells-eq (kindIn r) 0) (tells-eq (markIn r) 1) (t
     unk-refresh false e h l = form (entryRefresh e l)
 
     go : {a b c : Bool} → Tells (k ≡ 0) a → Tells (m ≡ 1) b → Tells (m ≡ 2) c
-        → Tells (m ≡ 0) (not (isMarked (cond a (unk c) (held (valueCoded k z) (cond b refresh (cond c notice unmarked))))))
+        → Tells (m ≡ 0) (not (isMarked (cond a (unk c) (held (ofParts k z) (cond b refresh (cond c notice unmarked))))))
     go (holds p) (holds q) w = absurd (unk-refresh figure refl p q)
     go (holds p) (fails q) (holds w) = fails (λ e. omega arith)
     go (holds p) (fails q) (fails w) = holds (omega (arith, low))

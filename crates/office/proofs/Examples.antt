@@ -11,7 +11,7 @@ use mathlib.Core.List.{List, [], _∷_, _++_, map}
 use mathlib.Core.Option.{none}
 use lib.IntN.{ℤ, pos, negsuc}
 use Rattle.word.specs.Word.{leAt, leBytes, bytes64}
-use Rattle.circuit.specs.Value.{limit, inRange}
+use Rattle.circuit.specs.Value.{limit, inRange, partsOf}
 use Rattle.circuit.specs.Call.{Call, post, keep, drop, step, ask, bare, full}
 use Rattle.circuit.specs.Calls.{firstCause, tests, postedValue, effect, Outcome, perform}
 use Rattle.circuit.specs.Rules.{apply, numbers, total, anyOut}
@@ -77,7 +77,7 @@ fullTable = nullRecord ++ nullRecord ++ nullRecord ++ nullRecord ++ nullRecord
 
 -- to unfold this is to unfold all that the calls compute with
 unfoldable pub calls : List ℕ → Office → Call → Given
-unfolding callOn openOn reading concat sameBytes indexWidth indexBytes tests firstCause postedValue effect tableForm encodeTable rowsBelow allBelow encodeCell decodeCell codesForm numberForm recordForm leAt leBytes limit inRange spreadMeant machineItem
+unfolding callOn openOn reading concat sameBytes indexWidth indexBytes tests firstCause postedValue partsOf effect tableForm encodeTable rowsBelow allBelow encodeCell decodeCell codesForm numberForm recordForm leAt leBytes limit inRange spreadMeant machineItem
 calls s kept c = callOn s kept c
 
 -- the openings write this index and these tables

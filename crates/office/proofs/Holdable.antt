@@ -2,14 +2,13 @@
 -- OUT, without refresh. Assumes that the sheet is ordered, where it says so.
 use Prim.Native.Nat.{ℕ, zero, suc, _<_}
 use native.Mathlib.Omega.{arith}
-use mathlib.Core.Path.{_≡_, refl, sym, ap, _∙_}
+use mathlib.Core.Path.{_≡_, refl, ap}
 use mathlib.Core.Bool.{Bool, true, false, cond, not, _&&_}
 use mathlib.Core.List.{List, [], _∷_, map}
 use mathlib.Core.Logic.{inl, inr}
 use mathlib.Core.Option.{Option, none, some}
-use lib.Dec.{eqb}
-use lib.IntN.{ℤ, pos}
-use Rattle.circuit.specs.Value.{Value, null, num, isOut, same, wellFormed, inRange, sameNumber}
+use lib.IntN.{ℤ}
+use Rattle.circuit.specs.Value.{Value, null, isOut, same, wellFormed}
 use Rattle.circuit.specs.WellFormed.{allWellFormed}
 use Rattle.circuit.specs.Circuit.{Listed}
 use Rattle.circuit.specs.Sheet.{Sheet, Item, entry, figure, Spread, defer, renew, forget, size, itemAt, isFigure, parentsOf, parents, spreadOf, isChild, evaluate, Ordered}
@@ -17,6 +16,7 @@ use Rattle.circuit.specs.Table.{Table, Cell, Mark, unmarked, refresh, notice, u
 use Rattle.circuit.specs.Machine.{lookUp, work, storePosting, postCell, keepFigure, dropFigure, dropCell, renewed, tellChild, tellCell, tellStored, tellIf, tellBelow, tell, clearMark, clearCell, stepItem, stepCell, catchUp}
 use Rattle.circuit.specs.Call.{Call, post, keep, drop, step, ask}
 use Rattle.circuit.specs.Calls.{postedValue, effect, perform, tests, firstCause, run, postIt}
+use Rattle.circuit.proofs.Parts.{posted-some}
 use Rattle.circuit.proofs.RuleLaws.{apply-wellFormed, and-true, and-left, and-right}
 use Rattle.circuit.proofs.View.{view, view-at, result, strong}
 use Rattle.circuit.proofs.Fill.{Fill, Filling, stays, fills, upd-cases, look-right, work-right, keep-fill}
@@ -200,15 +200,7 @@ module _ (S : Sheet) (ordered : Ordered S) where
 
 -- what a post may store
 posted-holdable : (kind : ℕ) (z : ℤ) (v : Value) → postedValue kind z ≡ some v → (wellFormed v ≡ true) × (isOut v ≡ false)
-unfolding postedValue
-posted-holdable kind z v e = first (eqb kind 1) (sameNumber z (pos 0)) (eqb kind 3) (inRange z) refl e
-  where
-    first : (a b c d : Bool) → inRange z ≡ d → cond a (cond b (some null) none) (cond c (cond d (some (num z)) none) none) ≡ some v → (wellFormed v ≡ true) × (isOut v ≡ false)
-    first true true c d r q = let s : null ≡ v = cc in (ap wellFormed (sym s), ap isOut (sym s))
-    first true false c d r q = let bad : _≡_ {A = ℕ} 0 1 = cc in absurd (omega arith)
-    first false b true true r q = let s : num z ≡ v = cc in (ap wellFormed (sym s) ∙ r, ap isOut (sym s))
-    first false b true false r q = let bad : _≡_ {A = ℕ} 0 1 = cc in absurd (omega arith)
-    first false b false d r q = let bad : _≡_ {A = ℕ} 0 1 = cc in absurd (omega arith)
+posted-holdable kind z v e = let p = posted-some kind z v e in (p .0 .formed, p .1)
 
 noted : (f : Bool) (v : Value) → wellFormed v ≡ true → isOut v ≡ false → mayHold f (held v notice) ≡ true
 noted true v w o = w

@@ -2,29 +2,29 @@
 use Prim.Native.Nat.{ℕ, zero, suc, _<_, _≤_}
 use native.Mathlib.Omega.{arith}
 use mathlib.Core.Path.{_≡_, refl, sym, ap, ap₂, _∙_, subst}
-use mathlib.Core.Bool.{Bool, true, false, cond, not}
+use mathlib.Core.Bool.{Bool, true, cond, not}
 use mathlib.Core.List.{List, [], _∷_}
 use mathlib.Core.Logic.{_⊎_, inl, inr, _↔_}
-use mathlib.Core.Option.{none, some}
-use lib.Dec.{eqb}
+use mathlib.Core.Option.{Option, none, some}
 use lib.IntN.{ℤ, pos}
 use lib.ListN.{length, length-map}
 use borrow.Author.Tests.{not-false}
-use Rattle.circuit.specs.Value.{Value, null, num, inRange, sameNumber, kindOf, numberOf}
+use Rattle.circuit.specs.Value.{Value, kindOf, numberOf}
 use Rattle.circuit.specs.Sheet.{Sheet, size, itemAt, isFigure}
 use Rattle.circuit.specs.Call.{Call, post, keep, drop, step, ask}
-use Rattle.circuit.specs.Calls.{Test, firstCause, tests, postedValue, effect}
+use Rattle.circuit.specs.Calls.{Test, firstCause, tests, postedValue, effect, isNone}
+use Rattle.circuit.proofs.Parts.{posted-some}
 use Rattle.layout.specs.Read.{Placed, SheetRead, opens, refused, readSheet, layoutOf}
 use Rattle.layout.specs.Opened.{sheetRead, sheetOf, sheetFrom, itemsOf, placedFrom}
 use Rattle.layout.specs.Causes.{Faultless}
-use Rattle.layout.proofs.Tests.{Tells, holds, fails, Refutes, right, wrong, tells-eq}
+use Rattle.layout.proofs.Tests.{Tells, holds, fails, tells-eq}
 use Rattle.layout.proofs.Causes.{refused-exactly, opens-faultless, refused-number}
 use Rattle.table.specs.Rows.{row}
 use Rattle.table.specs.Record.{width}
 use Rattle.table.specs.Bytes.{decodeTable, tableForm}
 use Rattle.office.specs.Office.{Office, Given, refusal, accepted, openingTests, callTests, unlessRefused, effectOn, callRead, callOn, openRead, openOn}
-use Rattle.office.specs.Demand1Words.{Request, opening, calling, serve, BeyondRange, TableBroken, NotPostable, kindOther, nullNotZero, numberBeyond, Row, cause, ownCauses, causesIn, causesOf, First, NoneHolds, HoldsAt, Lowest, Refused, bySheet, byLent, NoCause, AcceptedLent}
-use Rattle.office.proofs.Causes.{tells-is, tells-is-not, tells-zero, refutes-range, tells-lengths, tells-index, tells-table, tells-beyond, tells-posted, tells-mark}
+use Rattle.office.specs.Demand1Words.{Request, opening, calling, serve, TableBroken, NotPostable, Row, cause, ownCauses, causesIn, causesOf, First, NoneHolds, HoldsAt, Lowest, Refused, bySheet, byLent, NoCause, AcceptedLent}
+use Rattle.office.proofs.Causes.{tells-is, tells-is-not, tells-lengths, tells-index, tells-table, tells-beyond, tells-posted, tells-mark}
 
 -- ---- the first cause
 
@@ -302,17 +302,11 @@ pub record Postable (kind : ℕ) (z : ℤ) : Type 0 where
   pub number-is : numberOf value ≡ z
 
 pub postable : (kind : ℕ) (z : ℤ) → ¬ NotPostable kind z → Postable kind z
-unfolding postedValue
-postable kind z n = go (eqb kind 1) (sameNumber z (pos 0)) (eqb kind 3) (inRange z) refl (tells-eq kind 1) (tells-zero z) (tells-eq kind 3) (refutes-range z)
+postable kind z n = go (postedValue kind z) refl (tells-posted kind z)
   where
-    go : (a b c d : Bool) → cond (eqb kind 1) (cond (sameNumber z (pos 0)) (some null) none) (cond (eqb kind 3) (cond (inRange z) (some (num z)) none) none)
-        ≡ cond a (cond b (some null) none) (cond c (cond d (some (num z)) none) none)
-        → Tells (kind ≡ 1) a → Tells (z ≡ pos 0) b → Tells (kind ≡ 3) c → Refutes (BeyondRange z) d → Postable kind z
-    go true true c d e (holds p) (holds q) r s = record { value = null; posted = e; kind-is = sym p; number-is = sym q }
-    go true false c d e (holds p) (fails q) r s = absurd (n (nullNotZero p q))
-    go false b true true e (fails p) q (holds r) (right s) = record { value = num z; posted = e; kind-is = sym r; number-is = refl }
-    go false b true false e (fails p) q (holds r) (wrong s) = absurd (n (numberBeyond r s))
-    go false b false d e (fails p) q (fails r) s = absurd (n (kindOther p r))
+    go : (o : Option Value) → postedValue kind z ≡ o → Tells (NotPostable kind z) (isNone o) → Postable kind z
+    go none e (holds w) = absurd (n w)
+    go (some v) e t = let own = posted-some kind z v e .0 in record { value = v; posted = e; kind-is = sym (own .kind); number-is = sym (own .number) }
 
 -- What is demanded of a request.
 pub record TurnedBack (r : Request) (s : List ℕ) (kept : Office) : Type 0 where

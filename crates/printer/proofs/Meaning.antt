@@ -15,7 +15,7 @@ use lib.ListN.{length}
 use Rattle.circuit.specs.Calls.{test, firstCause}
 use Rattle.circuit.specs.Value.{Value, wellFormed, kindOf, numberOf}
 use Rattle.value.specs.Meaning.{partsOf}
-use Rattle.value.proofs.PartsLaws.{parts-own, parts-some}
+use Rattle.circuit.proofs.Parts.{parts-own, parts-some}
 use Rattle.printer.specs.declared.Printed.{Printed}
 use Rattle.printer.specs.declared.Printed.the-variants.{Length, Refused}
 use Rattle.printer.specs.Printing.{printed, textOf, noValue, scratchShort, printCause, partOf, withFront}

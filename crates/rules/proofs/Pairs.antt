@@ -1,7 +1,7 @@
 -- What the rules of two and three parents ask, case by case, over plain variables. Assumes nothing.
 use Prim.Native.Nat.{zero-le}
 use mathlib.Core.Bool.{Bool, true, false, cond, _&&_, _||_}
-use mathlib.Core.List.{[], _∷_}
+use mathlib.Core.List.{List, [], _∷_}
 use mathlib.Core.Path.{_≡_, refl, sym, ap, _∙_}
 use lib.IntN.{ℤ, pos, _-ℤ_}
 use lib.Signed.{leZ, ltZ}
@@ -50,6 +50,10 @@ number-fits v x f e w = rw (back x f, e) (go v w)
     go circuit.out w = size-inRange (pos 0) zero-le
     go (circuit.num z) w = w
 
+-- a rule that is NULL if either parent is, and else f of the two numbers
+abbrev bothRule : (ℤ → ℤ → circuit.Value) → List circuit.Value → circuit.Value
+bothRule f = rules.strict λ vs. rules.ofBoth f (rules.nth vs 0) (rules.nth vs 1)
+
 module _ (a b : circuit.Value) (t : Bool) (et : t ≡ (circuit.isOut a || circuit.isOut b)) where
   pub two-out : (op : rules.Operation) → t ≡ true → circuit.out ≡ rules.apply op (a ∷ b ∷ [])
   two-out op h = sym (any-out op (a ∷ b ∷ []) (anyOut-two a b ∙ sym et ∙ h))
@@ -62,13 +66,8 @@ module _ (a b : circuit.Value) (t : Bool) (et : t ≡ (circuit.isOut a || circui
     unfolding rules.apply
     difference-null n en h = rw (none-out, sym en ∙ h)
 
-    pub share-null : (n : Bool) → n ≡ (circuit.isNull a || circuit.isNull b) → n ≡ true → circuit.null ≡ rules.apply rules.share (a ∷ b ∷ [])
-    unfolding rules.apply
-    share-null n en h = rw (none-out, sym en ∙ h)
-
-    pub at-least-null : (n : Bool) → n ≡ (circuit.isNull a || circuit.isNull b) → n ≡ true → circuit.null ≡ rules.apply rules.atLeast (a ∷ b ∷ [])
-    unfolding rules.apply
-    at-least-null n en h = rw (none-out, sym en ∙ h)
+    pub either-null : (f : ℤ → ℤ → circuit.Value) (n : Bool) → n ≡ (circuit.isNull a || circuit.isNull b) → n ≡ true → circuit.null ≡ bothRule f (a ∷ b ∷ [])
+    either-null f n en h = rw (none-out, sym en ∙ h)
 
     module _ (x y : ℤ) (ex : x ≡ circuit.numberOf a) (ey : y ≡ circuit.numberOf b) (fx : SFits w64 x) (fy : SFits w64 y) where
       first-is : read x ≡ rules.orZero a
@@ -77,20 +76,19 @@ module _ (a b : circuit.Value) (t : Bool) (et : t ≡ (circuit.isOut a || circui
       second-is : read y ≡ rules.orZero b
       second-is = back y fy ∙ ey ∙ sym (orZero-is b)
 
-      pub difference-is : (n : Bool) → n ≡ (circuit.isNull a && circuit.isNull b) → n ≡ false → (d : ℤ) (r : circuit.Value) → SFits w64 d → d ≡ (read x -ℤ read y) → r ≡ circuit.ranged (read d) → r ≡ rules.apply rules.difference (a ∷ b ∷ [])
+      pub difference-is : (n : Bool) → n ≡ (circuit.isNull a && circuit.isNull b) → n ≡ false → (d : ℤ) (r : circuit.Value)
+          → SFits w64 d → d ≡ (read x -ℤ read y) → r ≡ circuit.ranged (read d) → r ≡ rules.apply rules.difference (a ∷ b ∷ [])
       unfolding rules.apply
       difference-is n en h d r f ed er =
           let k : read d ≡ (rules.orZero a -ℤ rules.orZero b) = rw (back d f, ed, first-is, second-is) in
           er ∙ rw (k, none-out, sym en ∙ h)
 
-      pub share-is : (n : Bool) → n ≡ (circuit.isNull a || circuit.isNull b) → n ≡ false → (r : circuit.Value) → r ≡ rules.shareOf (read x) (read y) → r ≡ rules.apply rules.share (a ∷ b ∷ [])
-      unfolding rules.apply
-      share-is n en h r er = er ∙ rw (first-is, second-is, none-out, sym en ∙ h)
+      pub both-is : (f : ℤ → ℤ → circuit.Value) (n : Bool) → n ≡ (circuit.isNull a || circuit.isNull b) → n ≡ false → (r : circuit.Value) → r ≡ f (read x) (read y) → r ≡ bothRule f (a ∷ b ∷ [])
+      both-is f n en h r er = er ∙ rw (first-is, second-is, none-out, sym en ∙ h)
 
-      pub at-least-is : (n : Bool) → n ≡ (circuit.isNull a || circuit.isNull b) → n ≡ false → (t : Bool) → leZ (read y) (read x) ≡ t → (r : circuit.Value) → r ≡ circuit.ranged (cond t (pos 1) (pos 0)) → r ≡ rules.apply rules.atLeast (a ∷ b ∷ [])
-      unfolding rules.apply
-      at-least-is n en h t et r er =
-          er ∙ sym (rw (none-out, sym en ∙ h, rw (first-is, second-is) at et))
+-- at least, by the answer of its test
+pub at-least-by : (x y : ℤ) (t : Bool) → leZ y x ≡ t → (r : circuit.Value) → r ≡ circuit.ranged (cond t (pos 1) (pos 0)) → r ≡ rules.atLeastOf x y
+at-least-by x y t e r er = er ∙ sym (rw e)
 
 module _ (a b c : circuit.Value) (s t : Bool) (es : s ≡ circuit.isOut a) (et : t ≡ (circuit.isOut b || circuit.isOut c)) where
   pub first-out : s ≡ true → circuit.out ≡ rules.apply rules.choice (a ∷ b ∷ c ∷ [])
@@ -107,6 +105,7 @@ module _ (a b c : circuit.Value) (s t : Bool) (es : s ≡ circuit.isOut a) (et :
     unfolding rules.apply
     choice-null n en h = rw (three-in, sym en ∙ h)
 
-    pub choice-is : (n : Bool) → n ≡ circuit.isNull a → n ≡ false → (x : ℤ) → x ≡ circuit.numberOf a → SFits w64 x → (u : Bool) → ltZ (pos 0) (read x) ≡ u → cond u b c ≡ rules.apply rules.choice (a ∷ b ∷ c ∷ [])
+    pub choice-is : (n : Bool) → n ≡ circuit.isNull a → n ≡ false → (x : ℤ) → x ≡ circuit.numberOf a → SFits w64 x
+        → (u : Bool) → ltZ (pos 0) (read x) ≡ u → cond u b c ≡ rules.apply rules.choice (a ∷ b ∷ c ∷ [])
     unfolding rules.apply
     choice-is n en h x ex f u eu = rw (three-in, sym en ∙ h, rw (back x f ∙ ex ∙ sym (orZero-is a)) at eu)

@@ -9,7 +9,7 @@ ghost use Rattle.circuit.specs.Value as circuit;
 ghost use Rattle.circuit.specs.Rules as rules;
 ghost use Rattle.circuit.specs.WellFormed.{allWellFormed};
 ghost use Rattle.value.specs.Meaning.{meaning, firstValues};
-ghost use Rattle.rules.specs.Operations.{operationMeaning, refuses, allows, Applied};
+ghost use Rattle.rules.specs.Operations.{operationMeaning, allows, Applied};
 use value::Value;
 
 // A share is counted in parts of this whole.
@@ -65,23 +65,6 @@ pub fn operation_of(code: u8, count: usize) -> Operation
             _ => Operation::Refused,
         },
         _ => Operation::Refused,
-    }
-}
-
-// Whether the rule or its count of parents was refused.
-pub fn is_refused(op: Operation) -> bool
-    ensures { λ r. ⌜ r ≡ refuses (operationMeaning op) ⌝ }
-{
-    match op {
-        Operation::Sum => false,
-        Operation::Difference => false,
-        Operation::Smallest => false,
-        Operation::Largest => false,
-        Operation::Share => false,
-        Operation::Choice => false,
-        Operation::Count => false,
-        Operation::AtLeast => false,
-        Operation::Refused => true,
     }
 }
 

@@ -17,7 +17,7 @@ use mir.Val.{SFits, toZ, ofZ}
 use mir.ValLaws.{toZ-ofZ}
 use Rattle.word.specs.Word.{le64At, bytes64}
 use Rattle.word.proofs.Bytes.{le64At-part}
-use Rattle.circuit.specs.Value.{Value, null, out, num, inRange, sameNumber, kindOf, numberOf}
+use Rattle.circuit.specs.Value.{Value, inRange, sameNumber, kindOf, numberOf, ofParts}
 use Rattle.circuit.specs.Table.{Mark, unmarked, refresh, notice, Cell, unk, held}
 use Rattle.value.specs.declared.Value as values
 use Rattle.value.specs.Meaning.{meaning}
@@ -26,7 +26,7 @@ use Rattle.table.specs.declared.Cell.{Cell as CellOfCode}
 use Rattle.table.specs.declared.Cell.the-variants.{Unk, Held}
 use Rattle.table.specs.Meaning.{markMeaning, cellMeaning}
 use Rattle.table.specs.Rows.{row, setRow}
-use Rattle.table.specs.Record.{width, kindIn, markIn, numberIn, recordOf, markCode, markCoded, valueCoded, cellCoded, encodeCell, decodeCell, codesForm, numberForm, recordForm}
+use Rattle.table.specs.Record.{width, kindIn, markIn, numberIn, recordOf, markCode, markCoded, cellCoded, encodeCell, decodeCell, codesForm, numberForm, recordForm}
 use Rattle.table.proofs.Rows.{getD-row}
 
 -- ---- codes
@@ -40,19 +40,10 @@ mark-notice m e = rw e
 pub mark-other : (m : ℕ) → (m ≡ 1 → ⊥) → (m ≡ 2 → ⊥) → unmarked ≡ markCoded m
 mark-other m a b = rw (ne-eqb m 1 a, ne-eqb m 2 b)
 
-pub value-null : (k : ℕ) (z : ℤ) → k ≡ 1 → null ≡ valueCoded k z
-value-null k z e = rw e
-
-pub value-out : (k : ℕ) (z : ℤ) → k ≡ 2 → out ≡ valueCoded k z
-value-out k z e = rw e
-
-pub value-number : (k : ℕ) (z : ℤ) (v : Value) → (k ≡ 1 → ⊥) → (k ≡ 2 → ⊥) → SFits w64 z → v ≡ num (toZ w64 (ofZ w64 z)) → v ≡ valueCoded k z
-value-number k z v a b fits e = rw (ne-eqb k 1 a, ne-eqb k 2 b) (e ∙ ap num (toZ-ofZ w64 z fits))
-
 pub cell-unk : (k m : ℕ) (z : ℤ) → k ≡ 0 → unk (eqb m 2) ≡ cellCoded k m z
 cell-unk k m z e = rw e
 
-pub cell-held : (k m : ℕ) (z : ℤ) (v : Value) (n : Mark) → (k ≡ 0 → ⊥) → SFits w64 z → v ≡ valueCoded k (toZ w64 (ofZ w64 z)) → n ≡ markCoded m → held v n ≡ cellCoded k m z
+pub cell-held : (k m : ℕ) (z : ℤ) (v : Value) (n : Mark) → (k ≡ 0 → ⊥) → SFits w64 z → v ≡ ofParts k (toZ w64 (ofZ w64 z)) → n ≡ markCoded m → held v n ≡ cellCoded k m z
 cell-held k m z v n a fits ev en = rw (ne-eqb k 0 a, ev, en, toZ-ofZ w64 z fits)
 
 -- ---- a record of the table, by its bytes

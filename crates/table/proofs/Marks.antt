@@ -8,9 +8,10 @@ use lib.Dec.{eqb}
 use lib.IntN.{ℤ}
 use lib.ListN.{getD}
 use borrow.Author.Tests.{ne-eqb, eqb-true, eqb-false}
+use Rattle.circuit.specs.Value.{ofParts}
 use Rattle.circuit.specs.Table.{Table, markOf, isMarked, isNotice, unk, held, unmarked, refresh, notice}
 use Rattle.table.specs.Rows.{row}
-use Rattle.table.specs.Record.{width, kindIn, markIn, numberIn, cellCoded, decodeCell, valueCoded}
+use Rattle.table.specs.Record.{width, kindIn, markIn, numberIn, cellCoded, decodeCell}
 use Rattle.table.specs.Bytes.{LowestMarked}
 use Rattle.table.proofs.Cases.{kind-read, mark-read}
 
@@ -18,7 +19,7 @@ noticed-coded : (k m : ℕ) (z : ℤ) → eqb m 2 ≡ isNotice (markOf (cellCode
 noticed-coded k m z = go (eqb k 0) (eqb m 1) (eqb m 2) refl refl
   where
     go : (a b c : Bool) → eqb m 1 ≡ b → eqb m 2 ≡ c
-        → c ≡ isNotice (markOf (cond a (unk c) (held (valueCoded k z) (cond b refresh (cond c notice unmarked)))))
+        → c ≡ isNotice (markOf (cond a (unk c) (held (ofParts k z) (cond b refresh (cond c notice unmarked)))))
     go true b true e f = refl
     go true b false e f = refl
     go false true true e f = absurd (omega (arith, eqb-true m 1 e, eqb-true m 2 f))
@@ -30,21 +31,21 @@ noticed-coded k m z = go (eqb k 0) (eqb m 1) (eqb m 2) refl refl
 unmarked-coded : (k m : ℕ) (z : ℤ) → (m ≡ 1 → ⊥) → (m ≡ 2 → ⊥) → false ≡ isMarked (cellCoded k m z)
 unmarked-coded k m z n₁ n₂ = rw (ne-eqb m 1 n₁, ne-eqb m 2 n₂) (go (eqb k 0))
   where
-    go : (a : Bool) → false ≡ isMarked (cond a (unk false) (held (valueCoded k z) unmarked))
+    go : (a : Bool) → false ≡ isMarked (cond a (unk false) (held (ofParts k z) unmarked))
     go true = refl
     go false = refl
 
 refresh-coded : (k m : ℕ) (z : ℤ) → m ≡ 1 → not (eqb k 0) ≡ isMarked (cellCoded k m z)
 refresh-coded k m z e = rw e (go (eqb k 0))
   where
-    go : (a : Bool) → not a ≡ isMarked (cond a (unk false) (held (valueCoded k z) refresh))
+    go : (a : Bool) → not a ≡ isMarked (cond a (unk false) (held (ofParts k z) refresh))
     go true = refl
     go false = refl
 
 notice-coded : (k m : ℕ) (z : ℤ) → m ≡ 2 → true ≡ isMarked (cellCoded k m z)
 notice-coded k m z e = rw e (go (eqb k 0))
   where
-    go : (a : Bool) → true ≡ isMarked (cond a (unk true) (held (valueCoded k z) notice))
+    go : (a : Bool) → true ≡ isMarked (cond a (unk true) (held (ofParts k z) notice))
     go true = refl
     go false = refl
 

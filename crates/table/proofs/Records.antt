@@ -14,9 +14,9 @@ use mir.Val.{SFits, toZ, ofZ}
 use Rattle.word.specs.Word.{Bytes, bytes64}
 use Rattle.word.proofs.Bytes.{leAt-drop, signed-again, bytes-again, length-bytes64, bytes-cons, bytes-leBytes}
 use Rattle.circuit.proofs.RuleLaws.{and-left, and-right}
-use Rattle.circuit.specs.Value.{Value, null, out, num, limit, inRange, sameNumber, kindOf, numberOf, isOut, wellFormed}
+use Rattle.circuit.specs.Value.{Value, null, out, num, limit, inRange, sameNumber, kindOf, numberOf, ofParts, isOut, wellFormed}
 use Rattle.circuit.specs.Table.{Mark, unmarked, refresh, notice, Cell, unk, held, noticeIf, valueIn, isStored, isMarked, entryForm}
-use Rattle.table.specs.Record.{width, kindIn, markIn, numberIn, recordOf, markCode, markCoded, valueCoded, cellCoded, encodeCell, decodeCell, allowed, codesForm, numberForm, recordForm, mayHold}
+use Rattle.table.specs.Record.{width, kindIn, markIn, numberIn, recordOf, markCode, markCoded, cellCoded, encodeCell, decodeCell, allowed, codesForm, numberForm, recordForm, mayHold}
 
 -- a number within the range is one of 64 bits
 pub range-fits : (z : ℤ) → inRange z ≡ true → SFits w64 z
@@ -259,7 +259,7 @@ pub stored-byte : (r : List ℕ) → isStored (decodeCell r) ≡ not (eqb (kindI
 unfolding decodeCell
 stored-byte r = go (eqb (kindIn r) 0)
   where
-    go : (b : Bool) → isStored (cond b (unk (eqb (markIn r) 2)) (held (valueCoded (kindIn r) (numberIn r)) (markCoded (markIn r)))) ≡ not b
+    go : (b : Bool) → isStored (cond b (unk (eqb (markIn r) 2)) (held (ofParts (kindIn r) (numberIn r)) (markCoded (markIn r)))) ≡ not b
     go true = refl
     go false = refl
 

@@ -6,7 +6,7 @@ use lib.Dec.{leb, eqb}
 use lib.IntN.{ℤ, pos}
 use lib.ListN.{getD}
 use Rattle.word.specs.Word.{le64At, bytes64}
-use Rattle.circuit.specs.Value.{Value, null, out, num, inRange, sameNumber, kindOf, numberOf, isOut, wellFormed}
+use Rattle.circuit.specs.Value.{inRange, sameNumber, kindOf, numberOf, ofParts, isOut, wellFormed}
 use Rattle.circuit.specs.Table.{Mark, unmarked, refresh, notice, Cell, unk, held, noticeIf, valueIn, entryForm}
 
 -- how many bytes an item has
@@ -35,12 +35,9 @@ markCode notice = 2
 abbrev pub markCoded : ℕ → Mark
 markCoded m = cond (eqb m 1) refresh (cond (eqb m 2) notice unmarked)
 
--- kind: 0 UNK, 1 NULL, 2 OUT, 3 number
-abbrev pub valueCoded : ℕ → ℤ → Value
-valueCoded k z = cond (eqb k 1) null (cond (eqb k 2) out (num z))
-
+-- kind: 0 UNK, else a value's
 abbrev pub cellCoded : ℕ → ℕ → ℤ → Cell
-cellCoded k m z = cond (eqb k 0) (unk (eqb m 2)) (held (valueCoded k z) (markCoded m))
+cellCoded k m z = cond (eqb k 0) (unk (eqb m 2)) (held (ofParts k z) (markCoded m))
 
 unfoldable pub encodeCell : Cell → List ℕ
 encodeCell (unk b) = recordOf 0 (markCode (noticeIf b)) (pos 0)

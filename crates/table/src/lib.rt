@@ -6,7 +6,7 @@ ghost use lib.Seq.{sets};
 ghost use Rattle.circuit.specs.Table.{markOf, isMarked, isNotice};
 ghost use Rattle.value.specs.Meaning.{meaning};
 ghost use Rattle.table.specs.Rows.{row, setRow};
-ghost use Rattle.table.specs.Record.{width, recordOf, markCode, markCoded, valueCoded, cellCoded, encodeCell, decodeCell, codesForm, numberForm, recordForm};
+ghost use Rattle.table.specs.Record.{width, recordOf, markCode, markCoded, cellCoded, encodeCell, decodeCell, codesForm, numberForm, recordForm};
 ghost use Rattle.table.specs.Bytes.{decodeTable, LowestMarked};
 ghost use Rattle.table.specs.Meaning.{markMeaning, cellMeaning};
 use value::Value;
@@ -47,17 +47,6 @@ fn mark_coded(code: u8) -> Mark
     }
 }
 
-// 1 NULL, 2 OUT, 3 a number.
-fn value_coded(kind: u8, number: i64) -> Value
-    ensures { λ r. ⌜ meaning r ≡ valueCoded kind number ⌝ }
-{
-    match kind {
-        1 => Value::NULL,
-        2 => Value::OUT,
-        _ => Value::number(number),
-    }
-}
-
 // Kind 0 is UNK.
 fn cell_coded(kind: u8, mark: u8, number: i64) -> Cell
     ensures { λ r. ⌜ cellMeaning r ≡ cellCoded kind mark number ⌝ }
@@ -65,7 +54,7 @@ fn cell_coded(kind: u8, mark: u8, number: i64) -> Cell
     if kind == 0 {
         Cell::Unk(mark == 2)
     } else {
-        Cell::Held(value_coded(kind, number), mark_coded(mark))
+        Cell::Held(Value::of_parts(kind, number), mark_coded(mark))
     }
 }
 

@@ -1,12 +1,12 @@
 -- The tally of a list of values: how it grows by one value, that there is room for the next, and what it says of the
 -- list's numbers. Assumes nothing.
-use Prim.Native.Nat.{ℕ, _+_, _*_, _≤_, _<_}
+use Prim.Native.Nat.{_+_, _*_, _≤_, _<_}
 use mathlib.Core.Bool.{Bool, true, false, cond, _||_}
 use mathlib.Core.List.{List, [], _∷_, _++_}
-use mathlib.Core.Path.{_≡_, refl, sym, ap, _∙_}
+use mathlib.Core.Path.{_≡_, refl, ap, _∙_}
 use native.Mathlib.Nat.{zero-mul, suc-mul, mul-le-mul-right}
 use native.Mathlib.Omega.{arith}
-use borrow.Author.Tests.{eqb-true, ne-eqb}
+use borrow.Author.Tests.{eqb-true, eq-eqb, ne-eqb}
 use lib.Dec.{eqb}
 use lib.IntN.{ℤ, pos, natAbs, _+ℤ_}
 use lib.ListN.{length}
@@ -14,13 +14,12 @@ use mir.Syntax.{w64}
 use mir.Val.{SFits, toZ}
 use mir.ValLaws.{toZ-pos}
 use Rattle.circuit.proofs.RuleLaws.{add-size, inRange-size, and-left, and-right}
-use Rattle.circuit.specs.Rules.{anyOut, numbers, ofNumbers, strict, total, least, greatest, lesser, greater, howMany}
+use Rattle.circuit.specs.Rules.{sum, smallest, largest, count, apply, anyOut, numbers, ofNumbers, strict, total, least, greatest, lesser, greater, howMany}
 use Rattle.circuit.specs.Value.{Value, null, out, num, limit, wellFormed, ranged}
 use Rattle.circuit.specs.WellFormed.{allWellFormed}
-use Rattle.value.specs.Meaning.{firstValues}
-use Rattle.tally.specs.Tally.{Room, empty, counted, taken, takenAll}
+use Rattle.tally.specs.Tally.{Room, empty, counted, taken, takenAll, ruleResult}
 use Rattle.tally.specs.declared.Tally.{Tally}
-use Rattle.value.proofs.Parents.{firstValues-length}
+use Rattle.value.proofs.Signed.{back, read}
 
 -- one more value at the end
 pub takenAll-snoc : (vs : List Value) (t : Tally) (v : Value) → takenAll t (vs ++ (v ∷ [])) ≡ taken (takenAll t vs) v
@@ -110,10 +109,17 @@ further (num z ∷ vs) t e = go (further vs next (ne-eqb (t .count + 1) 0 λ q. 
     go : Further next (takenAll next vs) (numbers vs) → Further t (takenAll (counted t z) vs) (z ∷ numbers vs)
     go f = rw e (record { count = omega (arith, f .count); total = f .total; least = f .least; greatest = f .greatest })
 
--- u is a tally of the numbers zs from nothing
+-- u is a tally of the numbers z and zs
+record Tallied (u : Tally) (z : ℤ) (zs : List ℤ) : Type 0 where
+  count : u .count ≡ length (z ∷ zs)
+  total : u .total ≡ total z zs
+  least : u .least ≡ least z zs
+  greatest : u .greatest ≡ greatest z zs
+
+-- u is a tally of numbers from nothing
 data Fresh (u : Tally) : List ℤ → Type 0 where
   none : u .count ≡ 0 → Fresh u []
-  some : (z : ℤ) (zs : List ℤ) → u .count ≡ length (z ∷ zs) → u .total ≡ total z zs → u .least ≡ least z zs → u .greatest ≡ greatest z zs → Fresh u (z ∷ zs)
+  some : (z : ℤ) (zs : List ℤ) → Tallied u z zs → Fresh u (z ∷ zs)
 
 fresh : (vs : List Value) (t : Tally) → eqb (t .count) 0 ≡ true → Fresh (takenAll t vs) (numbers vs)
 unfolding takenAll numbers
@@ -126,67 +132,43 @@ fresh (num z ∷ vs) t e = go (further vs first refl)
     first = record { out = t .out; count = 1; total = z; least = z; greatest = z }
 
     go : Further first (takenAll first vs) (numbers vs) → Fresh (takenAll (counted t z) vs) (z ∷ numbers vs)
-    go f = rw e (some z (numbers vs) (omega (arith, f .count)) (f .total) (f .least) (f .greatest))
+    go f = rw e (some z (numbers vs) (record { count = omega (arith, f .count); total = f .total; least = f .least; greatest = f .greatest }))
 
 -- ---- the rules for any number of parents
 
-no-number : (f : ℤ → List ℤ → ℤ) {u : Tally} {zs : List ℤ} → Fresh u zs → u .count ≡ 0 → ofNumbers f zs ≡ null
-no-number f (none e) q = refl
-no-number f (some z zs k a b c) q = absurd (omega arith)
-
-total-of : {u : Tally} {zs : List ℤ} → Fresh u zs → (u .count ≡ 0 → ⊥) → ofNumbers total zs ≡ ranged (u .total)
-total-of (none e) q = absurd (q e)
-total-of (some z zs k a b c) q = ap ranged (sym a)
-
-least-of : {u : Tally} {zs : List ℤ} → Fresh u zs → (u .count ≡ 0 → ⊥) → ofNumbers least zs ≡ ranged (u .least)
-least-of (none e) q = absurd (q e)
-least-of (some z zs k a b c) q = ap ranged (sym b)
-
-greatest-of : {u : Tally} {zs : List ℤ} → Fresh u zs → (u .count ≡ 0 → ⊥) → ofNumbers greatest zs ≡ ranged (u .greatest)
-greatest-of (none e) q = absurd (q e)
-greatest-of (some z zs k a b c) q = ap ranged (sym c)
-
-count-of : {u : Tally} {zs : List ℤ} → Fresh u zs → (u .count ≡ 0 → ⊥) → ofNumbers howMany zs ≡ ranged (pos (u .count))
-count-of (none e) q = absurd (q e)
-count-of (some z zs k a b c) q = ap (λ (n : ℕ). ranged (pos n)) (sym k)
-
--- the rule of f: any OUT gives OUT, no number NULL, and else f of the numbers
-abbrev pub ruleOf : (ℤ → List ℤ → ℤ) → List Value → Value
-ruleOf f = strict λ vs. ofNumbers f (numbers vs)
-
 module _ (vs : List Value) (t : Tally) (is : t ≡ takenAll empty vs) where
-  taken-fresh : Fresh t (numbers vs)
-  taken-fresh = rw is (fresh vs empty refl)
+  -- the rule of f, where z is what f makes of the numbers
+  rule-is : (f : ℤ → List ℤ → ℤ) (z : ℤ) → ((y : ℤ) (ys : List ℤ) → Tallied t y ys → z ≡ f y ys)
+      → ruleResult t z ≡ strict (λ vs. ofNumbers f (numbers vs)) vs
+  rule-is f z q = rw out-is (ap (cond (anyOut vs) out) (go {zs = numbers vs} all))
+    where
+      all : Fresh t (numbers vs)
+      all = rw is (fresh vs empty refl)
 
-  out-is : t .out ≡ anyOut vs
-  out-is = rw is (takenAll-out vs empty)
+      out-is : t .out ≡ anyOut vs
+      out-is = rw is (takenAll-out vs empty)
 
-  pub rule-out : (f : ℤ → List ℤ → ℤ) → t .out ≡ true → out ≡ ruleOf f vs
-  rule-out f e = rw (sym out-is ∙ e)
+      go : {zs : List ℤ} → Fresh t zs → cond (eqb (t .count) 0) null (ranged z) ≡ ofNumbers f zs
+      go (none e) = rw (eq-eqb (t .count) 0 e)
+      go (some y ys r) = rw (ne-eqb (t .count) 0 (λ e. omega (arith, r .count)), q y ys r)
 
-  pub rule-null : (f : ℤ → List ℤ → ℤ) → t .out ≡ false → t .count ≡ 0 → null ≡ ruleOf f vs
-  rule-null f e q = rw (sym out-is ∙ e) (sym (no-number f taken-fresh q))
+  pub sum-is : SFits w64 (t .total) → ruleResult t (read (t .total)) ≡ apply sum vs
+  unfolding apply
+  sum-is f = rule-is total (read (t .total)) (λ y ys r. back (t .total) f ∙ r .total)
 
-  pub rule-total : t .out ≡ false → (t .count ≡ 0 → ⊥) → ranged (t .total) ≡ ruleOf total vs
-  rule-total e q = rw (sym out-is ∙ e) (sym (total-of taken-fresh q))
+  pub smallest-is : SFits w64 (t .least) → ruleResult t (read (t .least)) ≡ apply smallest vs
+  unfolding apply
+  smallest-is f = rule-is least (read (t .least)) (λ y ys r. back (t .least) f ∙ r .least)
 
-  pub rule-least : t .out ≡ false → (t .count ≡ 0 → ⊥) → ranged (t .least) ≡ ruleOf least vs
-  rule-least e q = rw (sym out-is ∙ e) (sym (least-of taken-fresh q))
+  pub largest-is : SFits w64 (t .greatest) → ruleResult t (read (t .greatest)) ≡ apply largest vs
+  unfolding apply
+  largest-is f = rule-is greatest (read (t .greatest)) (λ y ys r. back (t .greatest) f ∙ r .greatest)
 
-  pub rule-greatest : t .out ≡ false → (t .count ≡ 0 → ⊥) → ranged (t .greatest) ≡ ruleOf greatest vs
-  rule-greatest e q = rw (sym out-is ∙ e) (sym (greatest-of taken-fresh q))
+  -- the count as a signed number
+  module _ (h : length vs ≤ 16) where
+    pub count-fits : SFits w64 (pos (t .count))
+    count-fits = record { sfits = omega (arith, ap (λ (u : Tally). u .count) is, takenAll-count vs empty) }
 
-  pub rule-count : t .out ≡ false → (t .count ≡ 0 → ⊥) → ranged (pos (t .count)) ≡ ruleOf howMany vs
-  rule-count e q = rw (sym out-is ∙ e) (sym (count-of taken-fresh q))
-
--- ---- the count as a signed number
-
-module _ (ks : List ℕ) (zs : List ℤ) (n : ℕ) (t : Tally) (is : t ≡ takenAll empty (firstValues ks zs n)) (h : n ≤ 16) where
-  small : t .count ≤ 16
-  small = omega (arith, ap (λ (u : Tally). u .count) is, takenAll-count (firstValues ks zs n) empty, firstValues-length ks zs n)
-
-  pub count-fits : SFits w64 (pos (t .count))
-  count-fits = record { sfits = omega (arith, small) }
-
-  pub count-back : toZ w64 (t .count) ≡ pos (t .count)
-  count-back = toZ-pos w64 (t .count) (count-fits .sfits)
+    pub count-is : ruleResult t (toZ w64 (t .count)) ≡ apply count vs
+    unfolding apply
+    count-is = rule-is howMany (toZ w64 (t .count)) (λ y ys r. toZ-pos w64 (t .count) (count-fits .sfits) ∙ ap pos (r .count))

@@ -5,7 +5,7 @@ use mathlib.Core.List.{List, [], _∷_}
 use lib.Dec.{eqb}
 use lib.IntN.{ℤ, pos, _+ℤ_, natAbs}
 use Rattle.circuit.specs.Rules.{lesser, greater}
-use Rattle.circuit.specs.Value.{Value, null, out, num, limit}
+use Rattle.circuit.specs.Value.{Value, null, out, num, limit, ranged}
 use Rattle.tally.specs.declared.Tally.{Tally}
 
 -- nothing taken yet
@@ -34,3 +34,7 @@ takenAll t (v ∷ vs) = takenAll (taken t v) vs
 pub record Room (t : Tally) : Type 0 where
   pub count : t .count < 16
   pub total : natAbs (t .total) ≤ 15 * limit
+
+-- the result of a rule that makes z of the numbers
+abbrev pub ruleResult : Tally → ℤ → Value
+ruleResult t z = cond (t .out) out (cond (eqb (t .count) 0) null (ranged z))

@@ -9,7 +9,7 @@ ghost use Rattle.circuit.specs.Value as circuit;
 ghost use Rattle.circuit.specs.Rules as rules;
 ghost use Rattle.circuit.specs.WellFormed.{allWellFormed};
 ghost use Rattle.value.specs.Meaning.{meaning, firstValues};
-ghost use Rattle.tally.specs.Tally.{Room, empty, counted, taken, takenAll};
+ghost use Rattle.tally.specs.Tally.{Room, empty, counted, taken, takenAll, ruleResult};
 use value::Amount;
 use value::Value;
 
@@ -114,18 +114,25 @@ fn tally_of(kinds: &[u8; 16], numbers: &[i64; 16], n: usize) -> Tally
     t
 }
 
-pub fn sum(kinds: &[u8; 16], numbers: &[i64; 16], n: usize) -> Value
-    requires { ⌜ n ≤ 16 ⌝ ∗ ⌜ allWellFormed (firstValues (now kinds) (now numbers) n) ≡ true ⌝ }
-    ensures { λ r. ⌜ meaning r ≡ rules.apply rules.sum (firstValues (now (kinds .entry)) (now (numbers .entry)) n) ⌝ }
+// The result of a rule that makes n of the numbers.
+fn ruled(t: Tally, n: i64) -> Value
+    ensures { λ r. ⌜ meaning r ≡ ruleResult t n ⌝ }
 {
-    let t = tally_of(kinds, numbers, n);
     if t.out {
         return Value::OUT;
     }
     if t.count == 0 {
         return Value::NULL;
     }
-    Value::exact(t.total)
+    Value::exact(n)
+}
+
+pub fn sum(kinds: &[u8; 16], numbers: &[i64; 16], n: usize) -> Value
+    requires { ⌜ n ≤ 16 ⌝ ∗ ⌜ allWellFormed (firstValues (now kinds) (now numbers) n) ≡ true ⌝ }
+    ensures { λ r. ⌜ meaning r ≡ rules.apply rules.sum (firstValues (now (kinds .entry)) (now (numbers .entry)) n) ⌝ }
+{
+    let t = tally_of(kinds, numbers, n);
+    ruled(t, t.total)
 }
 
 pub fn smallest(kinds: &[u8; 16], numbers: &[i64; 16], n: usize) -> Value
@@ -133,13 +140,7 @@ pub fn smallest(kinds: &[u8; 16], numbers: &[i64; 16], n: usize) -> Value
     ensures { λ r. ⌜ meaning r ≡ rules.apply rules.smallest (firstValues (now (kinds .entry)) (now (numbers .entry)) n) ⌝ }
 {
     let t = tally_of(kinds, numbers, n);
-    if t.out {
-        return Value::OUT;
-    }
-    if t.count == 0 {
-        return Value::NULL;
-    }
-    Value::exact(t.least)
+    ruled(t, t.least)
 }
 
 pub fn largest(kinds: &[u8; 16], numbers: &[i64; 16], n: usize) -> Value
@@ -147,13 +148,7 @@ pub fn largest(kinds: &[u8; 16], numbers: &[i64; 16], n: usize) -> Value
     ensures { λ r. ⌜ meaning r ≡ rules.apply rules.largest (firstValues (now (kinds .entry)) (now (numbers .entry)) n) ⌝ }
 {
     let t = tally_of(kinds, numbers, n);
-    if t.out {
-        return Value::OUT;
-    }
-    if t.count == 0 {
-        return Value::NULL;
-    }
-    Value::exact(t.greatest)
+    ruled(t, t.greatest)
 }
 
 pub fn count(kinds: &[u8; 16], numbers: &[i64; 16], n: usize) -> Value
@@ -161,11 +156,5 @@ pub fn count(kinds: &[u8; 16], numbers: &[i64; 16], n: usize) -> Value
     ensures { λ r. ⌜ meaning r ≡ rules.apply rules.count (firstValues (now (kinds .entry)) (now (numbers .entry)) n) ⌝ }
 {
     let t = tally_of(kinds, numbers, n);
-    if t.out {
-        return Value::OUT;
-    }
-    if t.count == 0 {
-        return Value::NULL;
-    }
-    Value::exact(t.count as i64)
+    ruled(t, t.count as i64)
 }

@@ -1,4 +1,3 @@
 pub mod Cases
 pub mod Parents
-pub mod PartsLaws
 pub mod Signed

@@ -6,23 +6,14 @@ use mathlib.Core.Path.{_≡_, refl, sym, subst, _∙_}
 use native.Mathlib.Decide.{decLe}
 use native.Mathlib.Numerals.{add-one}
 use native.Mathlib.Omega.{arith}
-use borrow.Author.Tests.{ne-eqb}
 use lib.IntN.{ℤ, pos}
-use lib.ListN.{length, getD, set, length-append}
+use lib.ListN.{length, set, length-append}
 use lib.Seq.{getD-set-same, getD-set-other}
-use mir.Syntax.{w64}
-use mir.Val.{SFits}
+use Rattle.circuit.proofs.Parts.{of-own-parts}
 use Rattle.circuit.proofs.RuleLaws.{allWellFormed-snoc, and-left, and-right}
-use Rattle.circuit.specs.Value.{Value, null, out, num, wellFormed, kindOf, numberOf}
+use Rattle.circuit.specs.Value.{Value, wellFormed, kindOf, numberOf}
 use Rattle.circuit.specs.WellFormed.{allWellFormed}
-use Rattle.value.specs.Meaning.{ofParts, valueAt, firstValues}
-use Rattle.value.proofs.Signed.{back, read}
-
--- a value is what its own kind and number stand for
-pub of-own-parts : (v : Value) → ofParts (kindOf v) (numberOf v) ≡ v
-of-own-parts null = refl
-of-own-parts out = refl
-of-own-parts (num z) = refl
+use Rattle.value.specs.Meaning.{valueAt, firstValues}
 
 pub firstValues-length : (ks : List ℕ) (zs : List ℤ) (n : ℕ) → length (firstValues ks zs n) ≡ n
 unfolding firstValues
@@ -68,7 +59,8 @@ firstValues-past ks zs (suc n) i k z h =
     )
 
 -- a value stored at n, as its kind and its number, is the last of the first n + 1
-pub firstValues-store : (ks : List ℕ) (zs : List ℤ) (n : ℕ) (v : Value) → n < length ks → n < length zs → firstValues (set ks n (kindOf v)) (set zs n (numberOf v)) (n + 1) ≡ firstValues ks zs n ++ (v ∷ [])
+pub firstValues-store : (ks : List ℕ) (zs : List ℤ) (n : ℕ) (v : Value) → n < length ks → n < length zs
+    → firstValues (set ks n (kindOf v)) (set zs n (numberOf v)) (n + 1) ≡ firstValues ks zs n ++ (v ∷ [])
 unfolding firstValues
 firstValues-store ks zs n v h l =
     rw (
@@ -78,14 +70,3 @@ firstValues-store ks zs n v h l =
       getD-set-same zs n (numberOf v) (pos 0) l,
       of-own-parts v,
     )
-
--- ---- reading one of them
-
-pub null-at : (ks : List ℕ) (zs : List ℤ) (k : ℕ) → getD ks k 0 ≡ 1 → null ≡ valueAt ks zs k
-null-at ks zs k e = rw e
-
-pub out-at : (ks : List ℕ) (zs : List ℤ) (k : ℕ) → getD ks k 0 ≡ 2 → out ≡ valueAt ks zs k
-out-at ks zs k e = rw e
-
-pub number-at : (ks : List ℕ) (zs : List ℤ) (k : ℕ) → (getD ks k 0 ≡ 1 → ⊥) → (getD ks k 0 ≡ 2 → ⊥) → SFits w64 (getD zs k (pos 0)) → (r : Value) → r ≡ num (read (getD zs k (pos 0))) → r ≡ valueAt ks zs k
-number-at ks zs k a b f r e = e ∙ rw (back (getD zs k (pos 0)) f, ne-eqb (getD ks k 0) 1 a, ne-eqb (getD ks k 0) 2 b)

@@ -23,9 +23,6 @@ pub fits : (z : ℤ) → natAbs z ≤ 16 * limit → SFits w64 z
 fits (pos n) h = record { sfits = omega (arith, sixteen-fit) }
 fits (negsuc n) h = record { sfits = omega (arith, sixteen-fit) }
 
-pub inRange-fits : (z : ℤ) → inRange z ≡ true → SFits w64 z
-inRange-fits z e = fits z (omega (arith, inRange-size z e))
-
 -- what is read back from the bits of z
 abbrev pub read : ℤ → ℤ
 read z = toZ w64 (ofZ w64 z)

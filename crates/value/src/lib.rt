@@ -1,9 +1,8 @@
 // A value: NULL, OUT or a number within the range, and the kind and number that it is taken apart into.
 ghost use mathlib.Core.Path.{_≡_};
 ghost use Prim.Native.Nat.{_<_};
-ghost use lib.IntN.{pos};
 ghost use Rattle.circuit.specs.Value as circuit;
-ghost use Rattle.value.specs.Meaning.{meaning, partsOf, partsMeaning, valueAt};
+ghost use Rattle.value.specs.Meaning.{meaning, partsMeaning, valueAt};
 
 pub enum Amount {
     // NULL: nothing recorded
@@ -18,17 +17,11 @@ pub struct Value {
     pub amount: Amount,
 }
 
-// The range: numbers run from -LIMIT to LIMIT. The only place of the code that has its size.
+// The range: numbers run from -LIMIT to LIMIT. The only place of the code that has its size; in_range's contract holds it to
+// the definition's.
 pub const LIMIT: i64 = 1_000_000_000_000;
 
 const LOWEST: i64 = -LIMIT;
-
-// The highest number of the range.
-pub fn limit() -> i64
-    ensures { λ r. ⌜ r ≡ pos circuit.limit ⌝ }
-{
-    LIMIT
-}
 
 pub fn in_range(n: i64) -> bool
     ensures { λ r. ⌜ r ≡ circuit.inRange n ⌝ }
@@ -116,9 +109,20 @@ impl Value {
         }
     }
 
+    // The value that was taken apart into a kind and a number.
+    pub fn of_parts(kind: u8, number: i64) -> Value
+        ensures { λ r. ⌜ meaning r ≡ circuit.ofParts kind number ⌝ }
+    {
+        match kind {
+            1 => Value::NULL,
+            2 => Value::OUT,
+            _ => Value::number(number),
+        }
+    }
+
     // A value from its kind and its number, if they are in form.
     pub fn from_parts(kind: u64, number: i64) -> Parts
-        ensures { λ r. ⌜ partsMeaning r ≡ partsOf kind number ⌝ }
+        ensures { λ r. ⌜ partsMeaning r ≡ circuit.partsOf kind number ⌝ }
     {
         match kind {
             1 => {
@@ -171,11 +175,5 @@ pub fn value_at(kinds: &[u8; 16], numbers: &[i64; 16], k: usize) -> Value
     requires { ⌜ k < 16 ⌝ }
     ensures { λ r. ⌜ meaning r ≡ valueAt (now (kinds .entry)) (now (numbers .entry)) k ⌝ }
 {
-    let kind = kinds[k];
-    let number = numbers[k];
-    match kind {
-        1 => Value::NULL,
-        2 => Value::OUT,
-        _ => Value::number(number),
-    }
+    Value::of_parts(kinds[k], numbers[k])
 }

@@ -1,11 +1,9 @@
-use Rattle.memo.proofs.Recalling.{forgotten, recalls}
+-- `memo::recalled` meets its contract. Assumes nothing.
 use mathlib.Core.Path.{sym}
 use borrow.Author.Needs.{needs}
+use Rattle.memo.proofs.Recalling.{forgotten, recalls}
 use Rattle.memo.proofs.recalled.Statement.{statement}
 use Rattle.memo.proofs.recalled.Tie as tie
-use Rattle.memo.proofs.recalled.Reads as reads
-use Rattle.memo.proofs.recalled.Lts as lts
-use Rattle.memo.proofs.value_of.Reads as value-of-reads
 
 mul-tag : tie.Need-mul-tag
 mul-tag c = search needs
@@ -14,7 +12,9 @@ shared-slice-read-tag : tie.Need-shared-slice-read-tag
 shared-slice-read-tag c = search needs
 
 returns : tie.Need-returns
-returns c = let a = c .before .before .before .args in sym (forgotten (a .tags .now) (a .numbers .now) (a .generation) (a .i) (c .if1 .taken))
+returns c =
+    let a = c .before .before .before .args in
+    sym (forgotten (a .tags .now) (a .numbers .now) (a .generation) (a .i) (c .if1 .taken))
 
 mul-number : tie.Need-mul-number
 mul-number c = search needs
@@ -22,11 +22,16 @@ mul-number c = search needs
 shared-slice-copy-out-number : tie.Need-shared-slice-copy-out-number
 shared-slice-copy-out-number c = search needs
 
-value-of-requires : tie.Need-value-of-requires
-value-of-requires c κs = search needs
+cast-of-parts : tie.Need-cast-of-parts
+cast-of-parts c = search needs
+
+of-parts-requires : tie.Need-of-parts-requires
+of-parts-requires c κs = search needs
 
 returns-2 : tie.Need-returns-2
-returns-2 c = let a = c .before .before .before .before .before .args in recalls (a .tags .now) (a .numbers .now) (a .generation) (a .i) _ (c .before .before .if1 .left) (search needs) (c .value-of .ensures)
+returns-2 c =
+    let a = c .before .before .before .before .before .args in
+    recalls (a .tags .now) (a .numbers .now) (a .generation) (a .i) _ (c .before .before .if1 .left) (search needs) (c .of-parts .ensures)
 
 pub recalled-spec : {M : Type 1} → statement M
 recalled-spec =
@@ -37,5 +42,6 @@ recalled-spec =
     returns
     mul-number
     shared-slice-copy-out-number
-    value-of-requires
+    cast-of-parts
+    of-parts-requires
     returns-2)

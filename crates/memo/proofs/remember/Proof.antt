@@ -1,13 +1,10 @@
+-- `memo::remember` meets its contract. Assumes nothing.
 use Rattle.value.proofs.Signed.{back}
 use lib.ListN.{set}
 use mathlib.Core.Path.{ap, _∙_}
 use borrow.Author.Needs.{needs}
 use Rattle.memo.proofs.remember.Statement.{statement}
 use Rattle.memo.proofs.remember.Tie as tie
-use Rattle.memo.proofs.remember.Reads as reads
-use Rattle.memo.proofs.remember.Lts as lts
-use Rattle.memo.proofs.tag_of.Reads as tag-of-reads
-use Rattle.value.proofs.Value.number_or_zero.Reads as number-or-zero-reads
 
 tag-of-requires : tie.Need-tag-of-requires
 tag-of-requires c κs = search needs
@@ -34,7 +31,9 @@ same-length-2 : tie.Need-same-length-2
 same-length-2 c = search needs
 
 returns : tie.Need-returns
-returns c = let a = c .before .before .before .before .args in (ap (λ x. set (a .tags .now) (a .i) x) (c .before .before .tag-of .ensures), ap (λ z. set (a .numbers .now) (a .i) z) (back _ (search needs) ∙ c .number-or-zero .ensures))
+returns c =
+    let a = c .before .before .before .before .args in
+    (ap (λ x. set (a .tags .now) (a .i) x) (c .before .before .tag-of .ensures), ap (λ z. set (a .numbers .now) (a .i) z) (back _ (search needs) ∙ c .number-or-zero .ensures))
 
 pub remember-spec : {M : Type 1} → statement M
 remember-spec =

@@ -1,7 +1,7 @@
 -- `printer::print_into` meets its contract. Assumes nothing.
 use mir.Syntax.{w64}
 use mir.ValLaws.{toZ-ofZ}
-use Rattle.value.proofs.PartsLaws.{parts-some}
+use Rattle.circuit.proofs.Parts.{parts-some}
 use Rattle.printer.proofs.Values.{formed, unformed, refused-value, refused-scratch, accepted}
 use borrow.Author.Needs.{needs}
 use Rattle.printer.proofs.print_into.Statement.{statement}

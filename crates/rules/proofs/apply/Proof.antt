@@ -1,11 +1,10 @@
 -- `rules::apply` meets its contract. Assumes nothing.
-use mathlib.Core.Path.{ap}
+use mathlib.Core.Path.{refl}
+use native.Mathlib.Omega.{arith}
 use borrow.Author.Needs.{needs}
-use borrow.Author.Tests.{eqb-true}
 use Rattle.circuit.specs.Rules as rules
 use Rattle.value.specs.Meaning.{meaning}
-use Rattle.rules.specs.Operations.{operationMeaning}
-use Rattle.rules.proofs.Applying.{more-than-0, more-than-1, up-to-sixteen, takes-count, applied-all, formed-at, applied-two, applied-three, takes-none}
+use Rattle.rules.proofs.Applying.{many-ask, applied-all, formed-at, applied-two, applied-three, takes-none}
 use Rattle.rules.proofs.apply.Statement.{statement}
 use Rattle.rules.proofs.apply.Tie as tie
 
@@ -14,12 +13,7 @@ enum-told c = search needs
 
 sum-requires : tie.Need-sum-requires
 unfolding rules.countAllowed
-sum-requires c κs =
-    let s = c .before .before in (
-      up-to-sixteen (s .args .n) (takes-count (s .args .op) rules.sum (ap operationMeaning (c .enum-told .given .1)) (s .args .kinds .now)
-          (s .args .numbers .now) (s .args .n) (s .pre .0) (s .pre .1)),
-      s .pre .1,
-    )
+sum-requires c κs = let s = c .before .before in many-ask _ _ (c .enum-told .given .1) rules.sum refl _ _ _ (s .pre .0) (s .pre .1) refl
 
 enum-told-2 : tie.Need-enum-told-2
 enum-told-2 c = search needs
@@ -33,41 +27,24 @@ value-at-requires-2 c κs = search needs
 difference-requires : tie.Need-difference-requires
 unfolding rules.countAllowed
 difference-requires c κs =
-    let s = c .before .before .before .before in (
-      formed-at (s .args .op) rules.difference (ap operationMeaning (c .before .before .enum-told2 .given .1)) (s .args .kinds .now)
-          (s .args .numbers .now) (s .args .n) (s .pre .0) (s .pre .1) 0 (meaning (c .before .value-at .result)) (more-than-0 (s .args .n)
-          (takes-count (s .args .op) rules.difference (ap operationMeaning (c .before .before .enum-told2 .given .1)) (s .args .kinds .now)
-          (s .args .numbers .now) (s .args .n) (s .pre .0) (s .pre .1))) (c .before .value-at .ensures),
-      formed-at (s .args .op)
-          rules.difference (ap operationMeaning (c .before .before .enum-told2 .given .1)) (s .args .kinds .now) (s .args .numbers .now)
-          (s .args .n) (s .pre .0) (s .pre .1) 1 (meaning (c .value-at2 .result)) (more-than-1 (s .args .n) (takes-count (s .args .op)
-          rules.difference (ap operationMeaning (c .before .before .enum-told2 .given .1)) (s .args .kinds .now) (s .args .numbers .now)
-          (s .args .n) (s .pre .0) (s .pre .1))) (c .value-at2 .ensures),
-    )
+    let told = c .before .before in
+    let s = told .before .before in
+    let formed = formed-at _ _ (told .enum-told2 .given .1) rules.difference refl _ _ _ (s .pre .0) (s .pre .1) refl in
+    (formed 0 (omega arith) _ (c .before .value-at .ensures), formed 1 (omega arith) _ (c .value-at2 .ensures))
 
 enum-told-3 : tie.Need-enum-told-3
 enum-told-3 c = search needs
 
 smallest-requires : tie.Need-smallest-requires
 unfolding rules.countAllowed
-smallest-requires c κs =
-    let s = c .before .before in (
-      up-to-sixteen (s .args .n) (takes-count (s .args .op) rules.smallest (ap operationMeaning (c .enum-told3 .given .1))
-          (s .args .kinds .now) (s .args .numbers .now) (s .args .n) (s .pre .0) (s .pre .1)),
-      s .pre .1,
-    )
+smallest-requires c κs = let s = c .before .before in many-ask _ _ (c .enum-told3 .given .1) rules.smallest refl _ _ _ (s .pre .0) (s .pre .1) refl
 
 enum-told-4 : tie.Need-enum-told-4
 enum-told-4 c = search needs
 
 largest-requires : tie.Need-largest-requires
 unfolding rules.countAllowed
-largest-requires c κs =
-    let s = c .before .before in (
-      up-to-sixteen (s .args .n) (takes-count (s .args .op) rules.largest (ap operationMeaning (c .enum-told4 .given .1))
-          (s .args .kinds .now) (s .args .numbers .now) (s .args .n) (s .pre .0) (s .pre .1)),
-      s .pre .1,
-    )
+largest-requires c κs = let s = c .before .before in many-ask _ _ (c .enum-told4 .given .1) rules.largest refl _ _ _ (s .pre .0) (s .pre .1) refl
 
 enum-told-5 : tie.Need-enum-told-5
 enum-told-5 c = search needs
@@ -81,11 +58,9 @@ value-at-requires-4 c κs = search needs
 share-requires : tie.Need-share-requires
 unfolding rules.countAllowed
 share-requires c κs =
-    let s = c .before .before .before .before in
-    formed-at (s .args .op) rules.share (ap operationMeaning (c .before .before .enum-told5 .given .1)) (s .args .kinds .now)
-    (s .args .numbers .now) (s .args .n) (s .pre .0) (s .pre .1) 0 (meaning (c .before .value-at3 .result)) (more-than-0
-    (s .args .n) (takes-count (s .args .op) rules.share (ap operationMeaning (c .before .before .enum-told5 .given .1)) (s .args .kinds .now)
-    (s .args .numbers .now) (s .args .n) (s .pre .0) (s .pre .1))) (c .before .value-at3 .ensures)
+    let told = c .before .before in
+    let s = told .before .before in
+    formed-at _ _ (told .enum-told5 .given .1) rules.share refl _ _ _ (s .pre .0) (s .pre .1) refl 0 (omega arith) (meaning (c .before .value-at3 .result)) (c .before .value-at3 .ensures)
 
 enum-told-6 : tie.Need-enum-told-6
 enum-told-6 c = search needs
@@ -107,12 +82,7 @@ enum-told-7 c = search needs
 
 count-requires : tie.Need-count-requires
 unfolding rules.countAllowed
-count-requires c κs =
-    let s = c .before .before in (
-      up-to-sixteen (s .args .n) (takes-count (s .args .op) rules.count (ap operationMeaning (c .enum-told7 .given .1)) (s .args .kinds .now)
-          (s .args .numbers .now) (s .args .n) (s .pre .0) (s .pre .1)),
-      s .pre .1,
-    )
+count-requires c κs = let s = c .before .before in many-ask _ _ (c .enum-told7 .given .1) rules.count refl _ _ _ (s .pre .0) (s .pre .1) refl
 
 enum-told-8 : tie.Need-enum-told-8
 enum-told-8 c = search needs
@@ -132,66 +102,54 @@ enum-told-9 c = search needs
 returns : tie.Need-returns
 returns c =
     let s = c .before .before .before in
-    applied-all (s .args .op) rules.sum (ap operationMeaning (c .before .enum-told .given .1)) (s .args .kinds .now) (s .args .numbers .now)
-    (s .args .n) (s .pre .0) (s .pre .1) (c .sum .result) (c .sum .ensures)
+    applied-all _ _ (c .before .enum-told .given .1) rules.sum refl _ _ _ (s .pre .0) (s .pre .1) (c .sum .result) (c .sum .ensures)
 
 returns-2 : tie.Need-returns-2
 unfolding rules.countAllowed
 returns-2 c =
-    let s = c .before .before .before .before .before in
-    applied-two (s .args .op) rules.difference (ap operationMeaning (c .before .before .before .enum-told2 .given .1)) (s .args .kinds .now)
-    (s .args .numbers .now) (s .args .n) (s .pre .0) (s .pre .1) (eqb-true (s .args .n) 2 (takes-count (s .args .op)
-    rules.difference (ap operationMeaning (c .before .before .before .enum-told2 .given .1)) (s .args .kinds .now) (s .args .numbers .now)
-    (s .args .n) (s .pre .0) (s .pre .1))) (c .difference .result) _ _ (c .before .before .value-at .ensures) (c .before .value-at2 .ensures)
-    (c .difference .ensures)
+    let told = c .before .before .before in
+    let s = told .before .before in
+    applied-two _ _ (told .enum-told2 .given .1) rules.difference refl _ _ _ (s .pre .0) (s .pre .1) refl (c .difference .result) _ _
+    (c .before .before .value-at .ensures) (c .before .value-at2 .ensures) (c .difference .ensures)
 
 returns-3 : tie.Need-returns-3
 returns-3 c =
     let s = c .before .before .before in
-    applied-all (s .args .op) rules.smallest (ap operationMeaning (c .before .enum-told3 .given .1)) (s .args .kinds .now)
-    (s .args .numbers .now) (s .args .n) (s .pre .0) (s .pre .1) (c .smallest .result) (c .smallest .ensures)
+    applied-all _ _ (c .before .enum-told3 .given .1) rules.smallest refl _ _ _ (s .pre .0) (s .pre .1) (c .smallest .result) (c .smallest .ensures)
 
 returns-4 : tie.Need-returns-4
 returns-4 c =
     let s = c .before .before .before in
-    applied-all (s .args .op) rules.largest (ap operationMeaning (c .before .enum-told4 .given .1)) (s .args .kinds .now)
-    (s .args .numbers .now) (s .args .n) (s .pre .0) (s .pre .1) (c .largest .result) (c .largest .ensures)
+    applied-all _ _ (c .before .enum-told4 .given .1) rules.largest refl _ _ _ (s .pre .0) (s .pre .1) (c .largest .result) (c .largest .ensures)
 
 returns-5 : tie.Need-returns-5
 unfolding rules.countAllowed
 returns-5 c =
-    let s = c .before .before .before .before .before in
-    applied-two (s .args .op) rules.share (ap operationMeaning (c .before .before .before .enum-told5 .given .1)) (s .args .kinds .now)
-    (s .args .numbers .now) (s .args .n) (s .pre .0) (s .pre .1) (eqb-true (s .args .n) 2 (takes-count (s .args .op)
-    rules.share (ap operationMeaning (c .before .before .before .enum-told5 .given .1)) (s .args .kinds .now) (s .args .numbers .now)
-    (s .args .n) (s .pre .0) (s .pre .1))) (c .share .result) _ _ (c .before .before .value-at3 .ensures) (c .before .value-at4 .ensures)
-    (c .share .ensures)
+    let told = c .before .before .before in
+    let s = told .before .before in
+    applied-two _ _ (told .enum-told5 .given .1) rules.share refl _ _ _ (s .pre .0) (s .pre .1) refl (c .share .result) _ _
+    (c .before .before .value-at3 .ensures) (c .before .value-at4 .ensures) (c .share .ensures)
 
 returns-6 : tie.Need-returns-6
 unfolding rules.countAllowed
 returns-6 c =
-    let s = c .before .before .before .before .before .before in
-    applied-three (s .args .op) rules.choice (ap operationMeaning (c .before .before .before .before .enum-told6 .given .1))
-    (s .args .kinds .now) (s .args .numbers .now) (s .args .n) (s .pre .0) (s .pre .1) (eqb-true (s .args .n) 3
-    (takes-count (s .args .op) rules.choice (ap operationMeaning (c .before .before .before .before .enum-told6 .given .1))
-    (s .args .kinds .now) (s .args .numbers .now) (s .args .n) (s .pre .0) (s .pre .1))) (c .choice .result) _ _ _ (c .before .before .before .value-at5 .ensures)
-    (c .before .before .value-at6 .ensures) (c .before .value-at7 .ensures) (c .choice .ensures)
+    let told = c .before .before .before .before in
+    let s = told .before .before in
+    applied-three _ _ (told .enum-told6 .given .1) rules.choice refl _ _ _ (s .pre .0) (s .pre .1) refl (c .choice .result) _ _ _
+    (c .before .before .before .value-at5 .ensures) (c .before .before .value-at6 .ensures) (c .before .value-at7 .ensures) (c .choice .ensures)
 
 returns-7 : tie.Need-returns-7
 returns-7 c =
     let s = c .before .before .before in
-    applied-all (s .args .op) rules.count (ap operationMeaning (c .before .enum-told7 .given .1)) (s .args .kinds .now) (s .args .numbers .now)
-    (s .args .n) (s .pre .0) (s .pre .1) (c .count .result) (c .count .ensures)
+    applied-all _ _ (c .before .enum-told7 .given .1) rules.count refl _ _ _ (s .pre .0) (s .pre .1) (c .count .result) (c .count .ensures)
 
 returns-8 : tie.Need-returns-8
 unfolding rules.countAllowed
 returns-8 c =
-    let s = c .before .before .before .before .before in
-    applied-two (s .args .op) rules.atLeast (ap operationMeaning (c .before .before .before .enum-told8 .given .1)) (s .args .kinds .now)
-    (s .args .numbers .now) (s .args .n) (s .pre .0) (s .pre .1) (eqb-true (s .args .n) 2 (takes-count (s .args .op)
-    rules.atLeast (ap operationMeaning (c .before .before .before .enum-told8 .given .1)) (s .args .kinds .now) (s .args .numbers .now)
-    (s .args .n) (s .pre .0) (s .pre .1))) (c .at-least .result) _ _ (c .before .before .value-at8 .ensures) (c .before .value-at9 .ensures)
-    (c .at-least .ensures)
+    let told = c .before .before .before in
+    let s = told .before .before in
+    applied-two _ _ (told .enum-told8 .given .1) rules.atLeast refl _ _ _ (s .pre .0) (s .pre .1) refl (c .at-least .result) _ _
+    (c .before .before .value-at8 .ensures) (c .before .value-at9 .ensures) (c .at-least .ensures)
 
 returns-9 : tie.Need-returns-9
 returns-9 c =

@@ -1,8 +1,8 @@
 -- `rules::at_least` meets its contract. Assumes nothing.
 use borrow.Author.Needs.{needs}
 use Rattle.circuit.specs.Rules as rules
-use Rattle.value.specs.Meaning.{meaning}
-use Rattle.rules.proofs.Pairs.{two-out, at-least-null, at-least-is}
+use Rattle.value.proofs.Signed.{read}
+use Rattle.rules.proofs.Pairs.{two-out, either-null, both-is, at-least-by}
 use Rattle.rules.proofs.at_least.Statement.{statement}
 use Rattle.rules.proofs.at_least.Tie as tie
 
@@ -10,18 +10,14 @@ either-out-requires : tie.Need-either-out-requires
 either-out-requires c κs = search needs
 
 returns : tie.Need-returns
-returns c =
-    let s = c .before .before in
-    two-out (meaning (s .args .a)) (meaning (s .args .b)) _ (c .before .either-out .ensures) rules.atLeast (c .if1 .taken)
+returns c = two-out _ _ _ (c .before .either-out .ensures) rules.atLeast (c .if1 .taken)
 
 either-null-requires : tie.Need-either-null-requires
 either-null-requires c κs = search needs
 
 returns-2 : tie.Need-returns-2
-returns-2 c =
-    let s = c .before .before .before .before in
-    at-least-null (meaning (s .args .a)) (meaning (s .args .b)) _ (c .before .before .before .either-out .ensures) (c .before .before .if1 .left)
-    _ (c .before .either-null .ensures) (c .if2 .taken)
+unfolding rules.apply
+returns-2 c = let out = c .before .before in either-null _ _ _ (out .before .either-out .ensures) (out .if1 .left) rules.atLeastOf _ (c .before .either-null .ensures) (c .if2 .taken)
 
 number-or-zero-requires : tie.Need-number-or-zero-requires
 number-or-zero-requires c κs = search needs
@@ -36,20 +32,24 @@ exact-requires-2 : tie.Need-exact-requires-2
 exact-requires-2 c κs = search needs
 
 returns-3 : tie.Need-returns-3
+unfolding rules.apply
 returns-3 c =
-    let s = c .before .before .before .before .before .before .before .before in
-    at-least-is (meaning (s .args .a)) (meaning (s .args .b)) _ (c .before .before .before .before .before .before .before .either-out .ensures)
-    (c .before .before .before .before .before .before .if1 .left) _ _ (c .before .before .before .number-or-zero .ensures)
-    (c .before .before .number-or-zero2 .ensures) (search needs) (search needs) _ (c .before .before .before .before .before .either-null .ensures)
-    (c .before .before .before .before .if2 .left) _ (c .before .if3 .taken) _ (c .exact .ensures)
+    let first = c .before .before .before in
+    let null = first .before in
+    let out = null .before .before in
+    both-is _ _ _ (out .before .either-out .ensures) (out .if1 .left) _ _ (first .number-or-zero .ensures) (c .before .before .number-or-zero2 .ensures)
+    (search needs) (search needs) rules.atLeastOf _ (null .before .either-null .ensures) (null .if2 .left) _
+    (at-least-by (read (first .number-or-zero .result)) (read (c .before .before .number-or-zero2 .result)) _ (c .before .if3 .taken) _ (c .exact .ensures))
 
 returns-4 : tie.Need-returns-4
+unfolding rules.apply
 returns-4 c =
-    let s = c .before .before .before .before .before .before .before .before in
-    at-least-is (meaning (s .args .a)) (meaning (s .args .b)) _ (c .before .before .before .before .before .before .before .either-out .ensures)
-    (c .before .before .before .before .before .before .if1 .left) _ _ (c .before .before .before .number-or-zero .ensures)
-    (c .before .before .number-or-zero2 .ensures) (search needs) (search needs) _ (c .before .before .before .before .before .either-null .ensures)
-    (c .before .before .before .before .if2 .left) _ (c .before .if3 .left) _ (c .exact2 .ensures)
+    let first = c .before .before .before in
+    let null = first .before in
+    let out = null .before .before in
+    both-is _ _ _ (out .before .either-out .ensures) (out .if1 .left) _ _ (first .number-or-zero .ensures) (c .before .before .number-or-zero2 .ensures)
+    (search needs) (search needs) rules.atLeastOf _ (null .before .either-null .ensures) (null .if2 .left) _
+    (at-least-by (read (first .number-or-zero .result)) (read (c .before .before .number-or-zero2 .result)) _ (c .before .if3 .left) _ (c .exact2 .ensures))
 
 pub at-least-spec : {M : Type 1} → statement M
 at-least-spec =

@@ -1,7 +1,6 @@
 -- `rules::choice` meets its contract. Assumes nothing.
 use mathlib.Core.Path.{refl}
 use borrow.Author.Needs.{needs}
-use Rattle.value.specs.Meaning.{meaning}
 use Rattle.rules.proofs.Pairs.{first-out, later-out, choice-null, choice-is}
 use Rattle.rules.proofs.choice.Statement.{statement}
 use Rattle.rules.proofs.choice.Tie as tie
@@ -11,27 +10,23 @@ is-out-requires c κs = search needs
 
 returns : tie.Need-returns
 returns c =
-    let s = c .before .before in
-    first-out (meaning (s .args .a)) (meaning (s .args .b)) (meaning (s .args .c)) _ _ (c .before .is-out .ensures) refl
-    (c .if1 .taken)
+    first-out _ _ _ _ _ (c .before .is-out .ensures) refl (c .if1 .taken)
 
 either-out-requires : tie.Need-either-out-requires
 either-out-requires c κs = search needs
 
 returns-2 : tie.Need-returns-2
 returns-2 c =
-    let s = c .before .before .before .before in
-    later-out (meaning (s .args .a)) (meaning (s .args .b)) (meaning (s .args .c)) _ _ (c .before .before .before .is-out .ensures)
-    (c .before .either-out .ensures) (c .before .before .if1 .left) (c .if2 .taken)
+    later-out _ _ _ _ _ (c .before .before .before .is-out .ensures) (c .before .either-out .ensures) (c .before .before .if1 .left) (c .if2 .taken)
 
 is-null-requires : tie.Need-is-null-requires
 is-null-requires c κs = search needs
 
 returns-3 : tie.Need-returns-3
 returns-3 c =
-    let s = c .before .before .before .before .before .before in
-    choice-null (meaning (s .args .a)) (meaning (s .args .b)) (meaning (s .args .c)) _ _ (c .before .before .before .before .before .is-out .ensures)
-    (c .before .before .before .either-out .ensures) (c .before .before .before .before .if1 .left) (c .before .before .if2 .left)
+    let later = c .before .before in
+    let first = later .before .before in
+    choice-null _ _ _ _ _ (first .before .is-out .ensures) (later .before .either-out .ensures) (first .if1 .left) (later .if2 .left)
     _ (c .before .is-null .ensures) (c .if3 .taken)
 
 number-or-zero-requires : tie.Need-number-or-zero-requires
@@ -39,19 +34,19 @@ number-or-zero-requires c κs = search needs
 
 returns-4 : tie.Need-returns-4
 returns-4 c =
-    let s = c .before .before .before .before .before .before .before .before in
-    choice-is (meaning (s .args .a)) (meaning (s .args .b)) (meaning (s .args .c)) _ _ (c .before .before .before .before .before .before .before .is-out .ensures)
-    (c .before .before .before .before .before .either-out .ensures) (c .before .before .before .before .before .before .if1 .left)
-    (c .before .before .before .before .if2 .left) _ (c .before .before .before .is-null .ensures) (c .before .before .if3 .left)
-    _ (c .before .number-or-zero .ensures) (search needs) _ (c .if4 .taken)
+    let null = c .before .before in
+    let later = null .before .before in
+    let first = later .before .before in
+    choice-is _ _ _ _ _ (first .before .is-out .ensures) (later .before .either-out .ensures) (first .if1 .left) (later .if2 .left)
+    _ (null .before .is-null .ensures) (null .if3 .left) _ (c .before .number-or-zero .ensures) (search needs) _ (c .if4 .taken)
 
 returns-5 : tie.Need-returns-5
 returns-5 c =
-    let s = c .before .before .before .before .before .before .before .before in
-    choice-is (meaning (s .args .a)) (meaning (s .args .b)) (meaning (s .args .c)) _ _ (c .before .before .before .before .before .before .before .is-out .ensures)
-    (c .before .before .before .before .before .either-out .ensures) (c .before .before .before .before .before .before .if1 .left)
-    (c .before .before .before .before .if2 .left) _ (c .before .before .before .is-null .ensures) (c .before .before .if3 .left)
-    _ (c .before .number-or-zero .ensures) (search needs) _ (c .if4 .left)
+    let null = c .before .before in
+    let later = null .before .before in
+    let first = later .before .before in
+    choice-is _ _ _ _ _ (first .before .is-out .ensures) (later .before .either-out .ensures) (first .if1 .left) (later .if2 .left)
+    _ (null .before .is-null .ensures) (null .if3 .left) _ (c .before .number-or-zero .ensures) (search needs) _ (c .if4 .left)
 
 pub choice-spec : {M : Type 1} → statement M
 choice-spec =

@@ -10,18 +10,15 @@ either-out-requires : tie.Need-either-out-requires
 either-out-requires c κs = search needs
 
 returns : tie.Need-returns
-returns c =
-    let s = c .before .before in
-    two-out (meaning (s .args .a)) (meaning (s .args .b)) _ (c .before .either-out .ensures) rules.difference (c .if1 .taken)
+returns c = two-out _ _ _ (c .before .either-out .ensures) rules.difference (c .if1 .taken)
 
 both-null-requires : tie.Need-both-null-requires
 both-null-requires c κs = search needs
 
 returns-2 : tie.Need-returns-2
 returns-2 c =
-    let s = c .before .before .before .before in
-    difference-null (meaning (s .args .a)) (meaning (s .args .b)) _ (c .before .before .before .either-out .ensures) (c .before .before .if1 .left)
-    _ (c .before .both-null .ensures) (c .if2 .taken)
+    let out = c .before .before in
+    difference-null _ _ _ (out .before .either-out .ensures) (out .if1 .left) _ (c .before .both-null .ensures) (c .if2 .taken)
 
 number-or-zero-requires : tie.Need-number-or-zero-requires
 number-or-zero-requires c κs = search needs
@@ -33,8 +30,7 @@ minus-requires : tie.Need-minus-requires
 minus-requires c κs =
     let s = c .before .before .before .before .before .before in (
       number-fits (meaning (s .args .a)) _ (search needs) (c .before .number-or-zero .ensures) (s .pre .0),
-      number-fits
-          (meaning (s .args .b)) _ (search needs) (c .number-or-zero2 .ensures) (s .pre .1),
+      number-fits (meaning (s .args .b)) _ (search needs) (c .number-or-zero2 .ensures) (s .pre .1),
     )
 
 exact-requires : tie.Need-exact-requires
@@ -42,11 +38,11 @@ exact-requires c κs = search needs
 
 returns-3 : tie.Need-returns-3
 returns-3 c =
-    let s = c .before .before .before .before .before .before .before .before in
-    difference-is (meaning (s .args .a)) (meaning (s .args .b)) _ (c .before .before .before .before .before .before .before .either-out .ensures)
-    (c .before .before .before .before .before .before .if1 .left) _ _ (c .before .before .before .number-or-zero .ensures)
-    (c .before .before .number-or-zero2 .ensures) (search needs) (search needs) _ (c .before .before .before .before .before .both-null .ensures)
-    (c .before .before .before .before .if2 .left) _ _ (search needs) (c .before .minus .ensures) (c .exact .ensures)
+    let first = c .before .before .before in
+    let null = first .before in
+    let out = null .before .before in
+    difference-is _ _ _ (out .before .either-out .ensures) (out .if1 .left) _ _ (first .number-or-zero .ensures) (c .before .before .number-or-zero2 .ensures)
+    (search needs) (search needs) _ (null .before .both-null .ensures) (null .if2 .left) _ _ (search needs) (c .before .minus .ensures) (c .exact .ensures)
 
 pub difference-spec : {M : Type 1} → statement M
 difference-spec =

@@ -2,7 +2,7 @@
 use borrow.Author.Needs.{needs}
 use Rattle.circuit.specs.Rules as rules
 use Rattle.value.specs.Meaning.{meaning}
-use Rattle.rules.proofs.Pairs.{two-out, share-null, share-is, number-fits}
+use Rattle.rules.proofs.Pairs.{two-out, either-null, both-is, number-fits}
 use Rattle.rules.proofs.share.Statement.{statement}
 use Rattle.rules.proofs.share.Tie as tie
 
@@ -10,18 +10,14 @@ either-out-requires : tie.Need-either-out-requires
 either-out-requires c κs = search needs
 
 returns : tie.Need-returns
-returns c =
-    let s = c .before .before in
-    two-out (meaning (s .args .a)) (meaning (s .args .b)) _ (c .before .either-out .ensures) rules.share (c .if1 .taken)
+returns c = two-out _ _ _ (c .before .either-out .ensures) rules.share (c .if1 .taken)
 
 either-null-requires : tie.Need-either-null-requires
 either-null-requires c κs = search needs
 
 returns-2 : tie.Need-returns-2
-returns-2 c =
-    let s = c .before .before .before .before in
-    share-null (meaning (s .args .a)) (meaning (s .args .b)) _ (c .before .before .before .either-out .ensures) (c .before .before .if1 .left)
-    _ (c .before .either-null .ensures) (c .if2 .taken)
+unfolding rules.apply
+returns-2 c = let out = c .before .before in either-null _ _ _ (out .before .either-out .ensures) (out .if1 .left) rules.shareOf _ (c .before .either-null .ensures) (c .if2 .taken)
 
 number-or-zero-requires : tie.Need-number-or-zero-requires
 number-or-zero-requires c κs = search needs
@@ -35,12 +31,13 @@ share-of-requires c κs =
     number-fits (meaning (s .args .a)) _ (search needs) (c .before .number-or-zero .ensures) (s .pre)
 
 returns-3 : tie.Need-returns-3
+unfolding rules.apply
 returns-3 c =
-    let s = c .before .before .before .before .before .before .before in
-    share-is (meaning (s .args .a)) (meaning (s .args .b)) _ (c .before .before .before .before .before .before .either-out .ensures)
-    (c .before .before .before .before .before .if1 .left) _ _ (c .before .before .number-or-zero .ensures) (c .before .number-or-zero2 .ensures)
-    (search needs) (search needs) _ (c .before .before .before .before .either-null .ensures) (c .before .before .before .if2 .left)
-    _ (c .share-of .ensures)
+    let first = c .before .before in
+    let null = first .before in
+    let out = null .before .before in
+    both-is _ _ _ (out .before .either-out .ensures) (out .if1 .left) _ _ (first .number-or-zero .ensures) (c .before .number-or-zero2 .ensures)
+    (search needs) (search needs) rules.shareOf _ (null .before .either-null .ensures) (null .if2 .left) _ (c .share-of .ensures)
 
 pub share-spec : {M : Type 1} → statement M
 share-spec =

@@ -1,12 +1,8 @@
+-- `tally::count_in` meets its contract. Assumes nothing.
 use Rattle.tally.proofs.Taking.{next-fits, count-first, count-next}
 use borrow.Author.Needs.{needs}
 use Rattle.tally.proofs.count_in.Statement.{statement}
 use Rattle.tally.proofs.count_in.Tie as tie
-use Rattle.tally.proofs.count_in.Reads as reads
-use Rattle.tally.proofs.count_in.Lts as lts
-use Rattle.tally.proofs.greater.Reads as greater-reads
-use Rattle.tally.proofs.lesser.Reads as lesser-reads
-use Rattle.tally.proofs.plus.Reads as plus-reads
 
 returns : tie.Need-returns
 returns c =

@@ -1,6 +1,6 @@
 -- `value::Value::from_parts` meets its contract. Assumes nothing.
 use borrow.Author.Needs.{needs}
-use Rattle.value.specs.Meaning.{partsOf}
+use Rattle.circuit.specs.Value.{partsOf}
 use Rattle.value.proofs.Cases.{zero-yes, zero-no, parts-none, parts-number, parts-beyond}
 use Rattle.value.proofs.Value.from_parts.Statement.{statement}
 use Rattle.value.proofs.Value.from_parts.Tie as tie
