@@ -5,6 +5,9 @@ ghost use Prim.Native.Nat.{_+_, _<_};
 ghost use lib.ListN.{length};
 ghost use Rattle.field.specs.Field.{cutAt, le16At};
 
+// The bytes before a field's content: its tag, and its length in two bytes.
+pub const HEADER_LENGTH: usize = 3;
+
 // What stands at an offset.
 pub enum Cut {
     // A whole field: its content is the len bytes from start, and next is the offset past it.
@@ -38,10 +41,10 @@ pub fn cut_at(s: &[u8], at: usize) -> Cut
     if n <= at {
         return Cut::Absent;
     }
-    if n - at < 3 {
+    if n - at < HEADER_LENGTH {
         return Cut::Short;
     }
-    let start = at + 3;
+    let start = at + HEADER_LENGTH;
     let len = u16_at(s, at + 1);
     if n - start < len {
         return Cut::Short;
@@ -68,7 +71,7 @@ impl<'a> Reader<'a> {
     }
 
     // The field at the reader's offset.
-    pub fn next(self) -> Cut
+    pub fn field(self) -> Cut
         ensures { λ c. ⌜ c ≡ cutAt (now (self .entry .src)) (self .entry .at) ⌝ }
     {
         cut_at(self.src, self.at)
@@ -79,5 +82,5 @@ impl<'a> Reader<'a> {
 pub fn field_at(s: &[u8], at: usize) -> Cut
     ensures { λ c. ⌜ c ≡ cutAt (now (s .entry)) at ⌝ }
 {
-    Reader::new(s, at).next()
+    Reader::new(s, at).field()
 }
