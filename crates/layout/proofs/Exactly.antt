@@ -11,10 +11,10 @@ use lib.Dec.{eqb, leb, ltb}
 use lib.ListN.{length, getD, take, drop, length-append, length-take, length-map, List·getD-map, List·getD-eq-default}
 use lib.Seq.{take-at, drop-append-add, take-append-seam, take-length, getD-take, getD-drop}
 use borrow.Author.Tests.{eqb-true, leb-true, ltb-false, le-ltb, le-leb, not-false}
-use Rattle.field.specs.Field.{cutAt, Bytes, fieldBytes}
+use Rattle.field.specs.Field.{cutAt, Bytes, fieldBytes, headerLength}
 use Rattle.field.specs.declared.Cut.the-variants.{Field}
 use Rattle.field.proofs.Cutting.{FieldAt, field-iff, cut-fieldBytes, cut-back-bytes, content-length, le16-of}
-use Rattle.layout.specs.Layout.{LayoutItem, entryField, figureField, Layout, headTag, figureTag, lastTag, editionKnown, countAllowed, levelLimit, keepAllowed, spreadAllowed, ruleAllowed, nameAllowed, all}
+use Rattle.layout.specs.Layout.{LayoutItem, entryField, figureField, Layout, headTag, figureTag, lastTag, editionKnown, countAllowed, levelLimit, keepAllowed, spreadAllowed, ruleAllowed, nameAllowed, all, headLength, parentsAt}
 use Rattle.layout.specs.Read.{contentAt, editionIn, countIn, ruleIn, keepIn, spreadIn, parentCountIn, parentsIn, nameIn, itemIn, Placed, placed, levelOf, itemLevel, lengthOrName, ruleWrong, parentWrong, levelWrong, going, placeItem, headNext, scan, headContent, opens, readSheet, layoutOf}
 use Rattle.layout.specs.Write.{bytes16, concat, itemBytes, writeSheet, levelAfter, itemWithin, itemsWithin, within}
 use Rattle.layout.specs.Places.{placesFrom, places, offsetWritten}
@@ -65,7 +65,7 @@ within-passes edition ps (figureField rule keep spread parents name) e =
     let f = and-four (nameAllowed name) (ruleAllowed rule (length parents) && keepAllowed keep && spreadAllowed edition spread)
     (all (λ p. ltb p (length (levels ps))) parents) (leb (levelAfter (levels ps) it) levelLimit) e in
     let q : nameIn (contentOf it) ≡ name = name-back rule keep spread (length parents) parents name refl in
-    let four = le-ltb (length (contentOf it)) 4 (omega arith) in
+    let four = le-ltb (length (contentOf it)) parentsAt (omega arith) in
     let l = leb-true (levelAfter (levels ps) it) levelLimit (f .3) in
     record {
       tag-fits = refl;
@@ -108,9 +108,9 @@ passes-within edition ps tag content p = go (eqb tag figureTag) refl
 -- What was written is read.
 
 -- the content of a field that stands between two parts
-content-between : (pre content post : List ℕ) (tag : ℕ) → contentAt (pre ++ (fieldBytes tag content ++ post)) (length pre + 3) (length content) ≡ content
+content-between : (pre content post : List ℕ) (tag : ℕ) → contentAt (pre ++ (fieldBytes tag content ++ post)) (length pre + headerLength) (length content) ≡ content
 content-between pre content post tag =
-    ap (take (length content)) (drop-append-add pre (fieldBytes tag content ++ post) 3) ∙ take-append-seam content post
+    ap (take (length content)) (drop-append-add pre (fieldBytes tag content ++ post) headerLength) ∙ take-append-seam content post
 
 -- one item more
 scan-one : (s pre post : List ℕ) (edition k : ℕ) (ps : List Placed) (it : LayoutItem) → s ≡ pre ++ (itemBytes it ++ post)
@@ -121,13 +121,13 @@ scan-one s pre post edition k ps it es e w =
     let tag : ℕ = tagOf it in
     let content : List ℕ = contentOf it in
     let es′ : s ≡ pre ++ (fieldBytes tag content ++ post) = es ∙ ap (λ b. pre ++ (b ++ post)) (itemBytes-field it) in
-    let n : length (itemBytes it) ≡ 3 + length content = omega (arith, ap length (itemBytes-field it)) in
-    let c : cutAt s (length pre) ≡ Field tag (length pre + 3) (length content) (length pre + 3 + length content) =
+    let n : length (itemBytes it) ≡ headerLength + length content = omega (arith, ap length (itemBytes-field it)) in
+    let c : cutAt s (length pre) ≡ Field tag (length pre + headerLength) (length content) (length pre + headerLength + length content) =
     ap (λ t. cutAt t (length pre)) es′ ∙ cut-fieldBytes pre content post tag in
-    let d : contentAt s (length pre + 3) (length content) ≡ content =
-    ap (λ t. contentAt t (length pre + 3) (length content)) es′ ∙ content-between pre content post tag in
+    let d : contentAt s (length pre + headerLength) (length content) ≡ content =
+    ap (λ t. contentAt t (length pre + headerLength) (length content)) es′ ∙ content-between pre content post tag in
     let f = passes-back edition ps tag content (within-passes edition ps it w) in
-    let m : length pre + 3 + length content ≡ length pre + length (itemBytes it) = omega arith in
+    let m : length pre + headerLength + length content ≡ length pre + length (itemBytes it) = omega arith in
     rw (e, c, d, f, item-back it, m)
 
 pub levels-snoc : (at : ℕ) (ps : List Placed) (it : LayoutItem) → levels (placeItem at ps it) ≡ levels ps ++ (levelAfter (levels ps) it ∷ [])
@@ -189,12 +189,12 @@ written-opens l w =
     let k : countIn (headContent s) ≡ n = le16-of n in
     let c = scan-more s head last (l .edition) 0 [] (l .items) split (scan-none s (l .edition)) (parts .2) in
     let z : 0 + n ≡ n = zero-add n in
-    let m : length (head ++ bytes) ≡ 7 + length bytes = length-append head bytes in
+    let m : length (head ++ bytes) ≡ headNext + length bytes = length-append head bytes in
     let d = cut-fieldBytes (head ++ bytes) [] [] lastTag in
-    let e : length (head ++ bytes) + 3 + 0 ≡ length s = omega (arith, length-append (head ++ bytes) last) in
+    let e : length (head ++ bytes) + headerLength + 0 ≡ length s = omega (arith, length-append (head ++ bytes) last) in
     opens-back s (l .edition) (places l)
     (record {
-      at = 7 + length bytes;
+      at = headNext + length bytes;
       head = cut-fieldBytes [] (bytes16 (l .edition) ++ bytes16 n) (bytes ++ last) headTag;
       edition-is = le16-of (l .edition);
       edition-fits = parts .0;
@@ -339,16 +339,16 @@ four-long (a ∷ b ∷ c ∷ d ∷ []) h = refl
 four-long (a ∷ b ∷ c ∷ d ∷ x ∷ xs) h = absurd (omega arith)
 
 -- the first field is that of its edition and item count
-head-written : (s : List ℕ) → Bytes s → cutAt s 0 ≡ Field headTag 3 4 headNext
+head-written : (s : List ℕ) → Bytes s → cutAt s 0 ≡ Field headTag headerLength headLength headNext
     → take headNext s ≡ fieldBytes headTag (bytes16 (editionIn (headContent s)) ++ bytes16 (countIn (headContent s)))
 head-written s b e =
-    let f = field-iff s 0 headTag 3 4 headNext .0 e in
+    let f = field-iff s 0 headTag headerLength headLength headNext .0 e in
     let c : List ℕ = headContent s in
-    let four = four-long c (content-length s 0 headTag 3 4 headNext f) in
-    let bc = Bytes-content s 3 4 b in
+    let four = four-long c (content-length s 0 headTag headerLength headLength headNext f) in
+    let bc = Bytes-content s headerLength headLength b in
     let ed : bytes16 (editionIn c) ≡ getD c 0 0 ∷ getD c 1 0 ∷ [] = pair-forth (getD c 0 0) (getD c 1 0) (bc 0) in
     let n : bytes16 (countIn c) ≡ getD c 2 0 ∷ getD c 3 0 ∷ [] = pair-forth (getD c 2 0) (getD c 3 0) (bc 2) in
-    field-passed s 0 headTag 3 4 headNext b f ∙ ap (fieldBytes headTag) (four ∙ ap₂ _++_ (sym ed) (sym n))
+    field-passed s 0 headTag headerLength headLength headNext b f ∙ ap (fieldBytes headTag) (four ∙ ap₂ _++_ (sym ed) (sym n))
 
 -- and it is all: a sheet that opens is what the writer makes of its layout, which is within the limits
 pub opened-written : (s : List ℕ) (edition : ℕ) (ps : List Placed) → Bytes s → readSheet s ≡ opens edition ps
@@ -362,8 +362,8 @@ opened-written s edition ps b e =
     let n : length its ≡ k = length-map ps (λ q. q .item) ∙ scan-length s edition k (o .at) ps (o .scanned) in
     let head = head-written s b (o .head) in
     let head′ : take headNext s ≡ fieldBytes headTag (bytes16 edition ++ bytes16 (length its)) = rw (n, ← o .edition-is) head in
-    let f = field-iff s (o .at) lastTag (o .at + 3) 0 (length s) .0 (o .last) in
-    let end : take (length s) s ≡ take (o .at) s ++ fieldBytes lastTag [] = field-passed s (o .at) lastTag (o .at + 3) 0 (length s) b f in
+    let f = field-iff s (o .at) lastTag (o .at + headerLength) 0 (length s) .0 (o .last) in
+    let end : take (length s) s ≡ take (o .at) s ++ fieldBytes lastTag [] = field-passed s (o .at) lastTag (o .at + headerLength) 0 (length s) b f in
     let fits = and-both (editionKnown edition && countAllowed edition (length its)) (itemsWithin edition [] its)
     (and-both (editionKnown edition) (countAllowed edition (length its)) (o .edition-fits) (rw n (o .count-fits)))
     (p .fits) in

@@ -2,7 +2,7 @@
 -- its fields. Assumes nothing.
 use Prim.Native.Nat.{ℕ}
 use mathlib.Core.Path.{_≡_}
-use mathlib.Core.List.{List, [], _∷_, map}
+use mathlib.Core.List.{List, [], map}
 use lib.ListN.{length, take}
 use Rattle.circuit.specs.Sheet.{Sheet}
 use Rattle.layout.specs.Layout.{machineSheet}

@@ -7,7 +7,7 @@ use lib.Dec.{ltb}
 use lib.ListN.{length, getD, take, drop}
 use Rattle.field.specs.Field.{cutAt, le16At}
 use Rattle.circuit.specs.Calls.{firstCause}
-use Rattle.layout.specs.Layout.{all, highest}
+use Rattle.layout.specs.Layout.{all, highest, parentWidth}
 use Rattle.layout.specs.Read.{Placed, Scan, going, stopped, scan, SheetRead, opens, refused, readSheet, judge, headTests, itemTests, itemIn, itemLevel, headContent, editionIn, countIn}
 use Rattle.layout.specs.Opened.{offsetsOf}
 use Rattle.sheet.specs.declared.Checked.{Checked}
@@ -31,10 +31,6 @@ checkedNumber (Refused k at) = k
 abbrev pub checkedOffset : Checked → ℕ
 checkedOffset (Opens edition count) = 0
 checkedOffset (Refused k at) = at
-
--- the most items of a sheet of any edition: what the scratch arrays must hold
-unfoldable pub mostItems : ℕ
-mostItems = 1024
 
 -- a field's answer: its level, or the number of its lowest cause
 abbrev pub judgedOf : ℕ → ℕ → Judged
@@ -74,7 +70,7 @@ over xs ys = xs ++ drop (length xs) ys
 -- the p numbers of two bytes from an offset on
 unfoldable pub numbersAt : List ℕ → ℕ → ℕ → List ℕ
 numbersAt s at zero = []
-numbersAt s at (suc p) = numbersAt s at p ++ (le16At s (at + 2 * p) ∷ [])
+numbersAt s at (suc p) = numbersAt s at p ++ (le16At s (at + parentWidth * p) ∷ [])
 
 -- one more than the highest of the parents' levels, or 0 where a parent is not below item i
 unfoldable pub levelOver : ℕ → List ℕ → List ℕ → ℕ

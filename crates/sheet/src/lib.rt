@@ -5,13 +5,10 @@ ghost use mathlib.Core.List.{List};
 ghost use Prim.Native.Nat.{ℕ, _+_, _*_, _≤_, max};
 ghost use lib.ListN.{length};
 ghost use Rattle.circuit.specs.Calls.{firstCause};
-ghost use Rattle.layout.specs.Layout.{figureTag, ruleAllowed, keepAllowed, spreadAllowed, nameAllowed};
+ghost use Rattle.layout.specs.Layout.{figureTag, mostItems, parentWidth, ruleAllowed, keepAllowed, spreadAllowed, nameAllowed};
 ghost use Rattle.layout.specs.Read.{Placed, contentAt, headTests, going, scan, scanLast, conclude, readSheet};
 ghost use Rattle.layout.specs.Opened.{offsetsOf};
-ghost use Rattle.sheet.specs.Check.{checkedOf, judgedItem, LevelsAt, mostItems, soundItems, readSoFar, over, levelsOf, numbersAt, levelOver};
-
-pub mod limits;
-
+ghost use Rattle.sheet.specs.Check.{checkedOf, judgedItem, LevelsAt, soundItems, readSoFar, over, levelsOf, numbersAt, levelOver};
 use field::Cut;
 use limits::COUNT_AT;
 use limits::ENTRY_TAG;
@@ -74,7 +71,7 @@ fn name_allowed(s: &[u8], at: usize, len: usize) -> bool
 
 // One more than the highest level of the p parents that stand from an offset on, or 0 where one is not below item i.
 fn level_over(s: &[u8], at: usize, p: usize, i: usize, levels: &[u8]) -> usize
-    requires { ⌜ (at + 2 * p ≤ length (now s)) × (i ≤ length (now levels)) ⌝ }
+    requires { ⌜ (at + parentWidth * p ≤ length (now s)) × (i ≤ length (now levels)) ⌝ }
     ensures { λ r. ⌜ (r ≡ levelOver i (now (levels .entry)) (numbersAt (now (s .entry)) at p)) × (r ≤ 256) ⌝ }
 {
     let mut highest = 0;

@@ -3,7 +3,7 @@
 // A case is two fields: a label and a sheet.
 ghost use Prim.Native.Nat.{_≤_, _<_};
 ghost use lib.ListN.{length};
-ghost use Rattle.sheet.specs.Check.{mostItems};
+ghost use Rattle.layout.specs.Layout.{mostItems};
 use field::Cut;
 use libc::STDIN_FILENO;
 use libc::STDOUT_FILENO;
@@ -92,8 +92,8 @@ fn run_case(cases: &[u8], at: usize, offsets: &mut [usize], levels: &mut [u8]) -
 }
 
 fn run(cases: &[u8]) {
-    let mut offsets = [0usize; sheet::limits::ITEM_LIMIT];
-    let mut levels = [0u8; sheet::limits::ITEM_LIMIT];
+    let mut offsets = [0usize; limits::ITEM_LIMIT];
+    let mut levels = [0u8; limits::ITEM_LIMIT];
     let mut at = 0;
     while at < cases.len() {
         at = run_case(cases, at, &mut offsets, &mut levels);

@@ -1,8 +1,7 @@
 use Rattle.admission.proofs.Admitting.{admit-refused, admit-index, admit-table, admit-items}
 use Rattle.admission.proofs.Admission.{measured, admitted-placing}
-use Rattle.item.proofs.Located.{size-most}
+use Rattle.item.proofs.Located.{size-room}
 use borrow.Author.Tests.{not-true, not-false}
-use Rattle.sheet.specs.Check.{mostItems}
 use mathlib.Core.Path.{sym, _∙_}
 use native.Mathlib.Omega.{arith}
 use borrow.Author.Needs.{needs}
@@ -19,8 +18,7 @@ enum-known-n : tie.Need-enum-known-n
 enum-known-n c = search needs
 
 index-matches-requires : tie.Need-index-matches-requires
-unfolding mostItems
-index-matches-requires c κs = let a = c .before .before .before .before .before .before .before .before .before .before .before .before .before .before .before .before .args in let m = c .before .before .before .before .before .before .before .before .measure in let w = c .before .before .n .given in let e = sym (w .1) ∙ m .ensures .0 in let g = measured (a .sheet .now) (a .index .now) (a .table .now) (w .0 .0) e in (omega (arith, g .count-is, size-most (a .sheet .now), m .kept .1 .1 .1 .0), g .index-length)
+index-matches-requires c κs = let a = c .before .before .before .before .before .before .before .before .before .before .before .before .before .before .before .before .args in let m = c .before .before .before .before .before .before .before .before .measure in let w = c .before .before .n .given in let e = sym (w .1) ∙ m .ensures .0 in let g = measured (a .sheet .now) (a .index .now) (a .table .now) (w .0 .0) e in (omega (arith, g .count-is, size-room (a .sheet .now), m .kept .1 .1 .1 .0), g .index-length)
 
 same-length : tie.Need-same-length
 same-length c = search needs
@@ -32,7 +30,6 @@ returns : tie.Need-returns
 returns c = let a = c .before .before .before .before .before .before .before .before .before .before .before .before .before .before .before .before .before .before .args in let m = c .before .before .before .before .before .before .before .before .before .before .measure in let w = c .before .before .before .before .n .given in let e = sym (w .1) ∙ m .ensures .0 in (admit-index (a .sheet .now) (a .index .now) (a .table .now) _ (w .0 .0) e (m .ensures .1 .located) (c .before .index-matches .result) (c .before .index-matches .ensures) (not-true _ (c .if1 .taken)), m .ensures .1)
 
 table-formed-requires : tie.Need-table-formed-requires
-unfolding mostItems
 table-formed-requires c κs = let a = c .before .before .before .before .before .before .before .before .before .before .before .before .before .before .before .before .before .before .before .args in let m = c .before .before .before .before .before .before .before .before .before .before .before .measure in let w = c .before .before .before .before .before .n .given in let e = sym (w .1) ∙ m .ensures .0 in let g = measured (a .sheet .now) (a .index .now) (a .table .now) (w .0 .0) e in (admitted-placing (a .sheet .now) _ (w .0 .0) (g .count-is) (m .ensures .1 .located) (omega (arith, m .kept .1 .1 .1 .0)), g .table-length)
 
 same-length-3 : tie.Need-same-length-3

@@ -4,6 +4,7 @@ use native.Mathlib.Omega.{arith}
 use mathlib.Core.Path.{refl}
 use lib.IntN.{pos}
 use lib.ListN.{replicate}
+use Rattle.layout.specs.Layout.{itemLimit, mostItems}
 use Rattle.stepping.proofs.Starting.{same-all, fresh-ready}
 use Rattle.stepping.proofs.Sweeping.{lent-on}
 use Rattle.call_ask.proofs.Asking.{caught-memo, caught-looked}
@@ -18,10 +19,11 @@ slice-aggregate-catch-up-2 : tie.Need-slice-aggregate-catch-up-2
 slice-aggregate-catch-up-2 c = search needs
 
 catch-up-requires : tie.Need-catch-up-requires
+unfolding mostItems itemLimit
 catch-up-requires c κs =
     let a = c .before .before .before .before .before .before .args in
     let p = c .before .before .before .before .before .before .pre in
-    (p .0, (fresh-ready (a .sheet .now) _ _ refl refl (same-all 0 1024), p .1 .0))
+    (p .0, (fresh-ready (a .sheet .now) _ _ refl refl (same-all 0 mostItems), p .1 .0))
 
 slice-aggregate-look-up : tie.Need-slice-aggregate-look-up
 slice-aggregate-look-up c = search needs
@@ -36,11 +38,12 @@ add-look-up : tie.Need-add-look-up
 add-look-up c = search needs
 
 look-up-requires : tie.Need-look-up-requires
+unfolding mostItems itemLimit
 look-up-requires c κs =
     let a = c .before .before .before .before .before .before .before .before .before .before .before .before .before .before .args in
     let p = c .before .before .before .before .before .before .before .before .before .before .before .before .before .before .pre in
     let u = c .before .before .before .before .before .before .before .catch-up in
-    let ready = fresh-ready (a .sheet .now) (replicate 1024 0) (replicate 1024 (pos 0)) refl refl (same-all 0 1024) in
+    let ready = fresh-ready (a .sheet .now) (replicate mostItems 0) (replicate mostItems (pos 0)) refl refl (same-all 0 mostItems) in
     (lent-on (p .0) _ (u .kept .1 .1 .0) (u .ensures .formed), (caught-memo ready (p .1 .0) _ _ (u .kept .1 .1 .1 .0) (u .kept .1 .1 .1 .1 .0) (u .ensures) _, omega (arith, p .1 .0, p .1 .1)))
 
 same-length : tie.Need-same-length

@@ -1,6 +1,7 @@
+use Rattle.layout.specs.Layout.{itemLimit, mostItems}
 use Rattle.stepping.proofs.Starting.{same-all}
 use Rattle.call_keep.proofs.Keeping.{fresh-memo, kept-stored}
-use Rattle.item.proofs.Located.{size-most}
+use Rattle.item.proofs.Located.{size-room}
 use Rattle.memo.specs.Memo.{seenMeaning}
 use Rattle.table.specs.Meaning.{markMeaning}
 use Rattle.table.specs.Bytes.{decodeTable}
@@ -19,7 +20,8 @@ slice-aggregate-look-up-2 : tie.Need-slice-aggregate-look-up-2
 slice-aggregate-look-up-2 c = search needs
 
 look-up-requires : tie.Need-look-up-requires
-look-up-requires c κs = let a = c .before .before .before .before .before .before .args in let p = c .before .before .before .before .before .before .pre in (p .0, (fresh-memo (sheetOf (a .sheet .now)) (decodeTable (a .table .now)) _ _ (size-most (a .sheet .now)) refl refl (same-all 0 1024), p .1 .0))
+unfolding mostItems itemLimit
+look-up-requires c κs = let a = c .before .before .before .before .before .before .args in let p = c .before .before .before .before .before .before .pre in (p .0, (fresh-memo (sheetOf (a .sheet .now)) (decodeTable (a .table .now)) _ _ (size-room (a .sheet .now)) refl refl (same-all 0 mostItems), p .1 .0))
 
 notice-if-requires : tie.Need-notice-if-requires
 notice-if-requires c κs = search needs

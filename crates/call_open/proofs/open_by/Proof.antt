@@ -1,7 +1,7 @@
 use Rattle.call_open.proofs.Opening.{opened-refused, opened-written}
 use Rattle.admission.proofs.Admission.{measured, admitted-placing}
-use Rattle.item.proofs.Located.{size-most}
-use Rattle.sheet.specs.Check.{mostItems}
+use Rattle.item.proofs.Located.{size-room}
+use Rattle.layout.specs.Layout.{mostItems, itemLimit}
 use mathlib.Core.Path.{sym, _∙_}
 use native.Mathlib.Omega.{arith}
 use borrow.Author.Needs.{needs}
@@ -15,7 +15,7 @@ slice-aggregate-measure-2 : tie.Need-slice-aggregate-measure-2
 slice-aggregate-measure-2 c = search needs
 
 measure-requires : tie.Need-measure-requires
-unfolding mostItems
+unfolding mostItems itemLimit
 measure-requires c κs = search needs
 
 enum-known-number : tie.Need-enum-known-number
@@ -31,12 +31,14 @@ slice-aggregate-write-index : tie.Need-slice-aggregate-write-index
 slice-aggregate-write-index c = search needs
 
 write-index-requires : tie.Need-write-index-requires
-write-index-requires c κs = let a = c .before .before .before .before .before .before .before .before .before .before .before .before .before .args in let m = c .before .before .before .before .before .before .before .measure in let w = c .before .before .before .n .given in let e = sym (w .1) ∙ m .ensures .0 in let g = measured (a .sheet .now) (a .index .now) (a .table .now) (w .0 .0) e in (omega (arith, g .count-is, size-most (a .sheet .now), m .kept .1 .1 .1 .0), g .index-length)
+unfolding mostItems itemLimit
+write-index-requires c κs = let a = c .before .before .before .before .before .before .before .before .before .before .before .before .before .args in let m = c .before .before .before .before .before .before .before .measure in let w = c .before .before .before .n .given in let e = sym (w .1) ∙ m .ensures .0 in let g = measured (a .sheet .now) (a .index .now) (a .table .now) (w .0 .0) e in (omega (arith, g .count-is, size-room (a .sheet .now), m .kept .1 .1 .1 .0), g .index-length)
 
 slice-aggregate-write-table : tie.Need-slice-aggregate-write-table
 slice-aggregate-write-table c = search needs
 
 write-table-requires : tie.Need-write-table-requires
+unfolding mostItems itemLimit
 write-table-requires c κs = let a = c .before .before .before .before .before .before .before .before .before .before .before .before .before .before .before .before .before .before .args in let m = c .before .before .before .before .before .before .before .before .before .before .before .before .measure in let w = c .before .before .before .before .before .before .before .before .n .given in let e = sym (w .1) ∙ m .ensures .0 in let g = measured (a .sheet .now) (a .index .now) (a .table .now) (w .0 .0) e in (admitted-placing (a .sheet .now) _ (w .0 .0) (g .count-is) (m .ensures .1 .located) (omega (arith, m .kept .1 .1 .1 .0)), g .table-length)
 
 give-requires-2 : tie.Need-give-requires-2

@@ -1,8 +1,8 @@
--- `sheet::limits::item_limit` meets its contract. Assumes nothing.
+-- `limits::item_limit` meets its contract. Assumes nothing.
 use mathlib.Core.Path.{refl}
 use Rattle.layout.specs.Layout.{itemLimit}
-use Rattle.sheet.proofs.limits.item_limit.Statement.{statement}
-use Rattle.sheet.proofs.limits.item_limit.Tie as tie
+use Rattle.limits.proofs.item_limit.Statement.{statement}
+use Rattle.limits.proofs.item_limit.Tie as tie
 
 returns : tie.Need-returns
 unfolding itemLimit

@@ -1,8 +1,8 @@
--- `sheet::limits::keep_allowed` meets its contract. Assumes nothing.
+-- `limits::keep_allowed` meets its contract. Assumes nothing.
 use mathlib.Core.Path.{refl}
 use Rattle.layout.specs.Layout.{keepAllowed}
-use Rattle.sheet.proofs.limits.keep_allowed.Statement.{statement}
-use Rattle.sheet.proofs.limits.keep_allowed.Tie as tie
+use Rattle.limits.proofs.keep_allowed.Statement.{statement}
+use Rattle.limits.proofs.keep_allowed.Tie as tie
 
 returns : tie.Need-returns
 unfolding keepAllowed

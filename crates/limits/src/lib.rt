@@ -1,4 +1,4 @@
-// The tags and limits of the layout, each once.
+// The tags, places and limits of the layout, each once. The contracts hold the limits to those of the definitions.
 ghost use mathlib.Core.Path.{_≡_};
 ghost use Rattle.layout.specs.Layout.{editionKnown, itemLimit, countAllowed, keepAllowed, spreadAllowed, nameByte};
 
@@ -10,16 +10,13 @@ pub const FIGURE_TAG: u8 = 3;
 
 pub const LAST_TAG: u8 = 4;
 
-// The tag and the length of a field.
-pub const FIELD_HEADER: usize = 3;
-
 // The first field's content: its length, and where the item count stands after the edition.
 pub const HEAD_LENGTH: usize = 4;
 
 pub const COUNT_AT: usize = 2;
 
 // The offset after the first field.
-pub const HEAD_NEXT: usize = 7;
+pub const HEAD_NEXT: usize = field::HEADER_LENGTH + HEAD_LENGTH;
 
 // A figure's content: where each part stands, and a parent's width.
 pub const RULE_AT: usize = 0;
@@ -33,6 +30,9 @@ pub const PARENT_COUNT_AT: usize = 3;
 pub const PARENTS_AT: usize = 4;
 
 pub const PARENT_WIDTH: usize = 2;
+
+// The bytes of an index entry.
+pub const INDEX_WIDTH: usize = 4;
 
 // The most items of a sheet of any edition.
 pub const ITEM_LIMIT: usize = 1024;

@@ -1,9 +1,9 @@
--- `sheet::limits::count_allowed` meets its contract. Assumes nothing.
+-- `limits::count_allowed` meets its contract. Assumes nothing.
 use borrow.Author.Needs.{needs}
 use borrow.Author.Tests.{le-leb, lt-leb}
 use Rattle.layout.specs.Layout.{countAllowed}
-use Rattle.sheet.proofs.limits.count_allowed.Statement.{statement}
-use Rattle.sheet.proofs.limits.count_allowed.Tie as tie
+use Rattle.limits.proofs.count_allowed.Statement.{statement}
+use Rattle.limits.proofs.count_allowed.Tie as tie
 
 item-limit-requires : tie.Need-item-limit-requires
 item-limit-requires c κs = search needs

@@ -1,8 +1,8 @@
--- `sheet::limits::edition_known` meets its contract. Assumes nothing.
+-- `limits::edition_known` meets its contract. Assumes nothing.
 use mathlib.Core.Path.{refl}
 use Rattle.layout.specs.Layout.{editionKnown}
-use Rattle.sheet.proofs.limits.edition_known.Statement.{statement}
-use Rattle.sheet.proofs.limits.edition_known.Tie as tie
+use Rattle.limits.proofs.edition_known.Statement.{statement}
+use Rattle.limits.proofs.edition_known.Tie as tie
 
 returns : tie.Need-returns
 unfolding editionKnown

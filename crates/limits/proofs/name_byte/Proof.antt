@@ -1,7 +1,7 @@
--- `sheet::limits::name_byte` meets its contract. Assumes nothing.
+-- `limits::name_byte` meets its contract. Assumes nothing.
 use borrow.Author.Tests.{le-leb, lt-leb}
-use Rattle.sheet.proofs.limits.name_byte.Statement.{statement}
-use Rattle.sheet.proofs.limits.name_byte.Tie as tie
+use Rattle.limits.proofs.name_byte.Statement.{statement}
+use Rattle.limits.proofs.name_byte.Tie as tie
 
 returns : tie.Need-returns
 returns c = simp (le-leb _ _ (c .if1 .taken))

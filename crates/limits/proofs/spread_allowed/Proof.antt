@@ -1,8 +1,8 @@
--- `sheet::limits::spread_allowed` meets its contract. Assumes nothing.
+-- `limits::spread_allowed` meets its contract. Assumes nothing.
 use mathlib.Core.Path.{refl}
 use Rattle.layout.specs.Layout.{spreadAllowed}
-use Rattle.sheet.proofs.limits.spread_allowed.Statement.{statement}
-use Rattle.sheet.proofs.limits.spread_allowed.Tie as tie
+use Rattle.limits.proofs.spread_allowed.Statement.{statement}
+use Rattle.limits.proofs.spread_allowed.Tie as tie
 
 returns : tie.Need-returns
 unfolding spreadAllowed
