@@ -82,7 +82,7 @@ module _ (l : List ℕ) (m n : ℕ) (e : m ≡ min n (length l)) where
 
 pub ran-whole : {k m n count : ℕ} {x₁ t₁ out out′ : List ℕ} (s d x t : List ℕ) → k ≡ itemCount s → m ≡ min (4 * k) (length x) → n ≡ min (10 * k) (length t)
     → Ran (dayOn s d (take m x) (take n t)) out count x₁ t₁ out′ → Ran (runDay s d x t) out count (x₁ ++ drop m x) (t₁ ++ drop n t) out′
-unfolding runDay indexWidth
+unfolding runDay
 ran-whole {k} {m} {n} {count} {x₁} {t₁} {out} {out′} s d x t items left right r =
     let a : m ≡ min (indexSize s) (length x) = left ∙ ap (λ i. min (4 * i) (length x)) items in
     let b : n ≡ min (tableSize s) (length t) = right ∙ ap (λ i. min (10 * i) (length t)) items in

@@ -11,7 +11,7 @@ use lib.ListN.{length, getD, set, take, length-set}
 use lib.Seq.{take-suc, take-length}
 use Rattle.circuit.specs.Value.{Value, null, wellFormed, kindOf, numberOf}
 use Rattle.circuit.specs.WellFormed.{allWellFormed}
-use Rattle.circuit.specs.Rules.{apply}
+use Rattle.circuit.specs.Rules.{apply, maxParents}
 use Rattle.circuit.specs.Sheet.{Item, entry, figure, size, itemAt, isFigure, parents, parentsOf, evaluate}
 use Rattle.circuit.specs.Table.{Table}
 use Rattle.circuit.specs.Machine.{Looked, Gathered, gathered, gather, before, workOut, lookUp, work}
@@ -156,6 +156,7 @@ pub going-start : {s offsets t tags : List ℕ} {numbers : List ℤ} {generation
     → i < size (sheetOf s) → isFigure (itemAt (sheetOf s) i) ≡ true
     → (count : ℕ) → CountRead (fieldItem s (getD offsets i 0)) count → (kinds : List ℕ) (amounts : List ℤ) → length kinds ≡ 16 → length amounts ≡ 16
     → Going s offsets t tags numbers generation i (getD offsets i 0) count 0 t tags numbers kinds amounts false
+unfolding maxParents
 going-start {s} {offsets} {t} {tags} {numbers} {generation} {i} lent memo low fig count read kinds amounts a b =
     record {
       lent = lent;

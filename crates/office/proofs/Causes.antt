@@ -125,7 +125,6 @@ refutes-below p P h (suc n) = refutes-if into back (refutes-and (refutes-below p
 
 -- 8
 pub tells-lengths : (S : Sheet) (ps : List Placed) (x t : List ℕ) → size S ≡ length ps → Tells (LengthsWrong (size S) x t) (lengthsWrong ps x t)
-unfolding indexWidth
 tells-lengths S ps x t e =
     rw e (tells-not (refutes-and (refutes-tells (tells-eq (length x) (4 * length ps))) (refutes-tells (tells-eq (length t) (10 * length ps)))))
 

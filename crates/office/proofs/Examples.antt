@@ -71,7 +71,7 @@ fullTable = nullRecord ++ nullRecord ++ nullRecord ++ nullRecord ++ nullRecord
 
 -- to unfold this is to unfold all that the calls compute with
 unfoldable pub calls : List ℕ → List ℕ → List ℕ → Call → Given
-unfolding callOn openOn reading concat sameBytes indexWidth indexBytes tests firstCause postedValue effect tableForm encodeTable rowsBelow allBelow encodeCell decodeCell codesForm numberForm recordForm leAt leBytes limit inRange spreadMeant machineItem
+unfolding callOn openOn reading concat sameBytes indexBytes tests firstCause postedValue effect tableForm encodeTable rowsBelow allBelow encodeCell decodeCell codesForm numberForm recordForm leAt leBytes limit inRange spreadMeant machineItem
 calls s x t c = callOn s x t c
 
 -- the openings write this index and these tables
