@@ -19,9 +19,11 @@ unfolding mostItems itemLimit
 loop-holds c = (refl, refl)
 
 slice-aggregate-run-case : tie.Need-slice-aggregate-run-case Inv-loop μ-loop
+unfolding mostItems itemLimit
 slice-aggregate-run-case c = search needs
 
 slice-aggregate-run-case-2 : tie.Need-slice-aggregate-run-case-2 Inv-loop μ-loop
+unfolding mostItems itemLimit
 slice-aggregate-run-case-2 c = search needs
 
 run-case-requires : tie.Need-run-case-requires Inv-loop μ-loop
