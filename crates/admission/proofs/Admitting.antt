@@ -21,7 +21,7 @@ use Rattle.item.specs.Item.{fieldItem}
 use Rattle.item.proofs.Located.{located-item}
 use Rattle.item.specs.Offsets.{sameBytes, offsetBytes}
 use Rattle.item.proofs.Offsets.{located-index}
-use Rattle.word.specs.Word.{Bytes}
+use Rattle.field.specs.Bytes.{Bytes}
 use Rattle.table.specs.Rows.{row, setRow, allBelow}
 use Rattle.table.specs.Record.{width, encodeCell, recordForm}
 use Rattle.table.specs.Bytes.{encodeTable, decodeTable, tableForm, tableLength, recordInForm}

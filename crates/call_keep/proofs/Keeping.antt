@@ -16,7 +16,7 @@ use Rattle.circuit.specs.Table.{Table, Cell, Mark, unk, held, upd, noticeIf}
 use Rattle.circuit.specs.Machine.{lookUp, looked, storeResult, keepFigure, keepCell, dropFigure, dropCell}
 use Rattle.circuit.specs.Calls.{keep, test, firstCause, tests, effect, noItem, drop}
 use Rattle.layout.specs.Opened.{sheetOf}
-use Rattle.word.specs.Word.{Bytes}
+use Rattle.field.specs.Bytes.{Bytes}
 use Rattle.table.specs.Rows.{row, setRow}
 use Rattle.table.specs.Record.{width, encodeCell, mayHold, decodeCell}
 use Rattle.table.specs.Bytes.{encodeTable, decodeTable, tableForm, tableLength}

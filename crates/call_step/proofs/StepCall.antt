@@ -12,7 +12,7 @@ use Rattle.circuit.specs.Table.{Table, isMarked, isNotice, markOf}
 use Rattle.circuit.specs.Machine.{tell, clearMark, stepItem}
 use Rattle.circuit.specs.Calls.{step, test, firstCause, tests, effect, noMark}
 use Rattle.layout.specs.Opened.{sheetOf}
-use Rattle.word.specs.Word.{Bytes}
+use Rattle.field.specs.Bytes.{Bytes}
 use Rattle.table.specs.Bytes.{encodeTable, decodeTable}
 use Rattle.table.proofs.Tables.{encode-decodeTable}
 use Rattle.looking.specs.Pass.{Lent}

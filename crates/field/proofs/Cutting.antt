@@ -12,7 +12,8 @@ use lib.Seq.{drop-cons, drop-drop, getD-append-seam, getD-append-add}
 use mir.Syntax.{w8}
 use mir.Val.{Fits}
 use borrow.Author.Tests.{le-leb, lt-leb, lt-ltb, le-ltb}
-use Rattle.field.specs.Field.{headerLength, le16, le16At, lenAt, Bytes, cutAt, fieldBytes}
+use Rattle.field.specs.Bytes.{Bytes}
+use Rattle.field.specs.Field.{headerLength, le16, lenAt, cutAt, fieldBytes}
 use Rattle.field.specs.declared.Cut.{Cut}
 use Rattle.field.specs.declared.Cut.the-variants.{Field, Short, Absent}
 
@@ -33,9 +34,6 @@ le16-low low high l = omega arith
 
 pub le16-high : (low high : ℕ) → low < 256 → le16 low high / 256 ≡ high
 le16-high low high l = omega arith
-
-pub le16At-small : (s : List ℕ) (at : ℕ) → Bytes s → le16At s at < 65536
-le16At-small s at b = le16-small (getD s at 0) (getD s (at + 1) 0) (b at) (b (at + 1))
 
 -- The four ways in which a cut goes.
 
@@ -140,9 +138,6 @@ module _ (s : List ℕ) (at : ℕ) where
             let n : next ≡ at + headerLength + lenAt s at = omega arith in
             cc (cut-whole s at (omega arith))
 
-    pub field-onward : FieldAt s at tag start len next → at < next
-    field-onward f = omega arith
-
     -- its content is as long as it says
     pub content-length : FieldAt s at tag start len next → length (take len (drop start s)) ≡ len
     content-length f = simp (length-take, length-drop) (omega arith)
@@ -151,12 +146,6 @@ module _ (s : List ℕ) (at : ℕ) where
 module _ (s : List ℕ) (at : ℕ) {c : Cut} (e : c ≡ cutAt s at) where
   pub matched-field : {tag start len next : ℕ} → c ≡ Field tag start len next → FieldAt s at tag start len next
   matched-field {tag} {start} {len} {next} k = field-iff s at tag start len next .0 (sym e ∙ k)
-
-  pub matched-short : c ≡ Short → (at < length s) × (length s < at + headerLength ⊎ length s < at + headerLength + lenAt s at)
-  matched-short k = short-iff s at .0 (sym e ∙ k)
-
-  pub matched-absent : c ≡ Absent → length s ≤ at
-  matched-absent k = absent-iff s at .0 (sym e ∙ k)
 
 -- A field that was written is cut out as it was.
 
@@ -181,9 +170,6 @@ cut-written pre content post tag low high e =
 pub cut-fieldBytes : (pre content post : List ℕ) (tag : ℕ)
     → cutAt (pre ++ (fieldBytes tag content ++ post)) (length pre) ≡ Field tag (length pre + headerLength) (length content) (length pre + headerLength + length content)
 cut-fieldBytes pre content post tag = cut-written pre content post tag (length content % 256) (length content / 256) (le16-of (length content))
-
-pub length-fieldBytes : (tag : ℕ) (content : List ℕ) → length (fieldBytes tag content) ≡ headerLength + length content
-length-fieldBytes tag content = omega arith
 
 pub Bytes-fieldBytes : (tag : ℕ) (content : List ℕ) → tag < 256 → length content < 65536 → Bytes content → Bytes (fieldBytes tag content)
 Bytes-fieldBytes tag content t n b zero = t

@@ -1,11 +1,12 @@
 -- What stands at an offset of a list of bytes: a whole field, a field that runs past the end, or nothing. The bytes that a field is.
-use Prim.Native.Nat.{ℕ, _+_, _*_, _/_, _%_, _<_}
+use Prim.Native.Nat.{ℕ, _+_, _*_, _/_, _%_}
 use mathlib.Core.List.{List, _∷_}
 use mathlib.Core.Bool.{cond}
 use lib.ListN.{length, getD}
 use lib.Dec.{ltb, leb}
 use Rattle.field.specs.declared.Cut.{Cut}
 use Rattle.field.specs.declared.Cut.the-variants.{Field, Short, Absent}
+pub use Rattle.field.specs.Bytes.{Bytes}
 
 -- a number of two bytes, the low one first
 abbrev pub le16 : ℕ → ℕ → ℕ
@@ -14,10 +15,6 @@ le16 low high = low + 256 * high
 -- the number in the two bytes at an offset
 abbrev pub le16At : List ℕ → ℕ → ℕ
 le16At s at = le16 (getD s at 0) (getD s (at + 1) 0)
-
--- each element is a byte
-abbrev pub Bytes : List ℕ → Type 0
-Bytes s = (i : ℕ) → getD s i 0 < 256
 
 -- the bytes before a field's content: its tag, and its length in two bytes
 abbrev pub headerLength : ℕ

@@ -1,7 +1,7 @@
 // Cutting bytes into fields: a tag (1 byte), a length (2 bytes, little-endian) and that many content bytes.
 // The work is in `cut_at`, on a slice and an offset. `Reader` holds the two, and `field_at` is what callers use.
 ghost use mathlib.Core.Path.{_≡_};
-ghost use Prim.Native.Nat.{_+_, _<_};
+ghost use Prim.Native.Nat.{_+_, _≤_, _<_};
 ghost use lib.ListN.{length};
 ghost use Rattle.field.specs.Field.{cutAt, le16At};
 
@@ -21,6 +21,13 @@ pub enum Cut {
     Short,
     // No byte at the offset.
     Absent,
+}
+
+// A byte as a number.
+pub fn wide(x: u8) -> usize
+    ensures { λ r. ⌜ (r ≡ x) × (r ≤ 255) ⌝ }
+{
+    x as usize
 }
 
 // The two bytes at an offset as one number, little-endian.

@@ -2,26 +2,24 @@
 -- fields' offsets is good for. Assumes nothing.
 use mathlib.Core.Path.{_≡_, refl, sym, ap, ap₂, _∙_}
 use mathlib.Core.Bool.{Bool, true, false, _&&_}
-use mathlib.Core.List.{List, [], _∷_, map}
-use mathlib.Core.Option.{Option, none, some}
-use Prim.Native.Nat.{ℕ, _+_, _*_, _≤_, _<_}
+use mathlib.Core.List.{List, map}
+use Prim.Native.Nat.{ℕ, _+_, _≤_, _<_}
 use native.Mathlib.Omega.{arith}
 use lib.ListN.{length, getD, take, length-map}
 use lib.Seq.{getD-take}
 use lib.Dec.{eqb}
-use borrow.Author.Tests.{eq-eqb, eqb-true, eqb-false, not-false}
+use borrow.Author.Tests.{eqb-true, eqb-false, not-false}
 use Rattle.field.specs.Field.{lenAt, headerLength}
 use Rattle.field.proofs.Cutting.{field-iff, content-length}
-use Rattle.circuit.specs.Rules.{Operation, countAllowed, maxParents}
-use Rattle.circuit.specs.Circuit.{Listed}
-use Rattle.circuit.specs.Sheet.{Sheet, Item, entry, figure, size, itemAt, parentsOf, Ordered}
-use Rattle.layout.specs.Layout.{LayoutItem, figureField, figureTag, ruleAllowed, keepAllowed, spreadAllowed, machineItem, machineSheet, ruleAt, parentCountAt, mostItems}
-use Rattle.layout.specs.Read.{contentAt, countIn, ruleIn, keepIn, spreadIn, parentCountIn, parentsIn, nameIn, itemIn, lengthOrName, ruleWrong, Placed, headContent, SheetRead, opens, refused, readSheet, layoutOf}
+use Rattle.circuit.specs.Rules.{maxParents}
+use Rattle.circuit.specs.Sheet.{figure, size, itemAt, parentsOf, Ordered}
+use Rattle.layout.specs.Layout.{LayoutItem, figureTag, ruleAllowed, keepAllowed, spreadAllowed, machineItem, ruleAt, parentCountAt, mostItems}
+use Rattle.layout.specs.Read.{contentAt, countIn, ruleIn, keepIn, spreadIn, parentCountIn, parentsIn, itemIn, lengthOrName, ruleWrong, Placed, headContent, SheetRead, opens, refused, readSheet}
 use Rattle.layout.specs.Opened.{placedFrom, itemsOf, sheetRead, sheetFrom, sheetOf, offsetsOf, Located}
-use Rattle.layout.proofs.Scan.{placedAt, offsetFrom, offset-placed, ItemRead, passes, scan-item, opened, opened-length, opened-count, most-small, opened-ordered, machine-item, and-left}
+use Rattle.layout.proofs.Scan.{placedAt, offset-placed, ItemRead, passes, scan-item, opened, opened-length, opened-count, most-small, opened-ordered, machine-item, and-left}
 use Rattle.layout.proofs.Items.{figure-parts, parents-count}
-use Rattle.item.specs.Item.{fieldContent, fieldItem, ruleByte, countByte, FigureField, ItemField, itemOperation}
-use Rattle.item.proofs.Fields.{content-at, field-takes, count-read, count-not}
+use Rattle.item.specs.Item.{fieldContent, fieldItem, countByte, FigureField, ItemField}
+use Rattle.item.proofs.Fields.{content-at, count-read, count-not}
 
 -- An item that was read: its field and its item.
 module _ (s : List ℕ) (edition : ℕ) (ps : List Placed) (at : ℕ) (it : LayoutItem) (next : ℕ) (r : ItemRead s edition ps at it next) where
@@ -142,11 +140,6 @@ module _ (s offsets : List ℕ) (located : Located s offsets) (i : ℕ) (h : i <
 
   pub located-item : fieldItem s (getD offsets i 0) ≡ itemAt (sheetOf s) i
   located-item = let o = located-opens in ap (fieldItem s) (offset-located o) ∙ located-read o .1
-
-  -- a figure's operation takes as many parents as it lists
-  pub located-takes : (op : Operation) → itemOperation (itemAt (sheetOf s) i) ≡ some op → countAllowed op (length (parentsOf (itemAt (sheetOf s) i))) ≡ true
-  located-takes op e =
-      rw (← located-item) (field-takes s (getD offsets i 0) located-field op (ap itemOperation located-item ∙ e))
 
   -- how many parents an item lists at most
   pub located-narrow : length (parentsOf (itemAt (sheetOf s) i)) ≤ maxParents

@@ -2,17 +2,15 @@
 -- Assumes nothing.
 use mathlib.Core.Path.{_≡_, refl, sym, ap, ap₂, _∙_}
 use mathlib.Core.Bool.{Bool, true, false, _&&_}
-use mathlib.Core.List.{List, [], _∷_, _++_, map, append-assoc, append-nil}
-use mathlib.Core.Logic.{_↔_}
-use Prim.Native.Nat.{ℕ, zero, suc, _+_, _*_, _/_, _%_, _-_, _≤_, _<_}
+use mathlib.Core.List.{List, [], _∷_, _++_, append-assoc}
+use Prim.Native.Nat.{ℕ, suc, _+_, _*_, _/_, _%_, _-_, _≤_, _<_}
 use native.Mathlib.Omega.{arith}
 use native.Mathlib.Numerals.{add-one}
 use lib.Dec.{eqb}
-use lib.ListN.{length, getD, take, drop, set, length-set, length-take, drop-of-length-le}
+use lib.ListN.{length, getD, take, drop, set, length-set, drop-of-length-le}
 use lib.Seq.{take-suc, take-suc-set, take-all, drop-cons, getD-take, length-take-le}
-use borrow.Author.Tests.{eqb-true, eqb-false, eq-eqb, ne-eqb}
+use borrow.Author.Tests.{eqb-true, eqb-false, eq-eqb}
 use Rattle.layout.specs.Layout.{indexWidth}
-use Rattle.field.specs.Field.{le16At}
 use Rattle.layout.specs.Read.{Placed}
 use Rattle.layout.specs.Write.{concat}
 use Rattle.layout.specs.Index.{bytes32, indexBytes}
@@ -46,9 +44,6 @@ same-equal (a ∷ l) (b ∷ m) e = go (eqb a b) refl (same-equal l m) e
     go : (t : Bool) → eqb a b ≡ t → (sameBytes l m ≡ true → l ≡ m) → (t && sameBytes l m) ≡ true → a ∷ l ≡ b ∷ m
     go true q ih e = ap₂ (λ x y. x ∷ y) (eqb-true a b q) (ih e)
     go false q ih e = let z : _≡_ {A = ℕ} 0 1 = cc in absurd (omega arith)
-
-pub same-iff : (l m : List ℕ) → sameBytes l m ≡ true ↔ l ≡ m
-same-iff l m = (same-equal l m, λ e. rw e (same-refl m))
 
 -- two parts are compared one after the other
 and-assoc : (a b c : Bool) → (a && (b && c)) ≡ ((a && b) && c)

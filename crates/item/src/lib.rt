@@ -32,12 +32,6 @@ const PARENT_COUNT_AT: usize = field::HEADER_LENGTH + limits::PARENT_COUNT_AT;
 
 const PARENTS_AT: usize = field::HEADER_LENGTH + limits::PARENTS_AT;
 
-fn wide(b: u8) -> usize
-    ensures { λ r. ⌜ r ≡ b ⌝ }
-{
-    b as usize
-}
-
 pub fn is_figure(s: &[u8], at: usize) -> bool
     requires { ⌜ ItemField (now s) at ⌝ }
     ensures { λ r. ⌜ r ≡ circuit.isFigure (fieldItem (now (s .entry)) at) ⌝ }
@@ -50,7 +44,7 @@ pub fn operation(s: &[u8], at: usize) -> rules::Operation
     requires { ⌜ ItemField (now s) at ⌝ ∗ ⌜ circuit.isFigure (fieldItem (now s) at) ≡ true ⌝ }
     ensures { λ r. ⌜ OperationRead (fieldItem (now (s .entry)) at) r ⌝ }
 {
-    rules::operation_of(s[at + RULE_AT], wide(s[at + PARENT_COUNT_AT]))
+    rules::operation_of(s[at + RULE_AT], field::wide(s[at + PARENT_COUNT_AT]))
 }
 
 pub fn is_kept(s: &[u8], at: usize) -> bool
@@ -85,7 +79,7 @@ pub fn parent_count(s: &[u8], at: usize) -> usize
     ensures { λ r. ⌜ CountRead (fieldItem (now (s .entry)) at) r ⌝ }
 {
     if s[at] == FIGURE_TAG {
-        wide(s[at + PARENT_COUNT_AT])
+        field::wide(s[at + PARENT_COUNT_AT])
     } else {
         0
     }

@@ -10,6 +10,7 @@ use native.Mathlib.Decide.{decLe, decLt, ℕ-discrete}
 use lib.Dec.{eqb, ltb}
 use lib.ListN.{length, getD, take, drop}
 use lib.Seq.{getD-take, getD-drop}
+use Rattle.layout.specs.Opened.{levelsOf}
 use Rattle.field.specs.Field.{cutAt, le16, lenAt, headerLength}
 use Rattle.field.specs.declared.Cut.{Cut}
 use Rattle.field.specs.declared.Cut.the-variants.{Field, Short, Absent}
@@ -17,9 +18,9 @@ use Rattle.field.proofs.Cutting.{Cutting, absent, no-header, no-content, whole,
 use Rattle.circuit.specs.Calls.{Test, firstCause}
 use Rattle.layout.specs.Layout.{headTag, entryTag, figureTag, levelLimit, editionKnown, countAllowed, lastTag, headLength}
 use Rattle.layout.specs.Read.{contentAt, editionIn, countIn, itemIn, Placed, itemLevel, lengthOrName, parentWrong, levelWrong, headTests, itemTests, lastTests, judge, Scan, going, stopped, goOn, headNext, scan, afterLast, scanEnd, scanLast, headContent, scanSheet, SheetRead, opens, refused, conclude, readSheet}
-use Rattle.layout.specs.Causes.{Place, first, item, last, after, fieldOffset, editionOf, itemCount, fieldNumber, InSheet, Before, offsetOf, tagOf, lengthOf, contentOf, levelsOf, itemLevelOf, NotWhole, RunsPastOrAbsent, WrongTagOrTrailing, WrongLengthOrName, WrongItemLength, WrongEditionOrCount, WrongRuleKeepSpreadOrCount, ParentNotBelow, LevelAbove, CauseAt, cause1, cause2, cause3, cause4, cause5, cause6, cause7, Sound, Faultless, FirstFault}
+use Rattle.layout.specs.Causes.{Place, first, item, last, after, fieldOffset, editionOf, itemCount, fieldNumber, InSheet, Before, offsetOf, tagOf, lengthOf, contentOf, levelsBefore, itemLevelOf, NotWhole, RunsPastOrAbsent, WrongTagOrTrailing, WrongLengthOrName, WrongItemLength, WrongEditionOrCount, WrongRuleKeepSpreadOrCount, ParentNotBelow, LevelAbove, CauseAt, cause1, cause2, cause3, cause4, cause5, cause6, cause7, Sound, Faultless, FirstFault}
 use Rattle.layout.proofs.Scan.{Extended, scan-extended, scan-length, scan-prefix, head-read, Faulted, scan-faulted, offsetFrom}
-use Rattle.layout.proofs.Exactly.{levels, level-after, levels-snoc, scan-none}
+use Rattle.layout.proofs.Exactly.{level-after, levels-snoc, scan-none}
 use Rattle.layout.proofs.Tests.{Tells, holds, fails, tells-if, tells-or, tells-not, tells-eq, tells-lt, refutes-tells, refutes-edition, tells-length, tells-wrong-figure, tells-parents}
 
 -- The lowest cause from a number on.
@@ -194,7 +195,7 @@ item-length s i h t =
     (tells-length (tagOf s (item i)) (contentOf s (item i)) t)
 
 -- the field of item i, after the items read
-item-verdict : (s : List ℕ) (edition i : ℕ) (ps : List Placed) → length ps ≡ i → levels ps ≡ levelsOf s i
+item-verdict : (s : List ℕ) (edition i : ℕ) (ps : List Placed) → length ps ≡ i → levelsOf ps ≡ levelsBefore s i
     → Lowest s (item i) 1 (judge (itemTests edition ps) s (cutAt s (offsetOf s (item i))))
 unfolding itemTests firstCause
 item-verdict s edition i ps n l = field-verdict s (item i) (offsetOf s (item i)) (itemTests edition ps) (λ x. x) (λ x. x) tests
@@ -231,7 +232,7 @@ after-verdict s b e =
 
 record Standing (s : List ℕ) (i at : ℕ) (ps : List Placed) : Type 0 where
   offset-is : at ≡ fieldOffset s (suc i)
-  levels-are : levels ps ≡ levelsOf s i
+  levels-are : levelsOf ps ≡ levelsBefore s i
 
 next-offset : (s : List ℕ) (k : ℕ) → fieldOffset s (suc k) ≡ fieldOffset s k + headerLength + lenAt s (fieldOffset s k)
 unfolding fieldOffset
@@ -241,13 +242,13 @@ first-offset : (s : List ℕ) → fieldOffset s 0 ≡ 0
 unfolding fieldOffset
 first-offset s = refl
 
-levels-none : (s : List ℕ) → levels [] ≡ levelsOf s 0
-unfolding levels levelsOf
+levels-none : (s : List ℕ) → levelsOf [] ≡ levelsBefore s 0
+unfolding levelsBefore
 levels-none s = refl
 
 module _ (s : List ℕ) (edition : ℕ) (head : cutAt s 0 ≡ Field headTag headerLength headLength headNext) where
   stands-one : (k at : ℕ) (ps : List Placed) (x : Extended s edition k at ps) → Standing s k (x .before) (x .earlier) → Standing s (suc k) at ps
-  unfolding levelsOf
+  unfolding levelsBefore
   stands-one k at ps x st =
       let r = x .read in
       let f = field-iff s (x .before) (r .tag) (r .start) (r .len) at .0 (r .whole) in
@@ -259,7 +260,7 @@ module _ (s : List ℕ) (edition : ℕ) (head : cutAt s 0 ≡ Field headTag head
       let i : x .it ≡ itemIn (tagOf s (item k)) (contentOf s (item k)) = r .item-is ∙ ap₂ itemIn t (ap₂ (contentAt s) st′ l) in
       record {
         offset-is = f .next-is ∙ ap₂ _+_ st′ l ∙ sym (next-offset s (suc k));
-        levels-are = ap levels (x .placed-is) ∙ levels-snoc (x .before) (x .earlier) (x .it) ∙ rw (st .levels-are, i);
+        levels-are = ap levelsOf (x .placed-is) ∙ levels-snoc (x .before) (x .earlier) (x .it) ∙ rw (st .levels-are, i);
       }
 
   stands : (k at : ℕ) (ps : List Placed) → scan s edition k ≡ going at ps → Standing s k at ps

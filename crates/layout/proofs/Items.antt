@@ -9,7 +9,8 @@ use lib.Dec.{eqb, leb, ltb}
 use lib.ListN.{length, getD, take, drop, length-append, length-drop, take-append-drop}
 use lib.Seq.{take-suc, drop-cons, drop-drop, drop-at, take-all, getD-append-add, getD-drop, drop-append-add}
 use borrow.Author.Tests.{eqb-true, leb-true, ltb-false, not-false}
-use Rattle.field.specs.Field.{le16, Bytes, fieldBytes}
+use Rattle.field.specs.Bytes.{Bytes}
+use Rattle.field.specs.Field.{le16, fieldBytes}
 use Rattle.field.proofs.Cutting.{le16-of, le16-low, le16-high}
 use Rattle.layout.specs.Layout.{LayoutItem, entryField, figureField, entryTag, figureTag, nameAllowed, nameLimit, all, parentsAt, parentWidth, parentAt}
 use Rattle.layout.specs.Read.{ruleIn, keepIn, spreadIn, parentCountIn, parentIn, parentsIn, nameIn, itemIn, lengthOrName}

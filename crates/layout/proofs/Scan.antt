@@ -20,8 +20,8 @@ use Rattle.field.proofs.Cutting.{field-iff, content-length}
 use Rattle.circuit.specs.Calls.{Test, test, firstCause}
 use Rattle.circuit.specs.Circuit.{Listed}
 use Rattle.circuit.specs.Rules.{Operation, operationOf}
-use Rattle.circuit.specs.Sheet.{figure, itemAt, parentsOf, Ordered}
-use Rattle.layout.specs.Layout.{LayoutItem, entryField, figureField, headTag, entryTag, figureTag, lastTag, editionKnown, countAllowed, levelLimit, keepAllowed, spreadAllowed, ruleAllowed, all, itemLimit, machineItem, machineSheet, spreadMeant, isSome, headLength, mostItems}
+use Rattle.circuit.specs.Sheet.{itemAt, parentsOf, Ordered}
+use Rattle.layout.specs.Layout.{LayoutItem, entryField, figureField, headTag, entryTag, figureTag, lastTag, editionKnown, countAllowed, levelLimit, ruleAllowed, all, itemLimit, machineItem, machineSheet, isSome, headLength, mostItems}
 use Rattle.layout.specs.Read.{contentAt, editionIn, countIn, itemIn, Placed, placed, itemLevel, lengthOrName, ruleWrong, parentWrong, levelWrong, headTests, itemTests, lastTests, judge, Scan, going, stopped, placeItem, placeField, goOn, scanItem, headNext, scan, afterLast, scanEnd, scanLast, headContent, scanSheet, opens, conclude, readSheet, layoutOf}
 
 -- Lists of tests.
@@ -93,13 +93,6 @@ module _ (s : List ℕ) (edition : ℕ) where
       let x = scan-extended k at ps e in
       let n = scan-length k (x .before) (x .earlier) (x .scanned) in
       rw (x .placed-is) (omega (arith, length-append (x .earlier) (placed (x .before) (x .it) (itemLevel (x .earlier) (x .it)) ∷ [])))
-
-  pub scan-within : (k at : ℕ) (ps : List Placed) → headNext ≤ length s → scan s edition k ≡ going at ps → at ≤ length s
-  unfolding scan
-  scan-within zero at ps h e = let n : headNext ≡ at = cc in omega arith
-  scan-within (suc k) at ps h e =
-      let r = scan-extended k at ps e .read in
-      field-iff s (scan-extended k at ps e .before) (r .tag) (r .start) (r .len) at .0 (r .whole) .next-in
 
 -- an element of a list with one more at its end: the default of the shorter is the one more
 getD-snoc : {A : Type 0} (xs : List A) (b d : A) (j : ℕ) → j ≤ length xs → getD (xs ++ (b ∷ [])) j d ≡ getD xs j b
@@ -176,14 +169,6 @@ module _ (s : List ℕ) (edition : ℕ) where
       let o : placedAt ps j ≡ one = sym g ∙ ap (λ r. placedAt r j) (x .placed-is) ∙ f in
       let i : placedAt ps j .item ≡ x .it = ap (λ p. p .item) o in
       record { read = rw (← l, ← b, i) (x .read); level-is = rw (o, ← l) }
-
--- offsets rise by a field's header at least
-pub scan-rises : (s : List ℕ) (edition k at : ℕ) (ps : List Placed) → scan s edition k ≡ going at ps → (j : ℕ) → j < k
-    → offsetFrom at ps j + headerLength ≤ offsetFrom at ps (suc j)
-scan-rises s edition k at ps e j h =
-    let r = scan-item s edition k at ps e j h .read in
-    let f = field-iff s (offsetFrom at ps j) (r .tag) (r .start) (r .len) (offsetFrom at ps (suc j)) .0 (r .whole) in
-    omega arith
 
 -- Where a scan stopped: at an item whose field was judged at fault, after items that were read.
 pub record Faulted (s : List ℕ) (edition n number offset : ℕ) : Type 0 where
@@ -446,11 +431,6 @@ allowed-operation rule p e = go (operationOf rule p) refl e
     go none q h = let z : _≡_ {A = ℕ} 0 1 = cc in absurd (omega arith)
     go (some op) q h = (op, q)
 
-pub machine-figure : (rule keep spread : ℕ) (parents name : List ℕ) (op : Operation) → operationOf rule (length parents) ≡ some op
-    → machineItem (figureField rule keep spread parents name) ≡ figure op (eqb keep 1) (spreadMeant spread) parents
-unfolding machineItem
-machine-figure rule keep spread parents name op e = rw e
-
 -- an item's number fits in two bytes
 pub most-small : mostItems < 65_536
 unfolding mostItems itemLimit
@@ -478,9 +458,6 @@ module _ (s : List ℕ) (edition : ℕ) (ps : List Placed) (e : readSheet s ≡ 
       let o = opened s edition ps e in
       scan-fits s edition (countIn (headContent s)) (o .at) ps (o .scanned) j (omega (arith, opened-length))
 
-  pub opened-level : (j : ℕ) → j < length ps → placedAt ps j .level ≤ levelLimit
-  opened-level j h = opened-fits j h .level-fits
-
   -- each parent is a lower item number
   pub opened-ordered : Ordered (machineSheet (layoutOf edition ps))
   opened-ordered i p l = go (decLt i (length ps)) (rw (machine-item edition ps i) at l)
@@ -490,16 +467,3 @@ module _ (s : List ℕ) (edition : ℕ) (ps : List Placed) (e : readSheet s ≡ 
       go (no h) q =
           let d : placedAt ps i ≡ placed 0 (entryField []) 0 = List·getD-eq-default ps (placed 0 (entryField []) 0) (omega arith) in
           absurd (entry-listed p [] (rw d at q))
-
-  -- a figure's operation is that of its rule and parent count
-  pub opened-operation : (j : ℕ) → j < length ps → (rule keep spread : ℕ) (parents name : List ℕ)
-      → placedAt ps j .item ≡ figureField rule keep spread parents name
-      → (op : Operation) × (operationOf rule (length parents) ≡ some op)
-      × (itemAt (machineSheet (layoutOf edition ps)) j ≡ figure op (eqb keep 1) (spreadMeant spread) parents)
-  opened-operation j h rule keep spread parents name q =
-      let f : ruleWrong edition (figureField rule keep spread parents name) ≡ false = rw q at (opened-fits j h .rule-fits) in
-      let two = and-left (ruleAllowed rule (length parents) && keepAllowed keep) (spreadAllowed edition spread) (not-false _ f) in
-      let r = and-left (ruleAllowed rule (length parents)) (keepAllowed keep) two in
-      let a = allowed-operation rule (length parents) r in
-      let m = machine-figure rule keep spread parents name (a .0) (a .1) in
-      (a .0, a .1, machine-item edition ps j ∙ ap machineItem q ∙ m)

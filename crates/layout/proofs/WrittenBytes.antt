@@ -9,7 +9,8 @@ use lib.Dec.{leb, ltb}
 use lib.ListN.{length, length-append}
 use borrow.Author.Tests.{leb-true, ltb-true, eqb-true}
 use Rattle.circuit.specs.Rules.{maxParents}
-use Rattle.field.specs.Field.{Bytes, fieldBytes}
+use Rattle.field.specs.Bytes.{Bytes}
+use Rattle.field.specs.Field.{fieldBytes}
 use Rattle.field.proofs.Cutting.{Bytes-fieldBytes}
 use Rattle.circuit.specs.Circuit.{Listed}
 use Rattle.layout.specs.Layout.{LayoutItem, entryField, figureField, Layout, headTag, entryTag, figureTag, lastTag, editionKnown, itemLimit, countAllowed, levelLimit, keepAllowed, spreadAllowed, ruleAllowed, nameByte, nameLimit, nameAllowed, all}

@@ -61,13 +61,13 @@ abbrev pub contentOf : List ℕ → Place → List ℕ
 contentOf s p = take (lengthOf s p) (drop (offsetOf s p + headerLength) s)
 
 -- The levels of the first k items, in order: 0 for an entry, for a figure one more than the highest of its parents.
-unfoldable pub levelsOf : List ℕ → ℕ → List ℕ
-levelsOf s zero = []
-levelsOf s (suc k) =
-    levelsOf s k ++ (levelAfter (levelsOf s k) (itemIn (tagOf s (item k)) (contentOf s (item k))) ∷ [])
+unfoldable pub levelsBefore : List ℕ → ℕ → List ℕ
+levelsBefore s zero = []
+levelsBefore s (suc k) =
+    levelsBefore s k ++ (levelAfter (levelsBefore s k) (itemIn (tagOf s (item k)) (contentOf s (item k))) ∷ [])
 
 abbrev pub itemLevelOf : List ℕ → ℕ → ℕ
-itemLevelOf s i = levelAfter (levelsOf s i) (itemIn (tagOf s (item i)) (contentOf s (item i)))
+itemLevelOf s i = levelAfter (levelsBefore s i) (itemIn (tagOf s (item i)) (contentOf s (item i)))
 
 -- 1: field runs past the end (its header, or its content), or is absent
 abbrev pub NotWhole : List ℕ → ℕ → Type 0

@@ -30,6 +30,9 @@ sheetOf s = sheetFrom (readSheet s)
 abbrev pub offsetsOf : List Placed → List ℕ
 offsetsOf ps = map (λ p. p .offset) ps
 
+abbrev pub levelsOf : List Placed → List ℕ
+levelsOf ps = map (λ p. p .level) ps
+
 -- the array begins with the offsets of the sheet's items
 unfoldable pub Located : List ℕ → List ℕ → Type 0
 Located s offsets = take (length (itemsOf s)) offsets ≡ offsetsOf (itemsOf s)

@@ -11,7 +11,8 @@ use lib.ListN.{length, getD, take, drop, set, length-append, length-drop}
 use lib.Seq.{take-suc, take-add, drop-cons, set-at, getD-drop, append-snoc}
 use Rattle.field.specs.Field.{le16At}
 use Rattle.layout.specs.Layout.{all, highest, parentWidth}
-use Rattle.sheet.specs.Check.{over, numbersAt}
+use Rattle.field.specs.Bytes.{over}
+use Rattle.sheet.specs.Check.{numbersAt}
 
 pub and-false : (b : Bool) → b && false ≡ false
 and-false true = refl
@@ -88,6 +89,3 @@ over-more xs ys i y e h =
     let d : drop (length xs) ys ≡ getD ys (length xs) 0 ∷ drop (suc (length xs)) ys = drop-cons ys (length xs) 0 (omega arith) in
     let n : length (xs ++ (y ∷ [])) ≡ suc (length xs) = length-append xs (y ∷ []) ∙ add-one (length xs) in
     rw (d, n, append-snoc xs y (drop (suc (length xs)) ys)) (set-at xs (getD ys (length xs) 0) (drop (suc (length xs)) ys) y i e)
-
-pub length-over : (xs ys : List ℕ) → length xs ≤ length ys → length (over xs ys) ≡ length ys
-length-over xs ys h = simp (length-append, length-drop) (omega arith)

@@ -1,19 +1,17 @@
 -- The check of a whole sheet, from its first field and its items. Assumes nothing.
 use mathlib.Core.Path.{_≡_, refl, sym, ap, _∙_}
-use mathlib.Core.Bool.{true}
 use mathlib.Core.List.{List}
 use Prim.Native.Nat.{ℕ, zero, suc, _+_, _≤_}
 use native.Mathlib.Omega.{arith}
-use lib.Dec.{leb}
 use lib.ListN.{length}
-use borrow.Author.Tests.{leb-true}
 use Rattle.field.specs.Field.{cutAt, le16At, headerLength}
 use Rattle.field.specs.declared.Cut.the-variants.{Field}
 use Rattle.field.proofs.Cutting.{field-iff}
-use Rattle.layout.specs.Layout.{itemLimit, countAllowed, editionAt, countAt, headLength, mostItems}
+use Rattle.layout.specs.Layout.{editionAt, countAt, headLength, mostItems}
 use Rattle.layout.specs.Read.{editionIn, countIn, headContent, headTests, judge, scan, scanLast, scanSheet, conclude, readSheet}
-use Rattle.layout.specs.Opened.{offsetsOf}
-use Rattle.sheet.specs.Check.{checkedOf, soundItems, readSoFar, over, levelsOf}
+use Rattle.layout.specs.Opened.{offsetsOf, levelsOf}
+use Rattle.field.specs.Bytes.{over}
+use Rattle.sheet.specs.Check.{checkedOf, soundItems, readSoFar}
 use Rattle.sheet.specs.declared.Checked.{Checked}
 use Rattle.sheet.specs.declared.Checked.the-variants.{Refused}
 use Rattle.sheet.proofs.Content.{content16}

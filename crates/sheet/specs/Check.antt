@@ -1,22 +1,19 @@
 -- What the check of a sheet answers, and what it leaves in its two scratch arrays. Assumes nothing.
-use Prim.Native.Nat.{ℕ, zero, suc, _+_, _*_, _<_}
+use Prim.Native.Nat.{ℕ, zero, suc, _+_, _*_}
 use mathlib.Core.Path.{_≡_}
-use mathlib.Core.Bool.{Bool, true, false, cond}
+use mathlib.Core.Bool.{cond}
 use mathlib.Core.List.{List, [], _∷_, _++_, map}
 use lib.Dec.{ltb}
-use lib.ListN.{length, getD, take, drop}
+use lib.ListN.{length, getD, take}
+use Rattle.layout.specs.Opened.{levelsOf}
 use Rattle.field.specs.Field.{cutAt, le16At}
 use Rattle.circuit.specs.Calls.{firstCause}
 use Rattle.layout.specs.Layout.{all, highest, parentWidth}
-use Rattle.layout.specs.Read.{Placed, Scan, going, stopped, scan, SheetRead, opens, refused, readSheet, judge, headTests, itemTests, itemIn, itemLevel, headContent, editionIn, countIn}
-use Rattle.layout.specs.Opened.{offsetsOf}
+use Rattle.layout.specs.Read.{Placed, Scan, going, stopped, scan, SheetRead, opens, refused, judge, headTests, itemTests, itemIn, itemLevel, headContent, editionIn, countIn}
 use Rattle.sheet.specs.declared.Checked.{Checked}
 use Rattle.sheet.specs.declared.Checked.the-variants.{Opens, Refused}
 use Rattle.sheet.specs.declared.Judged.{Judged}
 use Rattle.sheet.specs.declared.Judged.the-variants.{Sound, Fault}
-
-abbrev pub levelsOf : List Placed → List ℕ
-levelsOf ps = map (λ p. p .level) ps
 
 -- the check's answer
 abbrev pub checkedOf : SheetRead → Checked
@@ -62,10 +59,6 @@ afterHead (suc k) ps = []
 unfoldable pub readSoFar : List ℕ → List Placed
 readSoFar s =
     afterHead (judge headTests s (cutAt s 0)) (soundItems s (editionIn (headContent s)) (countIn (headContent s)))
-
--- xs written over the front of ys
-abbrev pub over : List ℕ → List ℕ → List ℕ
-over xs ys = xs ++ drop (length xs) ys
 
 -- the p numbers of two bytes from an offset on
 unfoldable pub numbersAt : List ℕ → ℕ → ℕ → List ℕ

@@ -7,8 +7,9 @@ ghost use lib.ListN.{length};
 ghost use Rattle.circuit.specs.Calls.{firstCause};
 ghost use Rattle.layout.specs.Layout.{figureTag, mostItems, parentWidth, ruleAllowed, keepAllowed, spreadAllowed, nameAllowed};
 ghost use Rattle.layout.specs.Read.{Placed, contentAt, headTests, going, scan, scanLast, conclude, readSheet};
-ghost use Rattle.layout.specs.Opened.{offsetsOf};
-ghost use Rattle.sheet.specs.Check.{checkedOf, judgedItem, LevelsAt, soundItems, readSoFar, over, levelsOf, numbersAt, levelOver};
+ghost use Rattle.layout.specs.Opened.{offsetsOf, levelsOf};
+ghost use Rattle.field.specs.Bytes.{over};
+ghost use Rattle.sheet.specs.Check.{checkedOf, judgedItem, LevelsAt, soundItems, readSoFar, numbersAt, levelOver};
 use field::Cut;
 use limits::COUNT_AT;
 use limits::ENTRY_TAG;
@@ -36,12 +37,6 @@ pub enum Checked {
 pub enum Judged {
     Sound { level: u8 },
     Fault { number: u64 },
-}
-
-fn wide(x: u8) -> usize
-    ensures { λ r. ⌜ (r ≡ x) × (r ≤ 255) ⌝ }
-{
-    x as usize
 }
 
 fn greater(a: usize, b: usize) -> usize
@@ -80,7 +75,7 @@ fn level_over(s: &[u8], at: usize, p: usize, i: usize, levels: &[u8]) -> usize
         if i <= parent {
             return 0;
         }
-        highest = greater(highest, wide(levels[parent]));
+        highest = greater(highest, field::wide(levels[parent]));
     }
     highest + 1
 }
@@ -111,7 +106,7 @@ fn judge_figure(
     if len < PARENTS_AT {
         return Judged::Fault { number: 3 };
     }
-    let p = wide(s[start + PARENT_COUNT_AT]);
+    let p = field::wide(s[start + PARENT_COUNT_AT]);
     let before = PARENTS_AT + PARENT_WIDTH * p;
     if len < before {
         return Judged::Fault { number: 3 };

@@ -1,16 +1,11 @@
 -- `children::link` meets its contract. The loop's invariant: the lists are those of the items from c on. Assumes nothing.
 use native.Mathlib.Omega.{arith}
-use borrow.Author.Needs.{needs}
 use Rattle.circuit.specs.Rules.{maxParents}
 use Rattle.layout.specs.Layout.{itemLimit, mostItems}
 use Rattle.item.proofs.Located.{size-most, size-room}
 use Rattle.children.proofs.Building.{Built, built-start, item-there, parents-low, built-next, built-lengths, built-done}
 use Rattle.children.proofs.link.Statement.{statement}
 use Rattle.children.proofs.link.Tie as tie
-use Rattle.children.proofs.link.Reads as reads
-use Rattle.children.proofs.link.Lts as lts
-use Rattle.children.proofs.head_places.Reads as head-places-reads
-use Rattle.children.proofs.link_places.Reads as link-places-reads
 
 abbrev Inv-loop : tie.InvT-loop
 Inv-loop s offsets n heads₀ links₀ c₀ heads links c = Built s heads₀ links₀ n c heads links

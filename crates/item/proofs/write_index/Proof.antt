@@ -1,6 +1,6 @@
 -- `item::write_index` meets its contract. The loop's invariant: the entries written are those of the first k offsets. Assumes nothing.
 use native.Mathlib.Omega.{arith}
-use mathlib.Core.Path.{_≡_, refl, sym, ap, _∙_}
+use mathlib.Core.Path.{_≡_, refl, ap, _∙_}
 use Prim.Native.Nat.{_≤_, _+_, _*_, _-_}
 use lib.ListN.{length, take, getD}
 use Rattle.layout.specs.Layout.{indexWidth}
