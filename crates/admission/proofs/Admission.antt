@@ -11,8 +11,9 @@ use lib.ListN.{length}
 use borrow.Author.Tests.{eqb-true, not-false}
 use Rattle.layout.specs.Layout.{indexWidth, mostItems}
 use Rattle.circuit.specs.Sheet.{size}
-use Rattle.circuit.specs.Calls.{Call, Test, test, firstCause, tests, effect}
-use Rattle.circuit.specs.Offices.{Opening, opened}
+use Rattle.circuit.specs.Call.{Call, Opening}
+use Rattle.circuit.specs.Calls.{Test, test, firstCause, tests, effect}
+use Rattle.circuit.specs.Table.{opened}
 use Rattle.circuit.proofs.RuleLaws.{and-left, and-right}
 use Rattle.layout.specs.Read.{SheetRead, opens, refused, readSheet}
 use Rattle.layout.specs.Opened.{itemsOf, sheetRead, sheetFrom, placedFrom, sheetOf, Located}
@@ -20,7 +21,7 @@ use Rattle.layout.specs.Index.{indexBytes}
 use Rattle.item.proofs.Located.{sheet-size, size-room}
 use Rattle.table.specs.Record.{width}
 use Rattle.table.specs.Bytes.{encodeTable, decodeTable, tableForm, tableLength}
-use Rattle.office.specs.Office.{Given, refusal, accepted, lengthsOff, indexWrong, tableWrong, unlessRefused, effectOn, callOn, openOn}
+use Rattle.office.specs.Office.{Given, refusal, accepted, lengthsOff, indexWrong, tableWrong, unlessRefused, effectOn, callOn, openOn, keeping}
 use Rattle.looking.specs.Pass.{Lent}
 use Rattle.admission.specs.Admission.{itemsUnless, measuredBy, measuredOf, admittedBy, admittedOf, callLent, Placing}
 use Rattle.admission.specs.declared.Admitted.the-variants.{Items, Refused}
@@ -33,24 +34,24 @@ lengths-right n a b e =
 
 -- ---- an opening
 
-pub refused-open : (how : Opening) (s x t : List ℕ) (k at : ℕ) → Refused k at ≡ measuredOf s (length x) (length t) → openOn how s x t ≡ refusal k at x t
+pub refused-open : (how : Opening) (s x t : List ℕ) (k at : ℕ) → Refused k at ≡ measuredOf s (length x) (length t) → openOn how s (keeping x t) ≡ refusal k at (keeping x t)
 unfolding openOn measuredOf firstCause
 refused-open how s x t k at e = go (readSheet s) refl e
   where
-    by : (b : Bool) (n : ℕ) (g : Given) → Refused k at ≡ itemsUnless (firstCause (test 8 b ∷ [])) n → unlessRefused (firstCause (test 8 b ∷ [])) x t g ≡ refusal k at x t
-    by true n g q = let a : 8 ≡ k = cc in let o : 0 ≡ at = cc in ap₂ (λ i j. refusal i j x t) a o
+    by : (b : Bool) (n : ℕ) (g : Given) → Refused k at ≡ itemsUnless (firstCause (test 8 b ∷ [])) n → unlessRefused (firstCause (test 8 b ∷ [])) (keeping x t) g ≡ refusal k at (keeping x t)
+    by true n g q = let a : 8 ≡ k = cc in let o : 0 ≡ at = cc in ap₂ (λ i j. refusal i j (keeping x t)) a o
     by false n g q = let z : _≡_ {A = ℕ} 0 1 = cc in absurd (omega arith)
 
-    go : (r : SheetRead) → readSheet s ≡ r → Refused k at ≡ measuredBy r (length x) (length t) → openOn how s x t ≡ refusal k at x t
-    go (refused j o) q y = let a : j ≡ k = cc in let b : o ≡ at = cc in rw q (ap₂ (λ i p. refusal i p x t) a b)
-    go (opens edition ps) q y = rw q (by (lengthsOff (length ps) (length x) (length t)) (length ps) (accepted none (indexBytes ps) (encodeTable (sheetRead edition ps) (opened how (sheetRead edition ps)))) y)
+    go : (r : SheetRead) → readSheet s ≡ r → Refused k at ≡ measuredBy r (length x) (length t) → openOn how s (keeping x t) ≡ refusal k at (keeping x t)
+    go (refused j o) q y = let a : j ≡ k = cc in let b : o ≡ at = cc in rw q (ap₂ (λ i p. refusal i p (keeping x t)) a b)
+    go (opens edition ps) q y = rw q (by (lengthsOff (length ps) (length x) (length t)) (length ps) (accepted none (keeping (indexBytes ps) (encodeTable (sheetRead edition ps) (opened how (sheetRead edition ps))))) y)
 
 pub record Measured (s x t : List ℕ) (n : ℕ) : Type 0 where
   pub count-is : n ≡ size (sheetOf s)
   pub items-count : n ≡ length (itemsOf s)
   pub index-length : length x ≡ indexWidth * n
   pub table-length : length t ≡ width * n
-  pub opening : (how : Opening) → openOn how s x t ≡ accepted none (indexBytes (itemsOf s)) (encodeTable (sheetOf s) (opened how (sheetOf s)))
+  pub opening : (how : Opening) → openOn how s (keeping x t) ≡ accepted none (keeping (indexBytes (itemsOf s)) (encodeTable (sheetOf s) (opened how (sheetOf s))))
 
 pub measured : (s x t : List ℕ) (n : ℕ) → Items n ≡ measuredOf s (length x) (length t) → Measured s x t n
 unfolding openOn measuredOf firstCause itemsOf sheetOf
@@ -76,28 +77,28 @@ measured s x t n e = go (readSheet s) refl e
 
 -- ---- a call
 
-pub refused-call : (s x t : List ℕ) (c : Call) (k at : ℕ) → Refused k at ≡ admittedOf s x t → callOn s x t c ≡ refusal k at x t
+pub refused-call : (s x t : List ℕ) (c : Call) (k at : ℕ) → Refused k at ≡ admittedOf s x t → callOn s (keeping x t) c ≡ refusal k at (keeping x t)
 unfolding callOn admittedOf firstCause
 refused-call s x t c k at e = go (readSheet s) refl e
   where
     by : (a b d : Bool) (n : ℕ) (ts : List Test) (g : Given) → Refused k at ≡ itemsUnless (firstCause (test 8 a ∷ test 9 b ∷ test 10 d ∷ [])) n
-        → unlessRefused (firstCause (test 8 a ∷ test 9 b ∷ test 10 d ∷ ts)) x t g ≡ refusal k at x t
-    by true b d n ts g q = let a : 8 ≡ k = cc in let o : 0 ≡ at = cc in ap₂ (λ i j. refusal i j x t) a o
-    by false true d n ts g q = let a : 9 ≡ k = cc in let o : 0 ≡ at = cc in ap₂ (λ i j. refusal i j x t) a o
-    by false false true n ts g q = let a : 10 ≡ k = cc in let o : 0 ≡ at = cc in ap₂ (λ i j. refusal i j x t) a o
+        → unlessRefused (firstCause (test 8 a ∷ test 9 b ∷ test 10 d ∷ ts)) (keeping x t) g ≡ refusal k at (keeping x t)
+    by true b d n ts g q = let a : 8 ≡ k = cc in let o : 0 ≡ at = cc in ap₂ (λ i j. refusal i j (keeping x t)) a o
+    by false true d n ts g q = let a : 9 ≡ k = cc in let o : 0 ≡ at = cc in ap₂ (λ i j. refusal i j (keeping x t)) a o
+    by false false true n ts g q = let a : 10 ≡ k = cc in let o : 0 ≡ at = cc in ap₂ (λ i j. refusal i j (keeping x t)) a o
     by false false false n ts g q = let z : _≡_ {A = ℕ} 0 1 = cc in absurd (omega arith)
 
-    go : (r : SheetRead) → readSheet s ≡ r → Refused k at ≡ admittedBy r x t → callOn s x t c ≡ refusal k at x t
-    go (refused j o) q y = let a : j ≡ k = cc in let b : o ≡ at = cc in rw q (ap₂ (λ i p. refusal i p x t) a b)
+    go : (r : SheetRead) → readSheet s ≡ r → Refused k at ≡ admittedBy r x t → callOn s (keeping x t) c ≡ refusal k at (keeping x t)
+    go (refused j o) q y = let a : j ≡ k = cc in let b : o ≡ at = cc in rw q (ap₂ (λ i p. refusal i p (keeping x t)) a b)
     go (opens edition ps) q y =
         rw q (by (lengthsOff (length ps) (length x) (length t)) (indexWrong ps x) (tableWrong (sheetRead edition ps) t) (length ps)
-        (tests (sheetRead edition ps) (decodeTable t) c) (effectOn (sheetRead edition ps) x (effect (sheetRead edition ps) (decodeTable t) c)) y)
+        (tests (sheetRead edition ps) (decodeTable t) c) (effectOn (sheetRead edition ps) (keeping x t) (effect (sheetRead edition ps) (decodeTable t) c)) y)
 
 pub record AdmittedCall (s x t : List ℕ) (n : ℕ) : Type 0 where
   pub count-is : n ≡ size (sheetOf s)
   pub table-length : length t ≡ tableLength (sheetOf s)
   pub formed : tableForm (sheetOf s) t ≡ true
-  pub call : (c : Call) → callOn s x t c ≡ callLent (sheetOf s) x t c
+  pub call : (c : Call) → callOn s (keeping x t) c ≡ callLent (sheetOf s) x t c
 
 pub admitted : (s x t : List ℕ) (n : ℕ) → Items n ≡ admittedOf s x t → AdmittedCall s x t n
 unfolding callOn admittedOf firstCause sheetOf itemsOf

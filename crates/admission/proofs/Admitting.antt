@@ -8,8 +8,9 @@ use mathlib.Core.List.{List, [], _∷_}
 use lib.ListN.{length, getD, take}
 use borrow.Author.Tests.{eq-eqb, ne-eqb, le-leb, lt-leb, leb-false}
 use Rattle.circuit.specs.Sheet.{Sheet, size, itemAt, isFigure}
-use Rattle.circuit.specs.Table.{Cell, upd}
-use Rattle.circuit.specs.Calls.{Call, Test, test, firstCause, tests, effect, noItem}
+use Rattle.circuit.specs.Table.{Table, Cell, upd}
+use Rattle.circuit.specs.Call.{Call}
+use Rattle.circuit.specs.Calls.{Test, test, firstCause, tests, effect, noItem}
 use Rattle.circuit.proofs.RuleLaws.{and-true}
 use Rattle.layout.specs.Opened.{itemsOf, placedFrom, sheetFrom, sheetRead, sheetOf, Located}
 use Rattle.layout.specs.Read.{SheetRead, opens, refused, readSheet}
@@ -27,11 +28,11 @@ use Rattle.table.specs.Record.{width, encodeCell, recordForm}
 use Rattle.table.specs.Bytes.{encodeTable, decodeTable, tableForm, tableLength, recordInForm}
 use Rattle.table.proofs.Rows.{below-true}
 use Rattle.table.proofs.Tables.{encode-decodeTable, encode-upd}
-use Rattle.office.specs.Office.{refusal, lengthsOff, indexWrong, tableWrong, callOn}
+use Rattle.office.specs.Office.{refusal, lengthsOff, indexWrong, tableWrong}
 use Rattle.looking.specs.Pass.{Lent}
 use Rattle.admission.specs.Admission.{itemsUnless, measuredBy, measuredOf, admittedOf, callLent}
-use Rattle.admission.proofs.Admission.{measured, admitted, refused-call}
-use Rattle.admission.specs.Answers.{Answered, wrongItem}
+use Rattle.admission.proofs.Admission.{measured}
+use Rattle.admission.specs.Answers.{Answered, Left, wrongItem}
 use Rattle.admission.specs.declared.Answer.{Answer}
 use Rattle.admission.specs.declared.Admitted.the-variants.{Items, Refused}
 
@@ -139,6 +140,24 @@ pub accepted-answer : (S : Sheet) (x t t′ : List ℕ) (c : Call) (r : Answer) 
     → r .number ≡ 0 → r .offset ≡ 0 → t′ ≡ encodeTable S (effect S (decodeTable t) c .table) → Answered (callLent S x t c) r t′
 accepted-answer S x t t′ c r e n o h = rw e (record { number-is = n; offset-is = o; table-is = h })
 
+-- A call whose tests begin with those of its item, figures or entries: refused by them, or past them.
+module _ (S : Sheet) (x t : List ℕ) (c : Call) (figures : Bool) (item : ℕ) (ts : List Test)
+    (first : tests S (decodeTable t) c ≡ test 11 (noItem S item) ∷ test 12 (wrongItem figures S item) ∷ ts)
+    (cause : ℕ) (cause-is : cause ≡ firstCause (test 11 (noItem S item) ∷ test 12 (wrongItem figures S item) ∷ [])) where
+  pub item-refused : (cause ≡ 0 → ⊥) → (r : Answer) → r .number ≡ cause → r .offset ≡ 0 → Answered (callLent S x t c) r t
+  item-refused h r n o = refused-answer S x t c r cause (ap firstCause first ∙ first-two _ _ ts cause cause-is h) h n o
+
+  pub item-passed : cause ≡ 0 → firstCause (tests S (decodeTable t) c) ≡ firstCause ts
+  item-passed h = ap firstCause first ∙ past-two (noItem S item) (wrongItem figures S item) ts cause cause-is h .1
+
+  pub item-low : cause ≡ 0 → item < size S
+  item-low h = leb-false (size S) item (past-two (noItem S item) (wrongItem figures S item) ts cause cause-is h .0)
+
+-- the bytes of a table in form that decodes to U
+pub left-encoded : {s offsets t : List ℕ} → Lent s offsets t → {U : Table} {t′ : List ℕ} → Left s U t′ → Bytes t′ → length t′ ≡ length t → t′ ≡ encodeTable (sheetOf s) U
+left-encoded {s} {offsets} {t} lent {U} {t′} left bytes len =
+    sym (encode-decodeTable (sheetOf s) t′ bytes (len ∙ lent .length-is) (left .formed)) ∙ ap (encodeTable (sheetOf s)) (left .table-is)
+
 -- what a store leaves
 pub stored-encoded : {s offsets t : List ℕ} → Lent s offsets t → Bytes t → (i : ℕ) (c : Cell) → i < size (sheetOf s)
     → setRow width t i (encodeCell c) ≡ encodeTable (sheetOf s) (upd (decodeTable t) i c)
@@ -201,11 +220,3 @@ admit-refused s x t k at e = go (readSheet s) refl e
     go : (r : SheetRead) → readSheet s ≡ r → Refused k at ≡ measuredBy r (length x) (length t) → Refused k at ≡ admittedOf s x t
     go (refused j o) q y = rw q y
     go (opens edition ps) q y = rw q (by (lengthsOff (length ps) (length x) (length t)) (indexWrong ps x) (tableWrong (sheetRead edition ps) t) (length ps) y)
-
--- ---- the calls whole
-
-pub refused-whole : (s x t : List ℕ) (c : Call) (k at : ℕ) → Refused k at ≡ admittedOf s x t → (r : Answer) → r .number ≡ k → r .offset ≡ at → Answered (callOn s x t c) r t
-refused-whole s x t c k at e r n o = rw (refused-call s x t c k at e) (record { number-is = n; offset-is = o; table-is = refl })
-
-pub admitted-whole : (s x t t′ : List ℕ) (c : Call) (n : ℕ) → Items n ≡ admittedOf s x t → (r : Answer) → Answered (callLent (sheetOf s) x t c) r t′ → Answered (callOn s x t c) r t′
-admitted-whole s x t t′ c n e r h = rw (admitted s x t n e .call c) h

@@ -5,13 +5,14 @@ use mathlib.Core.Path.{_≡_}
 use mathlib.Core.List.{List, [], _∷_}
 use lib.ListN.{length}
 use Rattle.circuit.specs.Sheet.{Sheet, size}
-use Rattle.circuit.specs.Calls.{Call, Test, test, firstCause, tests, effect}
+use Rattle.circuit.specs.Call.{Call}
+use Rattle.circuit.specs.Calls.{Test, test, firstCause, tests, effect}
 use Rattle.layout.specs.Read.{Placed, SheetRead, opens, refused, readSheet}
 use Rattle.layout.specs.Opened.{sheetRead, sheetOf, offsetsOf, Located, levelsOf}
 use Rattle.field.specs.Bytes.{over}
 use Rattle.sheet.specs.Check.{readSoFar}
 use Rattle.table.specs.Bytes.{decodeTable}
-use Rattle.office.specs.Office.{Given, unlessRefused, effectOn, lengthsOff, indexWrong, tableWrong}
+use Rattle.office.specs.Office.{Given, unlessRefused, effectOn, lengthsOff, indexWrong, tableWrong, keeping}
 use Rattle.admission.specs.declared.Admitted.{Admitted}
 use Rattle.admission.specs.declared.Admitted.the-variants.{Items, Refused}
 
@@ -43,7 +44,7 @@ admittedOf s x t = admittedBy (readSheet s) x t
 -- a call on what was admitted: refused by its own tests only
 abbrev pub callLent : Sheet → List ℕ → List ℕ → Call → Given
 callLent S x t c =
-    unlessRefused (firstCause (tests S (decodeTable t) c)) x t (effectOn S x (effect S (decodeTable t) c))
+    unlessRefused (firstCause (tests S (decodeTable t) c)) (keeping x t) (effectOn S (keeping x t) (effect S (decodeTable t) c))
 
 -- What the tests of a sheet leave in the two scratch arrays: the offsets and the levels of the items that were read, over what was
 -- there. Of a sheet that opens the offsets are those of all its items.

@@ -15,7 +15,7 @@ use Rattle.admission.specs.declared.Answer.{Answer}
 pub record Answered (g : Given) (r : Answer) (t : List ℕ) : Type 0 where
   pub number-is : r .number ≡ g .number
   pub offset-is : r .offset ≡ g .offset
-  pub table-is : t ≡ g .table
+  pub table-is : t ≡ g .after .table
 
 -- a table in form that decodes to T
 pub record Left (s : List ℕ) (T : Table) (t : List ℕ) : Type 0 where

@@ -10,21 +10,19 @@ use Rattle.circuit.specs.Value.{Value}
 use Rattle.circuit.specs.Sheet.{size}
 use Rattle.circuit.specs.Table.{Table}
 use Rattle.circuit.specs.Machine.{lookUp, catchUp}
-use Rattle.circuit.specs.Calls.{Call, ask, firstCause, tests, effect}
+use Rattle.circuit.specs.Call.{ask}
+use Rattle.circuit.specs.Calls.{firstCause, tests, effect}
 use Rattle.layout.specs.Opened.{sheetOf}
 use Rattle.field.specs.Bytes.{Bytes}
 use Rattle.table.specs.Bytes.{encodeTable, decodeTable}
 use Rattle.table.proofs.Tables.{encode-decodeTable}
-use Rattle.office.specs.Office.{callOn}
 use Rattle.item.proofs.Located.{size-most}
 use Rattle.looking.specs.Pass.{Lent, Leaves}
 use Rattle.stepping.specs.Stepping.{Ready, Steps}
 use Rattle.memo.specs.Memo.{Found, Memo}
-use Rattle.admission.specs.Admission.{admittedOf, callLent}
+use Rattle.admission.specs.Admission.{callLent}
 use Rattle.call_ask.specs.Asking.{Asked, ReadingOf, LookedUp}
 use Rattle.call_ask.specs.declared.Reading.{Reading}
-use Rattle.admission.specs.declared.Admitted.the-variants.{Items, Refused}
-use Rattle.admission.proofs.Admission.{admitted, refused-call}
 use Rattle.stepping.proofs.Stepping.{ready-memo}
 
 -- ---- ask
@@ -46,14 +44,6 @@ module _ {s offsets t : List ℕ} (lent : Lent s offsets t) (x : List ℕ) (n it
         value-is = q .value-is ∙ ap Rattle.circuit.specs.Value.numberOf (l .value-is);
         table-is = sym (encode-decodeTable (sheetOf s) t₂ bytes (len ∙ lent .length-is) (l .formed)) ∙ ap (encodeTable (sheetOf s)) (l .table-is);
       })
-
-pub refused-read : (s x t : List ℕ) (c : Call) (k at : ℕ) → Refused k at ≡ admittedOf s x t → (r : Reading) → r .number ≡ k → r .offset ≡ at
-    → r .kind ≡ 0 → r .value ≡ pos 0 → Asked (callOn s x t c) r t
-refused-read s x t c k at e r a b d v =
-    rw (refused-call s x t c k at e) (record { number-is = a; offset-is = b; kind-is = d; value-is = v; table-is = refl })
-
-pub admitted-read : (s x t t′ : List ℕ) (c : Call) (n : ℕ) → Items n ≡ admittedOf s x t → (r : Reading) → Asked (callLent (sheetOf s) x t c) r t′ → Asked (callOn s x t c) r t′
-admitted-read s x t t′ c n e r h = rw (admitted s x t n e .call c) h
 
 -- the look-up after catching up is of a generation of its own
 pub caught-memo : {s tags : List ℕ} {numbers : List ℤ} → Ready s tags numbers 1 → {n : ℕ} → n ≡ size (sheetOf s) → {U : Table} {t₁ : List ℕ} (tags₁ : List ℕ) (numbers₁ : List ℤ)

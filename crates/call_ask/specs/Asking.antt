@@ -16,7 +16,7 @@ pub record Asked (g : Given) (r : Reading) (t : List ℕ) : Type 0 where
   pub offset-is : r .offset ≡ g .offset
   pub kind-is : r .kind ≡ g .kind
   pub value-is : r .value ≡ g .value
-  pub table-is : t ≡ g .table
+  pub table-is : t ≡ g .after .table
 
 -- a look-up's value with the table that it leaves, in form
 pub record LookedUp (s : List ℕ) (r : Looked) (v : Value) (t : List ℕ) : Type 0 where

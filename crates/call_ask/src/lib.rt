@@ -5,11 +5,11 @@ ghost use Prim.Native.Nat.{ℕ, _+_, _*_, _<_};
 ghost use Rattle.circuit.specs.Sheet.{size};
 ghost use lib.IntN.{pos};
 ghost use Rattle.circuit.specs.Machine as machine;
-ghost use Rattle.circuit.specs.Calls as machine_calls;
+ghost use Rattle.circuit.specs.Call as machine_call;
 ghost use Rattle.value.specs.Meaning.{meaning};
 ghost use Rattle.layout.specs.Opened.{sheetOf};
 ghost use Rattle.table.specs.Bytes.{decodeTable};
-ghost use Rattle.office.specs.Office.{callOn};
+ghost use Rattle.office.specs.Office.{callOn, keeping};
 ghost use Rattle.call_ask.specs.Asking.{Asked, ReadingOf, LookedUp};
 ghost use Rattle.admission.specs.Admission.{Placing, callLent};
 ghost use Rattle.looking.specs.Pass.{Lent};
@@ -70,7 +70,7 @@ fn refuse(number: u64, offset: usize) -> Reading
 
 fn ask_lent(sheet: &[u8], offsets: &[usize], table: &mut [u8], n: usize, item: u64) -> Reading
     requires { ⌜ Placing (now sheet) (now offsets) n ⌝ ∗ ⌜ Lent (now sheet) (now offsets) (now table) ⌝ }
-    ensures { λ r. ⌜ ((x : List ℕ) → Asked (callLent (sheetOf (now (sheet .entry))) x (now (table .entry)) (machine_calls.ask item)) r (now (table .exit))) ⌝ }
+    ensures { λ r. ⌜ ((x : List ℕ) → Asked (callLent (sheetOf (now (sheet .entry))) x (now (table .entry)) (machine_call.ask item)) r (now (table .exit))) ⌝ }
 {
     if item >= n as u64 {
         return refuse(11, 0);
@@ -79,7 +79,7 @@ fn ask_lent(sheet: &[u8], offsets: &[usize], table: &mut [u8], n: usize, item: u
 }
 
 pub fn ask(sheet: &[u8], index: &[u8], table: &mut [u8], item: u64) -> Reading
-    ensures { λ r. ⌜ Asked (callOn (now (sheet .entry)) (now (index .entry)) (now (table .entry)) (machine_calls.ask item)) r (now (table .exit)) ⌝ }
+    ensures { λ r. ⌜ Asked (callOn (now (sheet .entry)) (keeping (now (index .entry)) (now (table .entry))) (machine_call.ask item)) r (now (table .exit)) ⌝ }
 {
     let mut offsets = [0usize; limits::ITEM_LIMIT];
     let mut levels = [0u8; limits::ITEM_LIMIT];

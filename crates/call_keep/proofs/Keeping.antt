@@ -14,19 +14,20 @@ use Rattle.circuit.specs.Value.{Value}
 use Rattle.circuit.specs.Sheet.{Sheet, size, itemAt, isFigure}
 use Rattle.circuit.specs.Table.{Table, Cell, Mark, unk, held, upd, noticeIf}
 use Rattle.circuit.specs.Machine.{lookUp, looked, storeResult, keepFigure, keepCell, dropFigure, dropCell}
-use Rattle.circuit.specs.Calls.{keep, test, firstCause, tests, effect, noItem, drop}
+use Rattle.circuit.specs.Call.{keep, drop}
+use Rattle.circuit.specs.Calls.{test, firstCause, tests, effect, noItem}
 use Rattle.layout.specs.Opened.{sheetOf}
 use Rattle.field.specs.Bytes.{Bytes}
 use Rattle.table.specs.Rows.{row, setRow}
 use Rattle.table.specs.Record.{width, encodeCell, mayHold, decodeCell}
-use Rattle.table.specs.Bytes.{encodeTable, decodeTable, tableForm, tableLength}
-use Rattle.table.proofs.Tables.{encode-decodeTable, decode-setRow, setRow-form, record-fits}
+use Rattle.table.specs.Bytes.{decodeTable, tableForm, tableLength}
+use Rattle.table.proofs.Tables.{decode-setRow, setRow-form, record-fits}
 use Rattle.memo.specs.Memo.{Found, remembered, Memo}
 use Rattle.looking.specs.Pass.{Lent, Leaves}
 use Rattle.admission.specs.Admission.{callLent}
 use Rattle.admission.specs.Answers.{Answered, Left, wrongItem}
 use Rattle.admission.specs.declared.Answer.{Answer}
-use Rattle.admission.proofs.Admitting.{first-two, past-two, refused-answer, accepted-answer, stored-encoded}
+use Rattle.admission.proofs.Admitting.{item-refused, item-passed, item-low, accepted-answer, left-encoded, stored-encoded}
 
 pub fresh-memo : (S : Sheet) (T : Table) (tags : List ℕ) (numbers : List ℤ) → size S ≤ mostItems → length tags ≡ mostItems → length numbers ≡ mostItems
     → ((j : ℕ) → getD tags j 0 ≡ 0) → Memo S T tags numbers 1
@@ -77,34 +78,29 @@ cause-figure S item cause e h =
     let p = both-false (noItem S item) (wrongItem true S item) cause e h in
     (leb-false (size S) item (p .0), not-false (isFigure (itemAt S item)) (p .1))
 
+-- keep and drop, whose tests are those of a figure
 module _ {s offsets t : List ℕ} (lent : Lent s offsets t) (x : List ℕ) (item : ℕ) (cause : ℕ)
     (cause-is : cause ≡ firstCause (test 11 (noItem (sheetOf s) item) ∷ test 12 (wrongItem true (sheetOf s) item) ∷ [])) (r : Answer) (offset-is : r .offset ≡ 0) where
   pub keep-item : (cause ≡ 0 → ⊥) → r .number ≡ cause → Answered (callLent (sheetOf s) x t (keep item)) r t
   unfolding tests
-  keep-item h n = refused-answer (sheetOf s) x t (keep item) r cause (first-two _ _ _ cause cause-is h) h n offset-is
+  keep-item h n = item-refused (sheetOf s) x t (keep item) true item [] refl cause cause-is h r n offset-is
+
+  pub drop-item : (cause ≡ 0 → ⊥) → r .number ≡ cause → Answered (callLent (sheetOf s) x t (drop item)) r t
+  unfolding tests
+  drop-item h n = item-refused (sheetOf s) x t (drop item) true item [] refl cause cause-is h r n offset-is
 
   pub keep-done : cause ≡ 0 → (t′ : List ℕ) → Bytes t′ → length t′ ≡ length t → Left s (keepFigure (sheetOf s) (decodeTable t) item) t′ → r .number ≡ 0
       → Answered (callLent (sheetOf s) x t (keep item)) r t′
   unfolding tests firstCause effect
   keep-done h t′ bytes len l n =
-      let p = past-two (noItem (sheetOf s) item) (wrongItem true (sheetOf s) item) [] cause cause-is h in
-      accepted-answer (sheetOf s) x t t′ (keep item) r (p .1) n offset-is
-      (sym (encode-decodeTable (sheetOf s) t′ bytes (len ∙ lent .length-is) (l .formed)) ∙ ap (encodeTable (sheetOf s)) (l .table-is))
+      accepted-answer (sheetOf s) x t t′ (keep item) r (item-passed (sheetOf s) x t (keep item) true item [] refl cause cause-is h) n offset-is
+      (left-encoded lent l bytes len)
 
--- ---- drop
-
-module _ {s offsets t : List ℕ} (lent : Lent s offsets t) (bytes : Bytes t) (x : List ℕ) (item : ℕ) (cause : ℕ)
-    (cause-is : cause ≡ firstCause (test 11 (noItem (sheetOf s) item) ∷ test 12 (wrongItem true (sheetOf s) item) ∷ [])) (r : Answer) (offset-is : r .offset ≡ 0) where
-  pub drop-item : (cause ≡ 0 → ⊥) → r .number ≡ cause → Answered (callLent (sheetOf s) x t (drop item)) r t
-  unfolding tests
-  drop-item h n = refused-answer (sheetOf s) x t (drop item) r cause (first-two _ _ _ cause cause-is h) h n offset-is
-
-  pub drop-stored : cause ≡ 0 → (t′ : List ℕ) (c : Cell)
+  pub drop-stored : Bytes t → cause ≡ 0 → (t′ : List ℕ) (c : Cell)
       → c ≡ dropCell (decodeCell (row width t item)) → t′ ≡ setRow width t item (encodeCell c) → r .number ≡ 0
       → Answered (callLent (sheetOf s) x t (drop item)) r t′
   unfolding tests firstCause effect dropFigure
-  drop-stored h t′ c f g n =
-      let p = past-two (noItem (sheetOf s) item) (wrongItem true (sheetOf s) item) [] cause cause-is h in
-      let low : item < size (sheetOf s) = leb-false (size (sheetOf s)) item (p .0) in
-      accepted-answer (sheetOf s) x t t′ (drop item) r (p .1) n offset-is
-      (g ∙ ap (λ d. setRow width t item (encodeCell d)) f ∙ stored-encoded lent bytes item _ low)
+  drop-stored bytes h t′ c f g n =
+      accepted-answer (sheetOf s) x t t′ (drop item) r (item-passed (sheetOf s) x t (drop item) true item [] refl cause cause-is h) n offset-is
+      (g ∙ ap (λ d. setRow width t item (encodeCell d)) f
+      ∙ stored-encoded lent bytes item _ (item-low (sheetOf s) x t (drop item) true item [] refl cause cause-is h))

@@ -4,12 +4,13 @@ ghost use mathlib.Core.Bool.{true, false};
 ghost use mathlib.Core.List.{List};
 ghost use Prim.Native.Nat.{ℕ, _<_};
 ghost use Rattle.circuit.specs.Sheet.{size, itemAt, isFigure};
+ghost use Rattle.circuit.specs.Table.{isStored};
 ghost use Rattle.circuit.specs.Machine as machine;
-ghost use Rattle.circuit.specs.Calls as machine_calls;
+ghost use Rattle.circuit.specs.Call as machine_call;
 ghost use Rattle.layout.specs.Opened.{sheetOf};
 ghost use Rattle.table.specs.Bytes.{decodeTable};
 ghost use Rattle.table.specs.Meaning.{markMeaning, cellMeaning};
-ghost use Rattle.office.specs.Office.{callOn};
+ghost use Rattle.office.specs.Office.{callOn, keeping};
 ghost use Rattle.admission.specs.Answers.{Answered, Left};
 ghost use Rattle.admission.specs.Admission.{Placing, callLent};
 ghost use Rattle.looking.specs.Pass.{Lent};
@@ -41,7 +42,7 @@ fn dropped_cell(cell: Cell) -> Cell
 
 fn drop_lent(sheet: &[u8], offsets: &[usize], table: &mut [u8], n: usize, item: u64) -> Answer
     requires { ⌜ Placing (now sheet) (now offsets) n ⌝ ∗ ⌜ Lent (now sheet) (now offsets) (now table) ⌝ }
-    ensures { λ r. ⌜ ((x : List ℕ) → Answered (callLent (sheetOf (now (sheet .entry))) x (now (table .entry)) (machine_calls.drop item)) r (now (table .exit))) ⌝ }
+    ensures { λ r. ⌜ ((x : List ℕ) → Answered (callLent (sheetOf (now (sheet .entry))) x (now (table .entry)) (machine_call.drop item)) r (now (table .exit))) ⌝ }
 {
     let cause = admission::item_cause(sheet, offsets, n, item, true);
     if cause != 0 {
@@ -54,7 +55,7 @@ fn drop_lent(sheet: &[u8], offsets: &[usize], table: &mut [u8], n: usize, item: 
 }
 
 pub fn drop_figure(sheet: &[u8], index: &[u8], table: &mut [u8], item: u64) -> Answer
-    ensures { λ r. ⌜ Answered (callOn (now (sheet .entry)) (now (index .entry)) (now (table .entry)) (machine_calls.drop item)) r (now (table .exit)) ⌝ }
+    ensures { λ r. ⌜ Answered (callOn (now (sheet .entry)) (keeping (now (index .entry)) (now (table .entry))) (machine_call.drop item)) r (now (table .exit)) ⌝ }
 {
     let mut offsets = [0usize; limits::ITEM_LIMIT];
     let mut levels = [0u8; limits::ITEM_LIMIT];
@@ -66,12 +67,12 @@ pub fn drop_figure(sheet: &[u8], index: &[u8], table: &mut [u8], item: u64) -> A
 
 // A figure that is not stored is looked up and stored.
 fn keep_new(sheet: &[u8], offsets: &[usize], table: &mut [u8], i: usize)
-    requires { ⌜ Lent (now sheet) (now offsets) (now table) ⌝ ∗ ⌜ i < size (sheetOf (now sheet)) ⌝ ∗ ⌜ isFigure (itemAt (sheetOf (now sheet)) i) ≡ true ⌝ }
+    requires { ⌜ Lent (now sheet) (now offsets) (now table) ⌝ ∗ ⌜ i < size (sheetOf (now sheet)) ⌝ ∗ ⌜ isFigure (itemAt (sheetOf (now sheet)) i) ≡ true ⌝ ∗ ⌜ isStored (decodeTable (now table) i) ≡ false ⌝ }
     ensures { λ _. ⌜ Left (now (sheet .entry)) (machine.storeResult i (machine.lookUp (sheetOf (now (sheet .entry))) (decodeTable (now (table .entry))) i)) (now (table .exit)) ⌝ }
 {
     let mut tags = [0u64; limits::ITEM_LIMIT];
     let mut numbers = [0i64; limits::ITEM_LIMIT];
-    let seen = looking::look_up(sheet, offsets, table, &mut tags, &mut numbers, 1, i);
+    let seen = looking::look_unstored(sheet, offsets, table, &mut tags, &mut numbers, 1, i);
     let value = seen.value;
     table::store_cell(table, i, Cell::Held(value, looking::notice_if(seen.flag)));
 }
@@ -88,7 +89,7 @@ fn keep_cell(sheet: &[u8], offsets: &[usize], table: &mut [u8], i: usize)
 
 fn keep_lent(sheet: &[u8], offsets: &[usize], table: &mut [u8], n: usize, item: u64) -> Answer
     requires { ⌜ Placing (now sheet) (now offsets) n ⌝ ∗ ⌜ Lent (now sheet) (now offsets) (now table) ⌝ }
-    ensures { λ r. ⌜ ((x : List ℕ) → Answered (callLent (sheetOf (now (sheet .entry))) x (now (table .entry)) (machine_calls.keep item)) r (now (table .exit))) ⌝ }
+    ensures { λ r. ⌜ ((x : List ℕ) → Answered (callLent (sheetOf (now (sheet .entry))) x (now (table .entry)) (machine_call.keep item)) r (now (table .exit))) ⌝ }
 {
     let cause = admission::item_cause(sheet, offsets, n, item, true);
     if cause != 0 {
@@ -99,7 +100,7 @@ fn keep_lent(sheet: &[u8], offsets: &[usize], table: &mut [u8], n: usize, item: 
 }
 
 pub fn keep(sheet: &[u8], index: &[u8], table: &mut [u8], item: u64) -> Answer
-    ensures { λ r. ⌜ Answered (callOn (now (sheet .entry)) (now (index .entry)) (now (table .entry)) (machine_calls.keep item)) r (now (table .exit)) ⌝ }
+    ensures { λ r. ⌜ Answered (callOn (now (sheet .entry)) (keeping (now (index .entry)) (now (table .entry))) (machine_call.keep item)) r (now (table .exit)) ⌝ }
 {
     let mut offsets = [0usize; limits::ITEM_LIMIT];
     let mut levels = [0u8; limits::ITEM_LIMIT];

@@ -8,8 +8,7 @@ use lib.Dec.{eqb}
 use lib.ListN.{length, getD, take}
 use borrow.Author.Tests.{eqb-true, eqb-false}
 use Rattle.circuit.specs.Sheet.{Sheet, Item, entry, figure, size, itemAt, isFigure}
-use Rattle.circuit.specs.Table.{Table, Cell}
-use Rattle.circuit.specs.Offices.{opened}
+use Rattle.circuit.specs.Table.{Table, Cell, opened}
 use Rattle.layout.specs.Opened.{sheetOf, Located}
 use Rattle.item.specs.Item.{fieldItem}
 use Rattle.item.specs.Offsets.{offsetBytes}
@@ -20,7 +19,7 @@ use Rattle.table.specs.Record.{width, encodeCell}
 use Rattle.table.specs.Bytes.{encodeTable}
 use Rattle.table.proofs.Rows.{rows-ext, rows-row, row-setRow, row-setRow-other}
 use Rattle.table.proofs.Records.{length-encodeCell}
-use Rattle.office.specs.Office.{openOn}
+use Rattle.office.specs.Office.{openOn, keeping}
 use Rattle.admission.specs.Admission.{measuredOf}
 use Rattle.call_open.specs.Opening.{Opened, openingBy, firstCell}
 use Rattle.admission.specs.declared.Answer.{Answer}
@@ -66,13 +65,13 @@ written-done s t filled n k e l h inv =
     sym (rows-ext (size (sheetOf s)) (λ i low. sym (inv i (omega arith))) ∙ rows-row width t (size (sheetOf s)) (omega arith))
 
 pub opened-refused : (filled : Bool) (s x t : List ℕ) (k at : ℕ) → Refused k at ≡ measuredOf s (length x) (length t) → (r : Answer)
-    → r .number ≡ k → r .offset ≡ at → Opened (openOn (openingBy filled) s x t) r x t
+    → r .number ≡ k → r .offset ≡ at → Opened (openOn (openingBy filled) s (keeping x t)) r x t
 opened-refused filled s x t k at e r n o =
     rw (refused-open (openingBy filled) s x t k at e) (record { number-is = n; offset-is = o; index-is = refl; table-is = refl })
 
 pub opened-written : (filled : Bool) (s x t x′ t′ offsets : List ℕ) (n : ℕ) → Items n ≡ measuredOf s (length x) (length t) → Located s offsets
     → x′ ≡ offsetBytes (take n offsets) → t′ ≡ encodeTable (sheetOf s) (opened (openingBy filled) (sheetOf s)) → (r : Answer)
-    → r .number ≡ 0 → r .offset ≡ 0 → Opened (openOn (openingBy filled) s x t) r x′ t′
+    → r .number ≡ 0 → r .offset ≡ 0 → Opened (openOn (openingBy filled) s (keeping x t)) r x′ t′
 opened-written filled s x t x′ t′ offsets n e located xi ti r na nb =
     let g = measured s x t n e in
     rw (g .opening (openingBy filled)) (record {

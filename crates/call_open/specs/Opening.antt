@@ -5,7 +5,7 @@ use mathlib.Core.Bool.{Bool, true, false, cond}
 use mathlib.Core.List.{List}
 use Rattle.circuit.specs.Value.{null}
 use Rattle.circuit.specs.Table.{Cell, unk, held, unmarked}
-use Rattle.circuit.specs.Offices.{Opening, bare, full}
+use Rattle.circuit.specs.Call.{Opening, bare, full}
 use Rattle.office.specs.Office.{Given}
 use Rattle.admission.specs.declared.Answer.{Answer}
 
@@ -13,8 +13,8 @@ use Rattle.admission.specs.declared.Answer.{Answer}
 pub record Opened (g : Given) (r : Answer) (x t : List ℕ) : Type 0 where
   pub number-is : r .number ≡ g .number
   pub offset-is : r .offset ≡ g .offset
-  pub index-is : x ≡ g .index
-  pub table-is : t ≡ g .table
+  pub index-is : x ≡ g .after .index
+  pub table-is : t ≡ g .after .table
 
 -- which opening
 abbrev pub openingBy : Bool → Opening

@@ -3,12 +3,13 @@ ghost use mathlib.Core.Path.{_≡_};
 ghost use mathlib.Core.Bool.{true, false};
 ghost use Prim.Native.Nat.{_*_, _<_};
 ghost use lib.ListN.{length};
-ghost use Rattle.circuit.specs.Offices.{opened, bare, full};
+ghost use Rattle.circuit.specs.Table.{opened};
+ghost use Rattle.circuit.specs.Call.{bare, full};
 ghost use Rattle.layout.specs.Opened.{sheetOf};
 ghost use Rattle.table.specs.Record.{width};
 ghost use Rattle.table.specs.Bytes.{encodeTable};
 ghost use Rattle.table.specs.Meaning.{cellMeaning};
-ghost use Rattle.office.specs.Office.{openOn};
+ghost use Rattle.office.specs.Office.{openOn, keeping};
 ghost use Rattle.call_open.specs.Opening.{Opened, openingBy, firstCell};
 ghost use Rattle.admission.specs.Admission.{Placing};
 use admission::Admitted;
@@ -45,7 +46,7 @@ fn write_table(sheet: &[u8], offsets: &[usize], n: usize, table: &mut [u8], fill
 }
 
 fn open_by(sheet: &[u8], index: &mut [u8], table: &mut [u8], filled: bool) -> Answer
-    ensures { λ r. ⌜ Opened (openOn (openingBy filled) (now (sheet .entry)) (now (index .entry)) (now (table .entry))) r (now (index .exit)) (now (table .exit)) ⌝ }
+    ensures { λ r. ⌜ Opened (openOn (openingBy filled) (now (sheet .entry)) (keeping (now (index .entry)) (now (table .entry)))) r (now (index .exit)) (now (table .exit)) ⌝ }
 {
     let mut offsets = [0usize; limits::ITEM_LIMIT];
     let mut levels = [0u8; limits::ITEM_LIMIT];
@@ -61,14 +62,14 @@ fn open_by(sheet: &[u8], index: &mut [u8], table: &mut [u8], filled: bool) -> An
 
 // Opening with every figure UNK.
 pub fn open_bare(sheet: &[u8], index: &mut [u8], table: &mut [u8]) -> Answer
-    ensures { λ r. ⌜ Opened (openOn bare (now (sheet .entry)) (now (index .entry)) (now (table .entry))) r (now (index .exit)) (now (table .exit)) ⌝ }
+    ensures { λ r. ⌜ Opened (openOn bare (now (sheet .entry)) (keeping (now (index .entry)) (now (table .entry)))) r (now (index .exit)) (now (table .exit)) ⌝ }
 {
     open_by(sheet, index, table, false)
 }
 
 // Opening with every figure NULL.
 pub fn open_full(sheet: &[u8], index: &mut [u8], table: &mut [u8]) -> Answer
-    ensures { λ r. ⌜ Opened (openOn full (now (sheet .entry)) (now (index .entry)) (now (table .entry))) r (now (index .exit)) (now (table .exit)) ⌝ }
+    ensures { λ r. ⌜ Opened (openOn full (now (sheet .entry)) (keeping (now (index .entry)) (now (table .entry)))) r (now (index .exit)) (now (table .exit)) ⌝ }
 {
     open_by(sheet, index, table, true)
 }

@@ -4,11 +4,12 @@ ghost use mathlib.Core.Bool.{false};
 ghost use mathlib.Core.List.{List};
 ghost use Prim.Native.Nat.{ℕ};
 ghost use Rattle.circuit.specs.Machine as machine;
+ghost use Rattle.circuit.specs.Call as machine_call;
 ghost use Rattle.circuit.specs.Calls as machine_calls;
 ghost use Rattle.value.specs.Meaning.{meaning, partsMeaning};
 ghost use Rattle.layout.specs.Opened.{sheetOf};
 ghost use Rattle.table.specs.Meaning.{cellMeaning};
-ghost use Rattle.office.specs.Office.{callOn};
+ghost use Rattle.office.specs.Office.{callOn, keeping};
 ghost use Rattle.admission.specs.Answers.{Answered};
 ghost use Rattle.admission.specs.Admission.{Placing, callLent};
 ghost use Rattle.looking.specs.Pass.{Lent};
@@ -56,7 +57,7 @@ fn post_lent(
     number: i64,
 ) -> Answer
     requires { ⌜ Placing (now sheet) (now offsets) n ⌝ ∗ ⌜ Lent (now sheet) (now offsets) (now table) ⌝ }
-    ensures { λ r. ⌜ ((x : List ℕ) → Answered (callLent (sheetOf (now (sheet .entry))) x (now (table .entry)) (machine_calls.post item kind number)) r (now (table .exit))) ⌝ }
+    ensures { λ r. ⌜ ((x : List ℕ) → Answered (callLent (sheetOf (now (sheet .entry))) x (now (table .entry)) (machine_call.post item kind number)) r (now (table .exit))) ⌝ }
 {
     let cause = admission::item_cause(sheet, offsets, n, item, false);
     if cause != 0 {
@@ -81,7 +82,7 @@ pub fn post(
     kind: u64,
     number: i64,
 ) -> Answer
-    ensures { λ r. ⌜ Answered (callOn (now (sheet .entry)) (now (index .entry)) (now (table .entry)) (machine_calls.post item kind number)) r (now (table .exit)) ⌝ }
+    ensures { λ r. ⌜ Answered (callOn (now (sheet .entry)) (keeping (now (index .entry)) (now (table .entry))) (machine_call.post item kind number)) r (now (table .exit)) ⌝ }
 {
     let mut offsets = [0usize; limits::ITEM_LIMIT];
     let mut levels = [0u8; limits::ITEM_LIMIT];

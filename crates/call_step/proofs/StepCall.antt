@@ -10,16 +10,16 @@ use borrow.Author.Tests.{le-leb, lt-leb, leb-false}
 use Rattle.circuit.specs.Sheet.{size}
 use Rattle.circuit.specs.Table.{Table, isMarked, isNotice, markOf}
 use Rattle.circuit.specs.Machine.{tell, clearMark, stepItem}
-use Rattle.circuit.specs.Calls.{step, test, firstCause, tests, effect, noMark}
+use Rattle.circuit.specs.Call.{step}
+use Rattle.circuit.specs.Calls.{test, firstCause, tests, effect, noMark}
 use Rattle.layout.specs.Opened.{sheetOf}
 use Rattle.field.specs.Bytes.{Bytes}
-use Rattle.table.specs.Bytes.{encodeTable, decodeTable}
-use Rattle.table.proofs.Tables.{encode-decodeTable}
+use Rattle.table.specs.Bytes.{decodeTable}
 use Rattle.looking.specs.Pass.{Lent}
 use Rattle.admission.specs.Admission.{callLent}
 use Rattle.admission.specs.Answers.{Answered, Left}
 use Rattle.admission.specs.declared.Answer.{Answer}
-use Rattle.admission.proofs.Admitting.{refused-answer, accepted-answer}
+use Rattle.admission.proofs.Admitting.{refused-answer, accepted-answer, left-encoded}
 use Rattle.stepping.proofs.Stepping.{noticed-step}
 
 -- ---- step
@@ -63,7 +63,7 @@ module _ {s offsets t : List ℕ} (lent : Lent s offsets t) (x : List ℕ) (n it
   unfolding effect
   step-done h t′ bytes len l k =
       accepted-answer (sheetOf s) x t t′ (step item) r (step-cause ∙ h) k offset-is
-      (sym (encode-decodeTable (sheetOf s) t′ bytes (len ∙ lent .length-is) (l .formed)) ∙ ap (encodeTable (sheetOf s)) (l .table-is))
+      (left-encoded lent l bytes len)
 
 -- the step of a notice, from what telling and clearing leave
 pub left-noticed : (s t : List ℕ) (i : ℕ) (b : Bool) → b ≡ isNotice (markOf (decodeTable t i)) → b ≡ true → (t₂ : List ℕ)

@@ -7,13 +7,14 @@ ghost use lib.ListN.{length};
 ghost use Rattle.circuit.specs.Sheet.{size};
 ghost use lib.Dec.{leb};
 ghost use Rattle.circuit.specs.Machine as machine;
+ghost use Rattle.circuit.specs.Call as machine_call;
 ghost use Rattle.circuit.specs.Calls as machine_calls;
 ghost use Rattle.circuit.specs.Calls.{firstCause, test};
 ghost use Rattle.circuit.specs.Table.{markOf, isNotice};
 ghost use Rattle.layout.specs.Opened.{sheetOf};
 ghost use Rattle.table.specs.Record.{width};
 ghost use Rattle.table.specs.Bytes.{decodeTable};
-ghost use Rattle.office.specs.Office.{callOn};
+ghost use Rattle.office.specs.Office.{callOn, keeping};
 ghost use Rattle.admission.specs.Answers.{Answered, Left};
 ghost use Rattle.admission.specs.Admission.{Placing, callLent};
 ghost use Rattle.looking.specs.Pass.{Lent};
@@ -82,7 +83,7 @@ fn step_once(sheet: &[u8], offsets: &[usize], table: &mut [u8], n: usize, i: usi
 
 fn step_lent(sheet: &[u8], offsets: &[usize], table: &mut [u8], n: usize, item: u64) -> Answer
     requires { ⌜ Placing (now sheet) (now offsets) n ⌝ ∗ ⌜ Lent (now sheet) (now offsets) (now table) ⌝ }
-    ensures { λ r. ⌜ ((x : List ℕ) → Answered (callLent (sheetOf (now (sheet .entry))) x (now (table .entry)) (machine_calls.step item)) r (now (table .exit))) ⌝ }
+    ensures { λ r. ⌜ ((x : List ℕ) → Answered (callLent (sheetOf (now (sheet .entry))) x (now (table .entry)) (machine_call.step item)) r (now (table .exit))) ⌝ }
 {
     let cause = mark_cause(table, n, item);
     if cause != 0 {
@@ -93,7 +94,7 @@ fn step_lent(sheet: &[u8], offsets: &[usize], table: &mut [u8], n: usize, item: 
 }
 
 pub fn step(sheet: &[u8], index: &[u8], table: &mut [u8], item: u64) -> Answer
-    ensures { λ r. ⌜ Answered (callOn (now (sheet .entry)) (now (index .entry)) (now (table .entry)) (machine_calls.step item)) r (now (table .exit)) ⌝ }
+    ensures { λ r. ⌜ Answered (callOn (now (sheet .entry)) (keeping (now (index .entry)) (now (table .entry))) (machine_call.step item)) r (now (table .exit)) ⌝ }
 {
     let mut offsets = [0usize; limits::ITEM_LIMIT];
     let mut levels = [0u8; limits::ITEM_LIMIT];

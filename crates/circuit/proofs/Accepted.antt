@@ -8,7 +8,8 @@ use lib.IntN.{ℤ}
 use borrow.Author.Tests.{leb-false, not-false}
 use Rattle.circuit.specs.Sheet.{Sheet, size, itemAt, isFigure}
 use Rattle.circuit.specs.Table.{Table, isMarked}
-use Rattle.circuit.specs.Calls.{Call, post, keep, drop, step, ask, Test, test, tests, firstCause, effect, unless, perform}
+use Rattle.circuit.specs.Call.{Call, post, keep, drop, step, ask}
+use Rattle.circuit.specs.Calls.{Test, test, tests, firstCause, effect, unless, perform}
 
 -- no cause holds: the first does not, and none of the others
 pub no-cause : (k : ℕ) (b : Bool) (ts : List Test) → firstCause (test (suc k) b ∷ ts) ≡ 0 → (b ≡ false) × (firstCause ts ≡ 0)

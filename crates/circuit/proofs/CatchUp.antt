@@ -1,5 +1,5 @@
 -- Catching up ends, on every table (`catchUp-ends`): stepping the lowest marked item until none is marked is one
--- ascending sweep (`catchUp-sweep`), no mark stands afterwards (`catchUp-quiet`), and more steps than the bound change
+-- ascending pass (`catchUp-ascends`), no mark stands afterwards (`catchUp-quiet`), and more steps than the bound change
 -- nothing (`catchUp-enough`). The step of a notice leaves its item without a mark (`step-clears`). On a table without
 -- marks catching up does nothing, and a look-up sets no mark there, so asking again steps nothing (`asked-still`).
 -- Assumes that the sheet is ordered, where it says so, and nothing about the table.
@@ -14,14 +14,14 @@ use borrow.Author.Tests.{eqb-true, eqb-false}
 use Rattle.circuit.specs.Value.{Value, same}
 use Rattle.circuit.specs.Sheet.{Sheet, size, parents, Ordered}
 use Rattle.circuit.specs.Table.{Table, Cell, Mark, unmarked, refresh, notice, unk, held, isNotice, noticeIf, isMark, isMarked, markOf}
-use Rattle.circuit.specs.Machine.{work, lookUp, tell, clearCell, clearMark, stepCell, stepItem, orNext, lowestMarked, stepLowest, catchUpIn, catchUp, stepIf, stepMarked, sweepBelow, sweep}
-use Rattle.circuit.specs.Calls.{ask, perform, effect}
+use Rattle.circuit.specs.Machine.{work, lookUp, tell, clearCell, clearMark, stepCell, stepItem, orNext, lowestMarked, stepLowest, catchUpIn, catchUp}
+use Rattle.circuit.specs.Ascending.{stepIf, stepMarked, ascendBelow, ascend}
+use Rattle.circuit.specs.Call.{ask}
+use Rattle.circuit.specs.Calls.{perform, effect}
 use Rattle.circuit.specs.Words.{Quiet, CaughtUp, still, stepped}
 use Rattle.circuit.proofs.View.{never, view, result, strong, any-none, view-at}
 use Rattle.circuit.proofs.Fill.{upd-same, upd-other, Filling, stays, fills, Fill, look-right, work-right}
-use Rattle.circuit.proofs.Invariant.{Invariant}
-use Rattle.circuit.proofs.Tell.{step-kept}
-use Rattle.circuit.proofs.Closure.{step-closed, catchUp-closed}
+use Rattle.circuit.proofs.Closure.{step-closed}
 use Rattle.circuit.proofs.Accepted.{number-cause, accepted-effect}
 
 -- no item below k is marked
@@ -42,12 +42,12 @@ cleared (unk f) = refl
 cleared (held v m) = refl
 
 -- the lowest marked item, where the items below k are not marked
-lowest-none : (T : Table) (k : ℕ) → QuietBelow T k → lowestMarked T k ≡ none
+pub lowest-none : (T : Table) (k : ℕ) → QuietBelow T k → lowestMarked T k ≡ none
 unfolding lowestMarked
 lowest-none T zero quiet = refl
 lowest-none T (suc k) quiet = rw (lowest-none T k (λ j l. quiet j (omega arith)), quiet k (omega arith))
 
-lowest-some : (T : Table) (k : ℕ) → QuietBelow T k → isMarked (T k) ≡ true → (n : ℕ) → k < n → lowestMarked T n ≡ some k
+pub lowest-some : (T : Table) (k : ℕ) → QuietBelow T k → isMarked (T k) ≡ true → (n : ℕ) → k < n → lowestMarked T n ≡ some k
 unfolding lowestMarked
 lowest-some T k quiet marked zero l = absurd (omega arith)
 lowest-some T k quiet marked (suc n) l = go (eqb k n) refl (λ h. lowest-some T k quiet marked n h)
@@ -231,14 +231,14 @@ module _ (S : Sheet) (ordered : Ordered S) where
           let both : stepMarked S (stepMarked S T k) k ≡ T = rw (unmarked-step T k m) (unmarked-step T k m) in
           record { rest = suc (suc fuel); enough = omega arith; caught = ap (catchUpIn (suc (suc fuel)) S) (sym both); clear = rw both m }
 
-  -- the sweep leaves no mark behind
-  pub swept-quiet : (T : Table) (k : ℕ) → k ≤ size S → QuietBelow (sweepBelow S T k) k
-  unfolding sweepBelow
-  swept-quiet T zero l = λ j h. absurd (omega arith)
-  swept-quiet T (suc k) l = go (swept-quiet T k (omega arith))
+  -- the pass leaves no mark behind
+  pub ascended-quiet : (T : Table) (k : ℕ) → k ≤ size S → QuietBelow (ascendBelow S T k) k
+  unfolding ascendBelow
+  ascended-quiet T zero l = λ j h. absurd (omega arith)
+  ascended-quiet T (suc k) l = go (ascended-quiet T k (omega arith))
     where
       U : Table
-      U = sweepBelow S T k
+      U = ascendBelow S T k
 
       go : QuietBelow U k → QuietBelow (stepMarked S (stepMarked S U k) k) (suc k)
       go quiet j h = which (eqb j k) refl
@@ -258,41 +258,37 @@ module _ (S : Sheet) (ordered : Ordered S) where
   catch-quiet zero T quiet = refl
   catch-quiet (suc fuel) T quiet = rw (lowest-none T (size S) quiet)
 
-  -- from a table swept below k, with fuel for what is left
-  catch-sweep : (T : Table) (d k fuel : ℕ) → k + d ≡ size S → 2 * d ≤ fuel → catchUpIn fuel S (sweepBelow S T k) ≡ sweep S T
-  unfolding sweep sweepBelow
-  catch-sweep T zero k fuel e l =
+  -- from a table whose pass has reached k, with fuel for what is left
+  catch-ascends : (T : Table) (d k fuel : ℕ) → k + d ≡ size S → 2 * d ≤ fuel → catchUpIn fuel S (ascendBelow S T k) ≡ ascend S T
+  unfolding ascend ascendBelow
+  catch-ascends T zero k fuel e l =
       let all : k ≡ size S = omega arith in
-      catch-quiet fuel (sweepBelow S T k) (λ j h. swept-quiet T k (omega arith) j (omega arith)) ∙ ap (sweepBelow S T) all
-  catch-sweep T (suc d) k zero e l = absurd (omega arith)
-  catch-sweep T (suc d) k (suc zero) e l = absurd (omega arith)
-  catch-sweep T (suc d) k (suc (suc fuel)) e l =
-      let U : Table = sweepBelow S T k in
-      let a : Advance k fuel U = advance U k fuel (omega arith) (swept-quiet T k (omega arith)) in
-      a .caught ∙ catch-sweep T d (suc k) (a .rest) (omega arith) (omega (arith, a .enough))
+      catch-quiet fuel (ascendBelow S T k) (λ j h. ascended-quiet T k (omega arith) j (omega arith)) ∙ ap (ascendBelow S T) all
+  catch-ascends T (suc d) k zero e l = absurd (omega arith)
+  catch-ascends T (suc d) k (suc zero) e l = absurd (omega arith)
+  catch-ascends T (suc d) k (suc (suc fuel)) e l =
+      let U : Table = ascendBelow S T k in
+      let a : Advance k fuel U = advance U k fuel (omega arith) (ascended-quiet T k (omega arith)) in
+      a .caught ∙ catch-ascends T d (suc k) (a .rest) (omega arith) (omega (arith, a .enough))
 
-  -- any number of steps from the bound on gives the sweep
-  pub catchUp-enough : (T : Table) (fuel : ℕ) → 2 * size S ≤ fuel → catchUpIn fuel S T ≡ sweep S T
-  unfolding sweepBelow
-  catchUp-enough T fuel l = catch-sweep T (size S) 0 fuel (omega arith) l
+  -- any number of steps from the bound on gives what the pass gives
+  pub catchUp-enough : (T : Table) (fuel : ℕ) → 2 * size S ≤ fuel → catchUpIn fuel S T ≡ ascend S T
+  unfolding ascendBelow
+  catchUp-enough T fuel l = catch-ascends T (size S) 0 fuel (omega arith) l
 
-  pub catchUp-sweep : (T : Table) → catchUp S T ≡ sweep S T
+  pub catchUp-ascends : (T : Table) → catchUp S T ≡ ascend S T
   unfolding catchUp
-  catchUp-sweep T = catchUp-enough T (2 * size S) (omega arith)
+  catchUp-ascends T = catchUp-enough T (2 * size S) (omega arith)
 
   -- no mark stands after catching up
   pub catchUp-quiet : (T : Table) → Quiet S (catchUp S T)
-  unfolding sweep
-  catchUp-quiet T = rw (catchUp-sweep T) (swept-quiet T (size S) (omega arith))
+  unfolding ascend
+  catchUp-quiet T = rw (catchUp-ascends T) (ascended-quiet T (size S) (omega arith))
 
   -- catching up on a quiet table does nothing
   pub catchUp-still : (T : Table) → Quiet S T → catchUp S T ≡ T
   unfolding catchUp
   catchUp-still T quiet = catch-quiet (2 * size S) T quiet
-
-  -- catching up keeps the invariant
-  pub catchUp-kept : (T : Table) → Invariant S T → Invariant S (catchUp S T)
-  catchUp-kept T kept = catchUp-closed S (Invariant S) (λ U i l m h. step-kept S ordered U i h) T kept
 
   -- it is what the words say, and so it ends
   pub catchUp-ends : (T : Table) → CaughtUp S T (catchUp S T)

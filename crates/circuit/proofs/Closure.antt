@@ -39,7 +39,8 @@ lowest-marked T (suc k) i e = go (lowestMarked T k) (isMarked (T k)) refl e (λ 
   where
     go : (o : Option ℕ) (m : Bool) → isMarked (T k) ≡ m → orNext o m k ≡ some i
         → (o ≡ some i → (i < k) × (isMarked (T i) ≡ true)) → (i < suc k) × (isMarked (T i) ≡ true)
-    go (some j) m q e′ rest = (omega (arith, rest e′ .0), rest e′ .1)
+    go (some j) true q e′ rest = (omega (arith, rest e′ .0), rest e′ .1)
+    go (some j) false q e′ rest = (omega (arith, rest e′ .0), rest e′ .1)
     go none true q e′ rest =
         let same : k ≡ i = cc in
         (omega arith, rw same at q)

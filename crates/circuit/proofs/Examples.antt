@@ -12,7 +12,8 @@ use Rattle.circuit.specs.Rules.{sum, difference, apply, numbers, total, 
 use Rattle.circuit.specs.Sheet.{Sheet, entry, figure, defer, renew, member}
 use Rattle.circuit.specs.Table.{Table, Cell, held, unk, unmarked, notice, openBare, openFull}
 use Rattle.circuit.specs.Machine.{gather, workOut, lookFor, lookUp, work, storePosting, keepFigure, dropFigure, tellChild, tellBelow, tell, clearMark, stepItem, lowestMarked, catchUpIn, catchUp}
-use Rattle.circuit.specs.Calls.{Call, post, keep, drop, step, ask, Outcome, perform, run, tests, firstCause, effect, postedValue}
+use Rattle.circuit.specs.Call.{Call, post, keep, drop, step, ask}
+use Rattle.circuit.specs.Calls.{Outcome, perform, run, tests, firstCause, effect, postedValue}
 
 -- an entry, a figure that sums it, and a figure that sums the first; neither is kept, both defer
 unfoldable pub chain : Sheet

@@ -3,6 +3,7 @@ pub mod Examples
 pub mod RuleLaws
 pub mod Acyclic
 pub mod Solution
+pub mod Fresh
 pub mod View
 pub mod Fill
 pub mod Closure
@@ -10,6 +11,7 @@ pub mod Accepted
 pub mod Invariant
 pub mod Tell
 pub mod CatchUp
+pub mod Equations
 pub mod Memo
 pub mod Reading
 pub mod Sound

@@ -16,7 +16,8 @@ use Rattle.circuit.specs.Circuit.{Listed}
 use Rattle.circuit.specs.Sheet.{Sheet, itemAt, keptOf, parents, Ordered}
 use Rattle.circuit.specs.Table.{Table, Cell, Mark, unk, held, upd, noticeIf}
 use Rattle.circuit.specs.Machine.{Looked, looked, gathered, gather, workOut, storeIf, flagged, lookCell, lookFor, lookUp, work, catchUp}
-use Rattle.circuit.specs.Calls.{ask, readingOf, tests, effect, perform}
+use Rattle.circuit.specs.Call.{ask}
+use Rattle.circuit.specs.Calls.{readingOf, tests, effect, perform}
 use Rattle.circuit.proofs.View.{view, strong, view-below}
 use Rattle.circuit.proofs.Fill.{upd-same, upd-other, Filling, stays, fills, Fill, fill-view, fill-trans, Looks, look-right, work-right, lookUp-is}
 use Rattle.circuit.proofs.CatchUp.{catchUp-quiet, catchUp-still, look-quiet}

@@ -15,9 +15,9 @@ use Rattle.circuit.specs.Circuit.{IsSolution, Listed, LeadsTo, direct, f
 use Rattle.circuit.specs.Sheet.{Sheet, Item, entry, figure, itemAt, isFigure, size, parents, Ordered, Entries, circuitOf, evaluate}
 use Rattle.circuit.specs.Table.{Table, Cell, unmarked, refresh, notice, unk, held, isStored, valueIn, isMarked, cellForm}
 use Rattle.circuit.specs.Machine.{lookUp, work, keepFigure, dropFigure, dropCell, stepItem, catchUp, storePosting, postCell}
-use Rattle.circuit.specs.Calls.{Call, post, keep, drop, step, ask, postedValue, postIt, postingOf, tests, firstCause, effect, unless, perform, run, made, madeBy, ifAccepted, postings, drops}
-use Rattle.circuit.specs.Demand.{Retained}
-use Rattle.circuit.specs.Words.{Formed, Quiet, droppedIn}
+use Rattle.circuit.specs.Call.{Call, post, keep, drop, step, ask}
+use Rattle.circuit.specs.Calls.{postedValue, postIt, postingOf, tests, firstCause, effect, unless, perform, run, made, madeBy, ifAccepted, postings, drops}
+use Rattle.circuit.specs.Words.{Formed, Quiet, Holds, droppedIn}
 use Rattle.circuit.proofs.View.{seen, anyFlag, view, result, strong, any-none, view-at}
 use Rattle.circuit.proofs.Fill.{Filling, stays, fills, Fill, upd-cases, upd-other, look-right, work-right, keep-fill}
 use Rattle.circuit.proofs.Solution.{map-listed, solution, solution-solves, sheet-acyclic, entry-value, figure-value}
@@ -295,6 +295,16 @@ post-other S T e kind z k other = go (firstCause (tests S T (post e kind z)))
     go : (n : ℕ) → unless n S T (post e kind z) .table k ≡ T k
     go zero = stores (postedValue kind z)
     go (suc n) = refl
+
+-- Figure k on the table U, which a list of calls left after the table T and a post: stored if it was and no drop named it;
+-- if it is stored, with the solution's value under the entries before the post, which is also the solution's value under
+-- the entries now, and the value that it had if it was stored; without a mark.
+pub record Retained (S : Sheet) (T : Table) (cs : List Call) (U : Table) (k : ℕ) : Type 0 where
+  pub stored : isStored (T k) ≡ true → droppedIn cs k ≡ false → isStored (U k) ≡ true
+  pub before : isStored (U k) ≡ true → (E : Entries) → Holds S T E → (values : ℕ → Value) → IsSolution (circuitOf S) E values → valueIn (U k) ≡ values k
+  pub now : isStored (U k) ≡ true → (E : Entries) → Holds S U E → (values : ℕ → Value) → IsSolution (circuitOf S) E values → valueIn (U k) ≡ values k
+  pub unchanged : isStored (T k) ≡ true → isStored (U k) ≡ true → valueIn (U k) ≡ valueIn (T k)
+  pub unmarked : isMarked (U k) ≡ false
 
 -- What stays stored, on any table that has the invariant and no mark: after an accepted post to e and a list of calls that
 -- makes no posting, of every item that is neither e nor led to by e.

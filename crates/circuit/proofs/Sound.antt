@@ -13,10 +13,12 @@ use Rattle.circuit.specs.Circuit.{Listed}
 use Rattle.circuit.specs.Sheet.{Sheet, Item, entry, figure, size, itemAt, beyond, isFigure, parentsOf, Ordered, Entries}
 use Rattle.circuit.specs.Table.{Table, Cell, unmarked, refresh, notice, unk, held, upd, valueIn, entryForm, cellForm, bareCell, openBare, openFull}
 use Rattle.circuit.specs.Machine.{lookUp, work, postCell, storePosting, keepFigure, dropFigure, tell, clearCell, clearMark, stepCell, stepItem, catchUp}
-use Rattle.circuit.specs.Calls.{Call, post, keep, drop, step, ask, tests, firstCause, isNone, postedValue, effect, unless, perform, run}
-use Rattle.circuit.specs.Fresh.{called, blank, setEntry, setIf, hear, hearAll, freshRun}
+use Rattle.circuit.specs.Call.{Call, post, keep, drop, step, ask}
+use Rattle.circuit.specs.Calls.{tests, firstCause, isNone, postedValue, effect, unless, perform, run}
+use Rattle.circuit.specs.Fresh.{called, blank, setEntry, hear, hearAll, freshRun}
 use Rattle.circuit.specs.Words.{Formed, Holds}
 use Rattle.circuit.proofs.RuleLaws.{same-true}
+use Rattle.circuit.proofs.Fresh.{setIf, hear-post}
 use Rattle.circuit.proofs.View.{never}
 use Rattle.circuit.proofs.Fill.{upd-other, upd-cases, Filling, stays, fills, Fill, look-right, work-right, keep-fill}
 use Rattle.circuit.proofs.Invariant.{Invariant, changes-kept, fill-changes, post-changes, drop-changes, bare-invariant, full-invariant}
@@ -186,8 +188,8 @@ module _ (S : Sheet) (ordered : Ordered S) (E : Entries) where
   -- a post, refused or not
   post-heard : (T : Table) (i kind : ℕ) (z : ℤ) → Sound S E T
       → Sound S (hear S E (called (post i kind z))) (perform S T (post i kind z) .table)
-  unfolding perform tests firstCause effect hear
-  post-heard T i kind z sound = go (beyond S i) (isFigure (itemAt S i)) (postedValue kind z) refl refl
+  unfolding perform tests firstCause effect
+  post-heard T i kind z sound = rw (hear-post S E i kind z) (go (beyond S i) (isFigure (itemAt S i)) (postedValue kind z) refl refl)
     where
       go : (b f : Bool) (o : Option Value) → isFigure (itemAt S i) ≡ f → postedValue kind z ≡ o
           → Sound S (cond (b || f) E (setIf E i o)) (unless (cond b 11 (cond f 12 (cond (isNone o) 13 0))) S T (post i kind z) .table)

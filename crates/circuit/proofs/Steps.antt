@@ -12,7 +12,8 @@ use Rattle.circuit.specs.Value.{Value, same}
 use Rattle.circuit.specs.Sheet.{Sheet, size, Ordered}
 use Rattle.circuit.specs.Table.{Table, Cell, unmarked, refresh, notice, unk, held, upd, isStored, isMarked, noticeIf}
 use Rattle.circuit.specs.Machine.{work, tell, clearCell, clearMark, stepItem, stepCell}
-use Rattle.circuit.specs.Calls.{step, perform, effect}
+use Rattle.circuit.specs.Call.{step}
+use Rattle.circuit.specs.Calls.{perform, effect}
 use Rattle.circuit.specs.Words.{AllAccepted}
 use Rattle.circuit.proofs.View.{view}
 use Rattle.circuit.proofs.Fill.{Filling, stays, fills, upd-same, upd-cases, work-right}

@@ -9,12 +9,8 @@ use lib.IntN.{ℤ, pos}
 use Rattle.circuit.specs.Value.{Value, null, num, inRange, sameNumber}
 use Rattle.circuit.specs.Sheet.{Sheet, itemAt, isFigure, beyond}
 use Rattle.circuit.specs.Table.{Table, isMarked}
+use Rattle.circuit.specs.Call.{Call, post, keep, drop, step, ask, Posting}
 use Rattle.circuit.specs.Machine.{Looked, storePosting, keepFigure, dropFigure, stepItem, catchUp, lookUp}
-
--- A call with its arguments as given: the item, and of a post the kind and the number.
-pub data Call : Type 0 where
-  post : ℕ → ℕ → ℤ → Call
-  keep drop step ask : ℕ → Call
 
 -- The value of a posted kind and number: NULL is kind 1 with 0, a number is kind 3 within the range; none is refused (13).
 unfoldable pub postedValue : ℕ → ℤ → Option Value
@@ -99,11 +95,6 @@ perform S T c = unless (firstCause (tests S T c)) S T c
 unfoldable pub run : Sheet → Table → List Call → Table
 run S T [] = T
 run S T (c ∷ cs) = run S (perform S T c .table) cs
-
--- an entry and what was stored in it
-pub record Posting : Type 0 where
-  pub entry : ℕ
-  pub value : Value
 
 abbrev pub postingOf : ℕ → Option Value → List Posting
 postingOf i none = []

@@ -1,36 +1,45 @@
--- The fresh office: a plain machine beside the engine, with neither cells nor a table. Its state is one value for each
--- entry. Assumes nothing.
+-- 01's fresh office, a plain machine beside the engine. It is fed the sheet, the calls' arguments and the postings that a
+-- later request's call makes, and nothing else from an index or work table: nothing here names a cell, a table, or what a
+-- call of the engine tests or does. Assumes nothing.
 use Prim.Native.Nat.{ℕ, zero, suc}
-use mathlib.Core.Bool.{Bool, true, false, cond, _||_}
+use mathlib.Core.Bool.{Bool, cond, not, _&&_, _||_}
 use mathlib.Core.List.{List, [], _∷_, map}
 use mathlib.Core.Option.{Option, none, some}
-use lib.Dec.{eqb}
-use Rattle.circuit.specs.Value.{Value, null}
+use lib.Dec.{eqb, leb}
+use lib.IntN.{ℤ, natAbs}
+use Rattle.circuit.specs.Value.{Value, null, num, limit}
 use Rattle.circuit.specs.Rules.{apply}
-use Rattle.circuit.specs.Sheet.{Sheet, Item, entry, figure, itemAt, beyond, isFigure, Entries}
-use Rattle.circuit.specs.Calls.{Call, post, keep, drop, step, ask, Posting, postedValue}
+use Rattle.circuit.specs.Sheet.{Sheet, Item, entry, figure, itemAt, isFigure, beyond, Entries}
+use Rattle.circuit.specs.Call.{Call, post, keep, drop, step, ask, Posting}
 
--- what it is fed: a call's arguments, or a posting that a call other than a post makes
+-- what it is fed besides the sheet: a call's arguments, or a posting that a later request's call makes
 pub data Event : Type 0 where
   called : Call → Event
   posted : Posting → Event
 
--- all NULL at an opening
+-- Its state is one value for each entry (`Entries`), all NULL at an opening.
 abbrev pub blank : Entries
 blank = λ i. null
 
 abbrev pub setEntry : Entries → ℕ → Value → Entries
 setEntry E e v = λ j. cond (eqb j e) v (E j)
 
-abbrev pub setIf : Entries → ℕ → Option Value → Entries
-setIf E i none = E
-setIf E i (some v) = setEntry E i v
+-- Cause 13 does not hold: the kind is 1 and the number 0, or the kind is 3 and the number within the range.
+unfoldable pub postable : ℕ → ℤ → Bool
+postable kind z = (eqb kind 1 && eqb (natAbs z) 0) || (eqb kind 3 && leb (natAbs z) limit)
 
--- A post of item n or more (11), to a figure (12), or of no value (13) changes nothing; any other sets its entry. So does
--- a posting. The other calls change nothing.
+-- what is posted then: NULL for kind 1, else the number
+abbrev pub postedAs : ℕ → ℤ → Value
+postedAs kind z = cond (eqb kind 1) null (num z)
+
+-- A post has cause 11 (item n or more), 12 (a figure) or 13.
+unfoldable pub hasCause : Sheet → ℕ → ℕ → ℤ → Bool
+hasCause S i kind z = beyond S i || (isFigure (itemAt S i) || not (postable kind z))
+
+-- A post with a cause changes nothing; any other sets its entry to what was posted. Keep, drop, step and ask change
+-- nothing, refused or not. A posting that a later request's call makes sets its entry, whatever the value or the entry.
 unfoldable pub hear : Sheet → Entries → Event → Entries
-hear S E (called (post i kind z)) =
-    cond (beyond S i || isFigure (itemAt S i)) E (setIf E i (postedValue kind z))
+hear S E (called (post i kind z)) = cond (hasCause S i kind z) E (setEntry E i (postedAs kind z))
 hear S E (called (keep i)) = E
 hear S E (called (drop i)) = E
 hear S E (called (step i)) = E
@@ -41,12 +50,13 @@ unfoldable pub hearAll : Sheet → Entries → List Event → Entries
 hearAll S E [] = E
 hearAll S E (e ∷ es) = hearAll S (hear S E e) es
 
--- an entry's value, or the figure's rule applied to what is given for its parents, in their listed order
+-- for an entry the value held, for a figure its rule applied to what is given for the parents, in their listed order
 abbrev pub giveItem : (ℕ → Value) → Item → Value → Value
 giveItem give entry v = v
 giveItem give (figure op kept spread ps) v = apply op (map give ps)
 
--- the first argument bounds how far up the circuit the parents go: i + 1 is enough for item i
+-- The first argument bounds how far up the circuit the parents go. As parents have lower numbers, i + 1 is enough for item
+-- i; the equations without a bound stand in Equations.
 unfoldable pub giveFor : ℕ → Sheet → Entries → ℕ → Value
 giveFor zero S E i = null
 giveFor (suc fuel) S E i = giveItem (giveFor fuel S E) (itemAt S i) (E i)
@@ -54,7 +64,7 @@ giveFor (suc fuel) S E i = giveItem (giveFor fuel S E) (itemAt S i) (E i)
 unfoldable pub give : Sheet → Entries → ℕ → Value
 give S E i = giveFor (suc i) S E i
 
--- asked for an item: no value from item n on
+-- asked for an item: for item n or more no value
 unfoldable pub freshAsk : Sheet → Entries → ℕ → Option Value
 freshAsk S E i = cond (beyond S i) none (some (give S E i))
 

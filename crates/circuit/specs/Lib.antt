@@ -2,11 +2,12 @@ pub mod Value
 pub mod Rules
 pub mod Circuit
 pub mod Sheet
+pub mod Call
 pub mod Table
 pub mod Machine
+pub mod Ascending
 pub mod Calls
 pub mod Fresh
 pub mod Words
 pub mod WellFormed
-pub mod Offices
-pub mod Demand
+pub mod Equations

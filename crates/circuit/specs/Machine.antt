@@ -1,5 +1,6 @@
--- The machine: looking up, working out, storing a posting, keeping, dropping, telling, stepping and catching up, on a
--- table that is well formed. The refusals stand in Calls. Assumes nothing.
+-- 01's "Calls", on a table that is well formed: looking up, working out, storing a posting, keeping, dropping, telling,
+-- stepping and catching up. Two of them recurse with a bound; Equations has them without. The refusals stand in Calls.
+-- Assumes nothing.
 use Prim.Native.Nat.{ℕ, zero, suc, _*_}
 use mathlib.Core.Bool.{Bool, true, false, cond, _||_}
 use mathlib.Core.List.{List, [], _∷_}
@@ -192,19 +193,3 @@ catchUpIn (suc fuel) S T = stepLowest (catchUpIn fuel S) S T (lowestMarked T (si
 
 unfoldable pub catchUp : Sheet → Table → Table
 catchUp S T = catchUpIn (2 * size S) S T
-
--- The ascending sweep, which is what the code runs: each item in turn is stepped while it is marked, which is twice at
--- most (a refresh may become a notice).
-abbrev pub stepIf : Bool → Sheet → Table → ℕ → Table
-stepIf true S T i = stepItem S T i
-stepIf false S T i = T
-
-unfoldable pub stepMarked : Sheet → Table → ℕ → Table
-stepMarked S T i = stepIf (isMarked (T i)) S T i
-
-unfoldable pub sweepBelow : Sheet → Table → ℕ → Table
-sweepBelow S T zero = T
-sweepBelow S T (suc k) = stepMarked S (stepMarked S (sweepBelow S T k) k) k
-
-unfoldable pub sweep : Sheet → Table → Table
-sweep S T = sweepBelow S T (size S)

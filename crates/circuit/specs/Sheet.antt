@@ -1,4 +1,4 @@
--- A sheet as the machine sees it: its items in order. Assumes nothing.
+-- 01's "sheet" as the machine sees it: its items in order. Assumes nothing.
 use Prim.Native.Nat.{ℕ, zero, suc, _<_}
 use mathlib.Core.Bool.{Bool, true, false, _||_, not}
 use mathlib.Core.List.{List, [], _∷_}

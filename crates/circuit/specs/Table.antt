@@ -1,9 +1,10 @@
--- The work table as the machine sees it: one cell an item. Assumes nothing.
+-- 01's "work table" as the machine sees it, one cell an item, and as the openings write it. Assumes nothing.
 use Prim.Native.Nat.{ℕ}
-use mathlib.Core.Bool.{Bool, true, false, cond, not}
+use mathlib.Core.Bool.{Bool, true, false, cond}
 use lib.Dec.{eqb}
 use Rattle.circuit.specs.Value.{Value, null}
-use Rattle.circuit.specs.Sheet.{Sheet, Item, entry, figure, itemAt, Entries}
+use Rattle.circuit.specs.Sheet.{Sheet, Item, entry, figure, itemAt}
+use Rattle.circuit.specs.Call.{Opening, bare, full}
 
 pub data Mark : Type 0 where
   unmarked refresh notice : Mark
@@ -75,3 +76,7 @@ openBare S = λ i. bareCell (itemAt S i)
 
 abbrev pub openFull : Sheet → Table
 openFull S = λ i. held null unmarked
+
+abbrev pub opened : Opening → Sheet → Table
+opened bare S = openBare S
+opened full S = openFull S

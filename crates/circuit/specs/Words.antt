@@ -1,14 +1,15 @@
--- The words of the agreement of two offices and of what stays stored. Assumes nothing.
+-- Words of 01's "Two offices" (no mark stands, dropped, accepted) and of an ask (stepping until none is marked), and what a
+-- table's entries hold. Assumes nothing.
 use Prim.Native.Nat.{ℕ, _<_}
 use mathlib.Core.Path.{_≡_}
 use mathlib.Core.Bool.{Bool, true, false, _||_}
 use mathlib.Core.List.{List, [], _∷_}
-use mathlib.Core.Option.{Option, none, some}
-use Rattle.circuit.specs.Value.{Value}
+use mathlib.Core.Option.{none, some}
 use Rattle.circuit.specs.Sheet.{Sheet, Entries, size, itemAt, isFigure}
 use Rattle.circuit.specs.Table.{Table, isStored, isMarked, cellForm, valueIn}
 use Rattle.circuit.specs.Machine.{stepItem, lowestMarked}
-use Rattle.circuit.specs.Calls.{Call, perform, drops}
+use Rattle.circuit.specs.Call.{Call}
+use Rattle.circuit.specs.Calls.{perform, drops}
 
 -- the table is well formed for the sheet: each entry is stored, without refresh
 abbrev pub Formed : Sheet → Table → Type 0

@@ -8,9 +8,9 @@ use borrow.Author.Tests.{leb-true, leb-false}
 use lib.Dec.{leb}
 use lib.ListN.{length, take, drop}
 use lib.Seq.{take-all, length-take-le}
-use Rattle.circuit.specs.Offices.{bare}
+use Rattle.circuit.specs.Call.{bare}
 use Rattle.layout.specs.Index.{indexWidth}
-use Rattle.office.specs.Office.{Given, openOn}
+use Rattle.office.specs.Office.{Given, openOn, keeping}
 use Rattle.day_meaning.specs.Lines.{Appended, lastLine, sheetWord}
 use Rattle.day_meaning.specs.Day.{playFrom, PlayedOn, Day, ended, dayBy, dayOn, itemCount, indexSize, tableSize, runDay, Ran}
 use Rattle.day_meaning.proofs.Storing.{appended-front, appended-count}
@@ -18,36 +18,36 @@ use Rattle.day_meaning.proofs.Storing.{appended-front, appended-count}
 ran-as : {e e′ : Day} {out x t out′ : List ℕ} {count : ℕ} → e ≡ e′ → Ran e out count x t out′ → Ran e′ out count x t out′
 ran-as e r = rw e at r
 
-refused-day : (m : ℕ) (s d : List ℕ) (g : Given) → (m ≡ 0 → ⊥) → dayBy m s d g ≡ ended (lastLine sheetWord m (g .offset)) (g .index) (g .table)
+refused-day : (m : ℕ) (s d : List ℕ) (g : Given) → (m ≡ 0 → ⊥) → dayBy m s d g ≡ ended (lastLine sheetWord m (g .offset)) (g .after .index) (g .after .table)
 refused-day zero s d g h = absurd (h refl)
 refused-day (suc m) s d g h = refl
 
 -- the opening is refused
-pub day-refused : {n offset count : ℕ} {x′ t′ out out′ : List ℕ} (s d x t : List ℕ) → n ≡ openOn bare s x t .number → offset ≡ openOn bare s x t .offset
-    → x′ ≡ openOn bare s x t .index → t′ ≡ openOn bare s x t .table → (n ≡ 0 → ⊥) → Appended (lastLine sheetWord n offset) out 0 count out′
+pub day-refused : {n offset count : ℕ} {x′ t′ out out′ : List ℕ} (s d x t : List ℕ) → n ≡ openOn bare s (keeping x t) .number → offset ≡ openOn bare s (keeping x t) .offset
+    → x′ ≡ openOn bare s (keeping x t) .after .index → t′ ≡ openOn bare s (keeping x t) .after .table → (n ≡ 0 → ⊥) → Appended (lastLine sheetWord n offset) out 0 count out′
     → Ran (dayOn s d x t) out count x′ t′ out′
 unfolding dayOn
 day-refused {n} {offset} {count} {x′} {t′} {out} {out′} s d x t number at index table h p =
-    let g : Given = openOn bare s x t in
+    let g : Given = openOn bare s (keeping x t) in
     let whole : ended (lastLine sheetWord n offset) x′ t′ ≡ dayBy (g .number) s d g =
     ap (λ o. ended (lastLine sheetWord n o) x′ t′) at
     ∙ ap (λ y. ended (lastLine sheetWord n (g .offset)) y t′) index
-    ∙ ap (λ y. ended (lastLine sheetWord n (g .offset)) (g .index) y) table
+    ∙ ap (λ y. ended (lastLine sheetWord n (g .offset)) (g .after .index) y) table
     ∙ sym (refused-day n s d g h)
     ∙ ap (λ m. dayBy m s d g) number
     in
     ran-as whole (record { count-is = appended-count p; output-is = appended-front p; index-is = refl; table-is = refl })
 
 -- the opening is accepted, and the calls follow
-pub day-played : {n count : ℕ} {x′ t₁ t′ out out′ : List ℕ} (s d x t : List ℕ) → n ≡ openOn bare s x t .number → x′ ≡ openOn bare s x t .index
-    → t₁ ≡ openOn bare s x t .table → n ≡ 0 → PlayedOn (playFrom (suc (length d)) s x′ d 0 t₁) out count t′ out′
+pub day-played : {n count : ℕ} {x′ t₁ t′ out out′ : List ℕ} (s d x t : List ℕ) → n ≡ openOn bare s (keeping x t) .number → x′ ≡ openOn bare s (keeping x t) .after .index
+    → t₁ ≡ openOn bare s (keeping x t) .after .table → n ≡ 0 → PlayedOn (playFrom (suc (length d)) s x′ d 0 t₁) out count t′ out′
     → Ran (dayOn s d x t) out count x′ t′ out′
 unfolding dayOn
 day-played {n} {count} {x′} {t₁} {t′} {out} {out′} s d x t number index table h p =
-    let g : Given = openOn bare s x t in
+    let g : Given = openOn bare s (keeping x t) in
     let whole : ended (playFrom (suc (length d)) s x′ d 0 t₁ .text) x′ (playFrom (suc (length d)) s x′ d 0 t₁ .table) ≡ dayBy (g .number) s d g =
     ap (λ y. ended (playFrom (suc (length d)) s y d 0 t₁ .text) y (playFrom (suc (length d)) s y d 0 t₁ .table)) index
-    ∙ ap (λ y. ended (playFrom (suc (length d)) s (g .index) d 0 y .text) (g .index) (playFrom (suc (length d)) s (g .index) d 0 y .table)) table
+    ∙ ap (λ y. ended (playFrom (suc (length d)) s (g .after .index) d 0 y .text) (g .after .index) (playFrom (suc (length d)) s (g .after .index) d 0 y .table)) table
     ∙ ap (λ m. dayBy m s d g) (sym h ∙ number)
     in
     ran-as whole (record { count-is = appended-count (p .lines); output-is = appended-front (p .lines); index-is = refl; table-is = p .table-is })

@@ -4,7 +4,7 @@ ghost use Prim.Native.Nat.{suc, _≤_};
 ghost use lib.ListN.{length};
 ghost use Rattle.printer.specs.Printing.{textOf};
 ghost use Rattle.value.specs.Meaning.{partsOf};
-ghost use Rattle.office.specs.Office.{callOn};
+ghost use Rattle.office.specs.Office.{callOn, keeping};
 ghost use Rattle.day_order.specs.Orders.{orderMeaning};
 ghost use Rattle.day_meaning.specs.Lines.{Appended};
 ghost use Rattle.day_meaning.specs.Day.{answerLine, readingLine, faultLine, playFrom, itemCount, dayOn, runDay, CarriedOut, PlayedOn, Ran};
@@ -53,7 +53,7 @@ fn carry_out(
     at: usize,
 ) -> usize
     requires { ⌜ at ≤ length (now out) ⌝ }
-    ensures { λ r. ⌜ CarriedOut (orderMeaning order) (callOn (now (sheet .entry)) (now (index .entry)) (now (table .entry)) (orderMeaning order)) (now (out .entry)) at r (now (table .exit)) (now (out .exit)) ⌝ }
+    ensures { λ r. ⌜ CarriedOut (orderMeaning order) (callOn (now (sheet .entry)) (keeping (now (index .entry)) (now (table .entry))) (orderMeaning order)) (now (out .entry)) at r (now (table .exit)) (now (out .exit)) ⌝ }
 {
     match order {
         Order::Post { item, kind, number } => {

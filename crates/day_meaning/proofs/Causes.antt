@@ -12,7 +12,7 @@ use lib.IntN.{pos}
 use lib.ListN.{length}
 use borrow.Author.Tests.{eqb-true, eqb-false}
 use Rattle.circuit.specs.Value.{sameNumber}
-use Rattle.circuit.specs.Calls.{Call, post, keep, drop, step, ask}
+use Rattle.circuit.specs.Call.{Call, post, keep, drop, step, ask}
 use Rattle.circuit.proofs.RuleLaws.{sameNumber-true}
 use Rattle.printer.proofs.Causes.{not-zero}
 use Rattle.field.specs.Field.{cutAt}

@@ -18,7 +18,7 @@ use Rattle.word.specs.Word.{leAt, leBytes}
 use Rattle.field.specs.Field.{cutAt}
 use Rattle.printer.specs.Decimal.{digitsUpTo, digits, decimal}
 use Rattle.value.specs.Meaning.{partsOf}
-use Rattle.office.specs.Office.{callOn, openOn}
+use Rattle.office.specs.Office.{callOn, openOn, keeping}
 use Rattle.item.specs.Offsets.{sameBytes}
 use Rattle.day_meaning.specs.Day.{playFrom, itemCount, dayOn, runDay}
 use Rattle.day_meaning.specs.Orders.{postIn, callIn, orderOf}

@@ -5,10 +5,10 @@ use mathlib.Core.Path.{_≡_, refl}
 use mathlib.Core.List.{List, [], _∷_, _++_}
 use mathlib.Core.Option.{some}
 use lib.IntN.{pos}
-use Rattle.circuit.specs.Calls.{post, ask}
+use Rattle.circuit.specs.Call.{post, ask}
 use Rattle.field.specs.Field.{cutAt}
 use Rattle.word.specs.Word.{leAt}
-use Rattle.office.specs.Office.{callOn}
+use Rattle.office.specs.Office.{callOn, keeping}
 use Rattle.day_meaning.specs.Orders.{orderOf, postIn, callIn}
 use Rattle.day_meaning.specs.Day.{lineOf, faultLine, playFrom}
 
@@ -52,7 +52,7 @@ module _ (s x t : List ℕ) (k : ℕ) where
 
   -- A fault after a call: its offset is that of the field, and the field after it is unread.
   pub fault-after : playFrom (suc (suc k)) s x (17 ∷ 2 ∷ 0 ∷ 4 ∷ 0 ∷ 21 ∷ 0 ∷ 0 ∷ 17 ∷ 2 ∷ 0 ∷ 4 ∷ 0 ∷ []) 0 t
-      ≡ record { text = lineOf (ask 4) (callOn s x t (ask 4)) ++ faultLine 5; table = callOn s x t (ask 4) .table }
+      ≡ record { text = lineOf (ask 4) (callOn s (keeping x t) (ask 4)) ++ faultLine 5; table = callOn s (keeping x t) (ask 4) .after .table }
   unfolding playFrom cutAt orderOf callIn
   fault-after = refl
 

@@ -11,7 +11,7 @@ use lib.ListN
 use lib.Seq.{getD-take, getD-drop}
 use mathlib.Core.Bool.{true}
 use Rattle.circuit.specs.Value.{Value, wellFormed, kindOf, numberOf}
-use Rattle.circuit.specs.Calls.{Call}
+use Rattle.circuit.specs.Call.{Call}
 use Rattle.printer.specs.Printing.{textOf, printed}
 use Rattle.value.specs.Meaning.{partsOf}
 use Rattle.value.proofs.PartsLaws.{parts-own}
@@ -22,7 +22,7 @@ use Rattle.field.proofs.Cutting.{FieldAt, field-iff, absent-iff}
 use Rattle.layout.specs.Read.{Placed, opens, readSheet, contentAt, headContent, headNext}
 use Rattle.layout.specs.Layout.{headTag}
 use Rattle.layout.proofs.Scan.{opened, opened-length}
-use Rattle.office.specs.Office.{callOn}
+use Rattle.office.specs.Office.{callOn, keeping}
 use Rattle.day_meaning.specs.Orders.{orderOf}
 use Rattle.day_meaning.specs.Day.{lineOf, after, playFrom, itemCount}
 use Rattle.day_meaning.proofs.Playing.{play-absent, play-short, play-fault, play-call}
@@ -46,8 +46,8 @@ enough-fields (suc f) (suc g) s x d t at p q = cut (λ u next. enough-fields f g
     order ih tag start len next e (some c) o =
         let w : FieldAt d at tag start len next = field-iff d at tag start len next .0 e in
         play-call s x d t at f tag start len next c e o
-        ∙ ap (λ r. after (lineOf c (callOn s x t c)) r)
-        (ih (callOn s x t c .table) next (omega (arith, w .start-is, w .next-is)) (omega (arith, w .start-is, w .next-is)))
+        ∙ ap (λ r. after (lineOf c (callOn s (keeping x t) c)) r)
+        (ih (callOn s (keeping x t) c .after .table) next (omega (arith, w .start-is, w .next-is)) (omega (arith, w .start-is, w .next-is)))
         ∙ sym (play-call s x d t at g tag start len next c e o)
 
     cut : ((u : List ℕ) (next : ℕ) → length d < next + f → length d < next + g → playFrom f s x d next u ≡ playFrom g s x d next u)

@@ -8,13 +8,13 @@ use native.Mathlib.Omega.{arith}
 use lib.IntN.{ℤ}
 use lib.ListN.{length, take}
 use lib.ListN
-use Rattle.circuit.specs.Calls.{Call, ask}
+use Rattle.circuit.specs.Call.{Call, ask}
 use Rattle.field.specs.Field.{cutAt}
 use Rattle.field.specs.declared.Cut.{Cut}
 use Rattle.field.specs.declared.Cut.the-variants.{Field, Short, Absent}
 use Rattle.field.proofs.Cutting.{FieldAt, field-iff}
 use Rattle.layout.specs.Read.{contentAt}
-use Rattle.office.specs.Office.{Given, callOn}
+use Rattle.office.specs.Office.{Given, callOn, keeping}
 use Rattle.printer.specs.Printing.{textOf}
 use Rattle.value.specs.Meaning.{partsOf}
 use Rattle.day_meaning.specs.Lines.{Appended, noLine}
@@ -33,16 +33,16 @@ reading-refused item (suc n) text h = refl
 
 -- a call and its line
 pub carry-answer : {c c′ : Call} {t′ out out′ : List ℕ} {n at next : ℕ} (s x t : List ℕ) → c ≡ c′ → ((g : Given) → lineOf c′ g ≡ answerLine (g .number))
-    → n ≡ callOn s x t c′ .number → t′ ≡ callOn s x t c′ .table → Appended (answerLine n) out at next out′
-    → CarriedOut c (callOn s x t c) out at next t′ out′
+    → n ≡ callOn s (keeping x t) c′ .number → t′ ≡ callOn s (keeping x t) c′ .after .table → Appended (answerLine n) out at next out′
+    → CarriedOut c (callOn s (keeping x t) c) out at next t′ out′
 carry-answer {c} {c′} {n = n} s x t e line number table p =
-    rw e (record { line = appended-as (ap answerLine number ∙ sym (line (callOn s x t c′))) p; table-is = table })
+    rw e (record { line = appended-as (ap answerLine number ∙ sym (line (callOn s (keeping x t) c′))) p; table-is = table })
 
 pub carry-reading : {c : Call} {t′ out out′ : List ℕ} {n kind at next : ℕ} {z : ℤ} (s x t : List ℕ) (item : ℕ) → c ≡ ask item
-    → n ≡ callOn s x t (ask item) .number → kind ≡ callOn s x t (ask item) .kind → z ≡ callOn s x t (ask item) .value → t′ ≡ callOn s x t (ask item) .table
-    → Appended (readingLine item n (textOf (partsOf kind z))) out at next out′ → CarriedOut c (callOn s x t c) out at next t′ out′
+    → n ≡ callOn s (keeping x t) (ask item) .number → kind ≡ callOn s (keeping x t) (ask item) .kind → z ≡ callOn s (keeping x t) (ask item) .value → t′ ≡ callOn s (keeping x t) (ask item) .after .table
+    → Appended (readingLine item n (textOf (partsOf kind z))) out at next out′ → CarriedOut c (callOn s (keeping x t) c) out at next t′ out′
 carry-reading {c} {n = n} {kind = kind} {z = z} s x t item e number kinds value table p =
-    let g : Given = callOn s x t (ask item) in
+    let g : Given = callOn s (keeping x t) (ask item) in
     rw e (record {
       line = appended-as (
           ap (λ m. readingLine item m (textOf (partsOf kind z))) number
@@ -99,7 +99,7 @@ module _ (s x d t : List ℕ) (at : ℕ) where
   play-fault k tag start len next e o = rw (e, o)
 
   pub play-call : (k tag start len next : ℕ) (c : Call) → cutAt d at ≡ Field tag start len next → orderOf tag (contentAt d start len) ≡ some c
-      → playFrom (suc k) s x d at t ≡ after (lineOf c (callOn s x t c)) (playFrom k s x d next (callOn s x t c .table))
+      → playFrom (suc k) s x d at t ≡ after (lineOf c (callOn s (keeping x t) c)) (playFrom k s x d next (callOn s (keeping x t) c .after .table))
   unfolding playFrom
   play-call k tag start len next c e o = rw (e, o)
 
@@ -134,7 +134,7 @@ module _ {s x d t₀ out₀ t out : List ℕ} {at count : ℕ} (w : Playing s x 
       closes (λ k. play-fault s x d t at k tag start len next (sym e ∙ f) o) p
 
   pub playing-step : {cut : Cut} {tag start len next count′ : ℕ} {t′ out′ : List ℕ} (c : Call) → cut ≡ cutAt d at → cut ≡ Field tag start len next
-      → orderOf tag (contentAt d start len) ≡ some c → length t′ ≡ length t → CarriedOut c (callOn s x t c) out count count′ t′ out′
+      → orderOf tag (contentAt d start len) ≡ some c → length t′ ≡ length t → CarriedOut c (callOn s (keeping x t) c) out count count′ t′ out′
       → Playing s x d t₀ out₀ t′ out′ next count′
   playing-step {cut} {tag} {start} {len} {next} {count′} {t′} {out′} c e f o same p = go (w .fuel) refl
     where
@@ -142,7 +142,7 @@ module _ {s x d t₀ out₀ t out : List ℕ} {at count : ℕ} (w : Playing s x 
       go zero h = absurd (omega (arith, w .within, w .enough))
       go (suc k) h =
           let cut-is : FieldAt d at tag start len next = field-parts e f in
-          let line : List ℕ = lineOf c (callOn s x t c) in
+          let line : List ℕ = lineOf c (callOn s (keeping x t) c) in
           record {
             fuel = k;
             text = w .text ++ line;
@@ -154,7 +154,7 @@ module _ {s x d t₀ out₀ t out : List ℕ} {at count : ℕ} (w : Playing s x 
                 w .goes-on
                 ∙ ap (λ f. after (w .text) (playFrom f s x d at t)) h
                 ∙ ap (λ q. after (w .text) q) (play-call s x d t at k tag start len next c (sym e ∙ f) o)
-                ∙ ap (λ l. record { text = l; table = playFrom k s x d next (callOn s x t c .table) .table })
-                (sym (append-assoc (w .text) line (playFrom k s x d next (callOn s x t c .table) .text)))
+                ∙ ap (λ l. record { text = l; table = playFrom k s x d next (callOn s (keeping x t) c .after .table) .table })
+                (sym (append-assoc (w .text) line (playFrom k s x d next (callOn s (keeping x t) c .after .table) .text)))
                 ∙ ap (λ q. after (w .text ++ line) (playFrom k s x d next q)) (sym (p .table-is));
           }

@@ -10,8 +10,8 @@ use lib.Dec.{eqb}
 use lib.ListN.{length, getD, length-append, length-take}
 use lib.ListN
 use lib.Seq.{getD-take, getD-drop}
-use Rattle.circuit.specs.Offices.{bare}
-use Rattle.circuit.specs.Calls.{Call, post, keep, drop, step, ask, Test, test, firstCause, tests, Outcome, effect}
+use Rattle.circuit.specs.Call.{bare, Call, post, keep, drop, step, ask}
+use Rattle.circuit.specs.Calls.{Test, test, firstCause, tests, Outcome, effect}
 use Rattle.field.specs.Field.{cutAt, Bytes}
 use Rattle.field.specs.declared.Cut.{Cut}
 use Rattle.field.specs.declared.Cut.the-variants.{Field, Short, Absent}
@@ -19,8 +19,8 @@ use Rattle.field.proofs.Cutting.{FieldAt, field-iff, le16-small}
 use Rattle.layout.specs.Read.{Placed, opens, readSheet, contentAt}
 use Rattle.layout.specs.Opened.{sheetRead}
 use Rattle.table.specs.Bytes.{decodeTable}
-use Rattle.office.specs.Office.{Given, openOn, callOn, callTests, unlessRefused, effectOn}
-use Rattle.office.proofs.Demands.{opening-opens}
+use Rattle.office.specs.Office.{Given, openOn, callOn, callTests, unlessRefused, effectOn, keeping}
+use Rattle.office.proofs.Agreeing.{opening-opens}
 use Rattle.printer.specs.Decimal.{digits}
 use Rattle.printer.specs.Printing.{textOf}
 use Rattle.value.specs.Meaning.{partsOf}
@@ -104,9 +104,9 @@ no-cause : firstCause [] ≤ 14
 unfolding firstCause
 no-cause = omega arith
 
-number-at-most : (s x t : List ℕ) (c : Call) (edition : ℕ) (ps : List Placed) → readSheet s ≡ opens edition ps → callOn s x t c .number ≤ 14
+number-at-most : (s x t : List ℕ) (c : Call) (edition : ℕ) (ps : List Placed) → readSheet s ≡ opens edition ps → callOn s (keeping x t) c .number ≤ 14
 unfolding callOn tests
-number-at-most s x t c edition ps r = rw r (given (firstCause (callTests (sheetRead edition ps) ps x t c)) (all c) (effect (sheetRead edition ps) (decodeTable t) c))
+number-at-most s x t c edition ps r = rw r (given (firstCause (callTests (sheetRead edition ps) ps (keeping x t) c)) (all c) (effect (sheetRead edition ps) (decodeTable t) c))
   where
     own : (c : Call) → firstCause (tests (sheetRead edition ps) (decodeTable t) c) ≤ 14
     own (post i kind z) = cause-at-most 11 _ _ (omega arith) (cause-at-most 12 _ _ (omega arith) (cause-at-most 13 _ _ (omega arith) no-cause))
@@ -115,10 +115,10 @@ number-at-most s x t c edition ps r = rw r (given (firstCause (callTests (sheetR
     own (step i) = cause-at-most 11 _ _ (omega arith) (cause-at-most 14 _ _ (omega arith) no-cause)
     own (ask i) = cause-at-most 11 _ _ (omega arith) no-cause
 
-    all : (c : Call) → firstCause (callTests (sheetRead edition ps) ps x t c) ≤ 14
+    all : (c : Call) → firstCause (callTests (sheetRead edition ps) ps (keeping x t) c) ≤ 14
     all c = cause-at-most 8 _ _ (omega arith) (cause-at-most 9 _ _ (omega arith) (cause-at-most 10 _ _ (omega arith) (own c)))
 
-    given : (m : ℕ) → m ≤ 14 → (o : Outcome) → unlessRefused m x t (effectOn (sheetRead edition ps) x o) .number ≤ 14
+    given : (m : ℕ) → m ≤ 14 → (o : Outcome) → unlessRefused m (keeping x t) (effectOn (sheetRead edition ps) (keeping x t) o) .number ≤ 14
     given zero h o = omega arith
     given (suc m) h o = h
 
@@ -168,14 +168,14 @@ module _ (s x d : List ℕ) (edition : ℕ) (ps : List Placed) (r : readSheet s 
   Room f t at = length (playFrom f s x d at t .text) ≤ 6 * (length d - at) + 13
 
   call-room : (f : ℕ) (t : List ℕ) (at tag start len next : ℕ) (c : Call) → FieldAt d at tag start len next → orderOf tag (contentAt d start len) ≡ some c
-      → Room f (callOn s x t c .table) next → length (lineOf c (callOn s x t c) ++ playFrom f s x d next (callOn s x t c .table) .text) ≤ 6 * (length d - at) + 13
+      → Room f (callOn s (keeping x t) c .after .table) next → length (lineOf c (callOn s (keeping x t) c) ++ playFrom f s x d next (callOn s (keeping x t) c .after .table) .text) ≤ 6 * (length d - at) + 13
   call-room f t at tag start len next c w e ih =
       let o = ordering tag (contentAt d start len) c e in
       let within : length (contentAt d start len) ≤ len = omega (arith, length-take len (ListN.drop start d)) in
-      let line : length (lineOf c (callOn s x t c)) ≤ 30 =
-      line-short c (callOn s x t c) (number-at-most s x t c edition ps r) (item-small d (contentAt d start len) start len c b refl o)
+      let line : length (lineOf c (callOn s (keeping x t) c)) ≤ 30 =
+      line-short c (callOn s (keeping x t) c) (number-at-most s x t c edition ps r) (item-small d (contentAt d start len) start len c b refl o)
       in
-      rw (length-append (lineOf c (callOn s x t c)) (playFrom f s x d next (callOn s x t c .table) .text))
+      rw (length-append (lineOf c (callOn s (keeping x t) c)) (playFrom f s x d next (callOn s (keeping x t) c .after .table) .text))
       (omega (arith, ih, o .two, w .start-is, w .next-is, w .next-in))
 
   room : (f : ℕ) (t : List ℕ) (at : ℕ) → at ≤ length d → Room f t at
@@ -189,7 +189,7 @@ module _ (s x d : List ℕ) (edition : ℕ) (ps : List Placed) (r : readSheet s 
       order ih tag start len next e (some c) o =
           let w : FieldAt d at tag start len next = field-iff d at tag start len next .0 e in
           rw (play-call s x d t at f tag start len next c e o)
-          (call-room f t at tag start len next c w o (ih (callOn s x t c .table) next (w .next-in)))
+          (call-room f t at tag start len next c w o (ih (callOn s (keeping x t) c .after .table) next (w .next-in)))
 
       cut : ((u : List ℕ) (next : ℕ) → next ≤ length d → Room f u next) → (c : Cut) → cutAt d at ≡ c → Room (suc f) t at
       cut ih Absent e = rw (play-absent s x d t at f e) (omega arith)
@@ -197,10 +197,10 @@ module _ (s x d : List ℕ) (edition : ℕ) (ps : List Placed) (r : readSheet s 
       cut ih (Field tag start len next) e = order ih tag start len next e (orderOf tag (contentAt d start len)) refl
 
 -- the text of a day whose sheet opens
-pub day-room : (s d x t : List ℕ) → openOn bare s x t .number ≡ 0 → Bytes d → length d ≤ 65536 → length (dayOn s d x t .text) ≤ 6 * length d + 13
+pub day-room : (s d x t : List ℕ) → openOn bare s (keeping x t) .number ≡ 0 → Bytes d → length d ≤ 65536 → length (dayOn s d x t .text) ≤ 6 * length d + 13
 unfolding dayOn
 day-room s d x t h b n =
-    let o = opening-opens s x t bare h in
-    let whole = room s (openOn bare s x t .index) d (o .edition) (o .placed) (o .reads) b n (suc (length d)) (openOn bare s x t .table) 0 (omega arith) in
+    let o = opening-opens s (keeping x t) bare h in
+    let whole = room s (openOn bare s (keeping x t) .after .index) d (o .edition) (o .placed) (o .reads) b n (suc (length d)) (openOn bare s (keeping x t) .after .table) 0 (omega arith) in
     let all : length d - 0 ≡ length d = omega arith in
     rw h (rw all at whole)

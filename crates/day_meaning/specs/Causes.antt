@@ -5,7 +5,7 @@ use mathlib.Core.List.{List}
 use mathlib.Core.Option.{some}
 use lib.IntN.{pos}
 use lib.ListN.{length}
-use Rattle.circuit.specs.Calls.{Call}
+use Rattle.circuit.specs.Call.{Call}
 use Rattle.field.specs.Field.{cutAt}
 use Rattle.field.specs.declared.Cut.the-variants.{Field, Short, Absent}
 use Rattle.layout.specs.Read.{contentAt}

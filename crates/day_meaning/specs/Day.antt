@@ -8,15 +8,14 @@ use mathlib.Core.Option.{Option, none, some}
 use lib.Dec.{ltb}
 use lib.ListN.{length, take}
 use lib.ListN
-use Rattle.circuit.specs.Calls.{Call, post, keep, drop, step, ask}
-use Rattle.circuit.specs.Offices.{bare}
+use Rattle.circuit.specs.Call.{Call, post, keep, drop, step, ask, bare}
 use Rattle.field.specs.Field.{cutAt, le16At}
 use Rattle.field.specs.declared.Cut.{Cut}
 use Rattle.field.specs.declared.Cut.the-variants.{Field, Short, Absent}
 use Rattle.layout.specs.Read.{contentAt}
 use Rattle.layout.specs.Index.{indexWidth}
 use Rattle.table.specs.Record.{width}
-use Rattle.office.specs.Office.{Given, openOn, callOn}
+use Rattle.office.specs.Office.{Given, openOn, callOn, keeping}
 use Rattle.printer.specs.Printing.{textOf}
 use Rattle.value.specs.Meaning.{partsOf}
 use Rattle.day_meaning.specs.Lines.{okLine, noLine, askLine, lastLine, sheetWord, dayWord, written, writtenCount, Appended}
@@ -58,12 +57,12 @@ after line p = played (line ++ p .text) (p .table)
 
 -- a call's line, and then the fields from the next on, with the table that the call left
 abbrev pub playCall : (ℕ → List ℕ → Played) → ℕ → Call → Given → Played
-playCall rest next c g = after (lineOf c g) (rest next (g .table))
+playCall rest next c g = after (lineOf c g) (rest next (g .after .table))
 
 -- a field that orders a call, or one at fault, after which the rest is unread
 abbrev pub playOrder : (ℕ → List ℕ → Played) → List ℕ → List ℕ → ℕ → List ℕ → ℕ → Option Call → Played
 playOrder rest s x at t next none = played (faultLine at) t
-playOrder rest s x at t next (some c) = playCall rest next c (callOn s x t c)
+playOrder rest s x at t next (some c) = playCall rest next c (callOn s (keeping x t) c)
 
 -- what stands at an offset: a field, a field that runs past the end, or the end of the day
 abbrev pub playCut : (ℕ → List ℕ → Played) → List ℕ → List ℕ → List ℕ → ℕ → List ℕ → Cut → Played
@@ -101,13 +100,13 @@ ended text x t = record { text = text; index = x; table = t }
 -- the day after the opening: its calls if the opening was accepted, else the one line `SHEET number offset`
 abbrev pub dayBy : ℕ → List ℕ → List ℕ → Given → Day
 dayBy zero s d g =
-    let p : Played = playFrom (suc (length d)) s (g .index) d 0 (g .table) in
-    ended (p .text) (g .index) (p .table)
-dayBy (suc k) s d g = ended (lastLine sheetWord (suc k) (g .offset)) (g .index) (g .table)
+    let p : Played = playFrom (suc (length d)) s (g .after .index) d 0 (g .after .table) in
+    ended (p .text) (g .after .index) (p .table)
+dayBy (suc k) s d g = ended (lastLine sheetWord (suc k) (g .offset)) (g .after .index) (g .after .table)
 
 -- the day with an index and a table of which all is lent on
 unfoldable pub dayOn : List ℕ → List ℕ → List ℕ → List ℕ → Day
-dayOn s d x t = dayBy (openOn bare s x t .number) s d (openOn bare s x t)
+dayOn s d x t = dayBy (openOn bare s (keeping x t) .number) s d (openOn bare s (keeping x t))
 
 -- the bytes after those that were lent on stay
 abbrev pub withRests : ℕ → ℕ → List ℕ → List ℕ → Day → Day
@@ -120,7 +119,7 @@ runDay s d x t =
 -- A call with its line appended to the output.
 pub record CarriedOut (c : Call) (g : Given) (out : List ℕ) (at next : ℕ) (t out′ : List ℕ) : Type 0 where
   pub line : Appended (lineOf c g) out at next out′
-  pub table-is : t ≡ g .table
+  pub table-is : t ≡ g .after .table
 
 -- The calls of a day with their lines in the output from its front on.
 pub record PlayedOn (p : Played) (out : List ℕ) (count : ℕ) (t out′ : List ℕ) : Type 0 where

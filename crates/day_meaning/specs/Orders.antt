@@ -7,7 +7,7 @@ use lib.Dec.{eqb}
 use lib.IntN.{ℤ, pos}
 use lib.ListN.{length, getD}
 use Rattle.circuit.specs.Value.{sameNumber}
-use Rattle.circuit.specs.Calls.{Call, post, keep, drop, step, ask}
+use Rattle.circuit.specs.Call.{Call, post, keep, drop, step, ask}
 use Rattle.field.specs.Field.{le16At}
 use Rattle.word.specs.Word.{le64At}
 

@@ -7,7 +7,7 @@ use mathlib.Core.Option.{none, some}
 use borrow.Author.Tests.{eq-eqb, ne-eqb}
 use lib.IntN.{ℤ}
 use lib.ListN.{length}
-use Rattle.circuit.specs.Calls.{Call, post, keep, drop, step, ask}
+use Rattle.circuit.specs.Call.{Call, post, keep, drop, step, ask}
 use Rattle.day_meaning.specs.Orders.{itemIn, kindIn, numberIn, kindAllowed, postIn, callIn, orderOf}
 
 pub post-length : (content : List ℕ) → (length content ≡ 11 → ⊥) → none ≡ postIn content

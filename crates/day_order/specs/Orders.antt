@@ -1,6 +1,6 @@
 -- What the code's orders are in the terms of the definitions. Assumes nothing.
 use mathlib.Core.Option.{Option, none, some}
-use Rattle.circuit.specs.Calls.{Call, post, keep, drop, step, ask}
+use Rattle.circuit.specs.Call.{Call, post, keep, drop, step, ask}
 use Rattle.day_order.specs.declared.Order.{Order}
 use Rattle.day_order.specs.declared.Order.the-variants.{Post, Ask, Keep, Drop, Step}
 use Rattle.day_order.specs.declared.Ordered.{Ordered}

@@ -48,10 +48,10 @@ pub record ItemField (s : List ℕ) (at : ℕ) : Type 0 where
   pub figure : getD s at 0 ≡ figureTag → FigureField s at
 
 -- the spread of the definitions
-abbrev pub sporderedMeaning : Spread → circuit.Spread
-sporderedMeaning Defer = circuit.defer
-sporderedMeaning Renew = circuit.renew
-sporderedMeaning Forget = circuit.forget
+abbrev pub spreadMeaning : Spread → circuit.Spread
+spreadMeaning Defer = circuit.defer
+spreadMeaning Renew = circuit.renew
+spreadMeaning Forget = circuit.forget
 
 -- an item's operation; an entry has none
 abbrev pub itemOperation : circuit.Item → Option rules.Operation

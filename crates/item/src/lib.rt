@@ -6,7 +6,7 @@ ghost use mathlib.Core.Bool.{true};
 ghost use Prim.Native.Nat.{_<_, _≤_, _+_, _*_};
 ghost use lib.ListN.{length, getD, take};
 ghost use Rattle.circuit.specs.Sheet as circuit;
-ghost use Rattle.item.specs.Item.{ItemField, fieldItem, sporderedMeaning, OperationRead, CountRead};
+ghost use Rattle.item.specs.Item.{ItemField, fieldItem, spreadMeaning, OperationRead, CountRead};
 ghost use Rattle.item.specs.Offsets.{offsetBytes, sameBytes, fourAt, putOffset};
 ghost use Rattle.layout.specs.Layout.{indexWidth};
 ghost use Rattle.layout.specs.Index.{bytes32};
@@ -60,7 +60,7 @@ pub fn is_kept(s: &[u8], at: usize) -> bool
 
 pub fn spread_of(s: &[u8], at: usize) -> Spread
     requires { ⌜ ItemField (now s) at ⌝ }
-    ensures { λ r. ⌜ sporderedMeaning r ≡ circuit.spreadOf (fieldItem (now (s .entry)) at) ⌝ }
+    ensures { λ r. ⌜ spreadMeaning r ≡ circuit.spreadOf (fieldItem (now (s .entry)) at) ⌝ }
 {
     if s[at] == FIGURE_TAG {
         match s[at + SPREAD_AT] {

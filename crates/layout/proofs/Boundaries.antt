@@ -9,8 +9,7 @@ use native.Mathlib.Omega.{arith}
 use lib.ListN.{length, replicate, length-replicate}
 use borrow.Author.Tests.{le-leb}
 use Rattle.field.proofs.Cutting.{le16-of}
-use Rattle.circuit.specs.Rules.{operationOf, coded, oneOrMore, maxParents}
-use Rattle.circuit.specs.Rules.{countAllowed as parentsAllowed}
+use Rattle.circuit.specs.Rules.{operationOf, coded, oneOrMore, maxParents, countAllowed as parentsAllowed}
 use Rattle.layout.specs.Layout.{entryField, Layout, editionKnown, itemLimit, countAllowed, keepAllowed, spreadAllowed, ruleAllowed, nameByte, nameLimit, nameAllowed, all}
 use Rattle.layout.specs.Read.{opens, refused, readSheet}
 use Rattle.layout.specs.Write.{itemsWithin, within, writeSheet}

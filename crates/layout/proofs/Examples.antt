@@ -6,8 +6,7 @@ use mathlib.Core.List.{List, [], _∷_, _++_}
 use Prim.Native.Nat.{ℕ, zero, suc}
 use Rattle.field.specs.Field.{cutAt}
 use Rattle.circuit.specs.Calls.{firstCause}
-use Rattle.circuit.specs.Rules.{sum, operationOf, coded, oneOrMore, maxParents}
-use Rattle.circuit.specs.Rules.{countAllowed as parentsAllowed}
+use Rattle.circuit.specs.Rules.{sum, operationOf, coded, oneOrMore, maxParents, countAllowed as parentsAllowed}
 use Rattle.circuit.specs.Sheet.{figure, defer, renew, forget}
 use Rattle.circuit.proofs.Examples.{daySheet}
 use Rattle.layout.specs.Layout.{LayoutItem, entryField, figureField, Layout, editionKnown, itemLimit, countAllowed, levelLimit, keepAllowed, spreadAllowed, nameLimit, nameAllowed, all, highest, spreadMeant, machineItem, machineSheet}

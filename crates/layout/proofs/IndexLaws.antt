@@ -12,8 +12,7 @@ use borrow.Author.Tests.{eqb-true, leb-true, not-false}
 use Rattle.field.specs.Bytes.{Bytes}
 use Rattle.field.specs.Field.{headerLength}
 use Rattle.field.proofs.Cutting.{field-iff, content-length}
-use Rattle.circuit.specs.Rules.{Operation, sum, difference, smallest, largest, share, choice, count, atLeast, operationOf, allowed, coded, oneOrMore, maxParents}
-use Rattle.circuit.specs.Rules.{countAllowed as parentsAllowed}
+use Rattle.circuit.specs.Rules.{Operation, sum, difference, smallest, largest, share, choice, count, atLeast, operationOf, allowed, coded, oneOrMore, maxParents, countAllowed as parentsAllowed}
 use Rattle.layout.specs.Layout.{figureField, figureTag, lastTag, keepAllowed, spreadAllowed, ruleAllowed, isSome, nameLimit, parentAt, itemLimit, mostItems}
 use Rattle.layout.specs.Read.{contentAt, countIn, ruleIn, keepIn, spreadIn, parentCountIn, parentsIn, nameIn, itemIn, lengthOrName, ruleWrong, Placed, going, headNext, scan, headContent, opens, readSheet}
 use Rattle.layout.specs.Write.{concat}

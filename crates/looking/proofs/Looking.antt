@@ -12,7 +12,7 @@ use lib.Seq.{getD-set-same, getD-set-other}
 use borrow.Author.Tests.{eq-eqb, eqb-true, eqb-false}
 use Rattle.circuit.specs.Value.{Value, null, out, num, wellFormed, kindOf, numberOf}
 use Rattle.circuit.specs.Sheet.{Sheet, size, itemAt, isFigure, keptOf, Ordered}
-use Rattle.circuit.specs.Table.{Table, Cell, Mark, unk, held, upd, noticeIf, isMark, isMarked, isNotice}
+use Rattle.circuit.specs.Table.{Table, Cell, unk, held, upd, noticeIf, markOf, isNotice, isStored}
 use Rattle.circuit.specs.Machine.{Looked, looked, storeIf, flagged, lookCell, lookUp, work}
 use Rattle.circuit.proofs.View.{view}
 use Rattle.circuit.proofs.Fill.{Fill, Filling, stays, fills, Looks, upd-same, upd-cases, fill-view, look-right, work-right, lookUp-is}
@@ -20,15 +20,16 @@ use Rattle.circuit.proofs.Memo.{remember, remember-fill, work-store}
 use Rattle.layout.specs.Opened.{sheetOf}
 use Rattle.item.specs.Item.{fieldItem}
 use Rattle.item.proofs.Located.{sheet-ordered, located-item}
-use Rattle.table.specs.Record.{width, mayHold}
-use Rattle.table.specs.Bytes.{decodeTable, Holdable}
-use Rattle.table.proofs.Tables.{decoded-holdable, decode-setRow, setRow-form, record-fits, holdable-wellFormed}
+use Rattle.table.specs.Rows.{setRow}
+use Rattle.table.specs.Record.{width, mayHold, encodeCell}
+use Rattle.table.specs.Bytes.{decodeTable, tableForm, Holdable}
+use Rattle.table.proofs.Tables.{decoded-holdable, decode-setRow, setRow-form, record-fits}
 use Rattle.value.specs.Meaning.{meaning, ofParts}
 use Rattle.table.specs.Meaning.{markMeaning, cellMeaning}
 use Rattle.table.specs.declared.Cell.the-variants.{Unk, Held}
 use Rattle.memo.specs.declared.Recall.the-variants.{Known, Unknown}
 use Rattle.value.proofs.Parents.{of-own-parts}
-use Rattle.memo.specs.Memo.{Found, found, seenMeaning, recallMeaning, bit, codeOf, tagOf, foundIn, remembered, knownOf, Memo}
+use Rattle.memo.specs.Memo.{Found, found, seenMeaning, recallMeaning, bit, codeOf, tagOf, foundIn, remembered, knownOf, Memo, NoneFrom}
 use Rattle.looking.specs.Pass.{Lent, Leaves, Settled}
 use Rattle.office.proofs.Holdable.{look-formed}
 
@@ -48,29 +49,12 @@ module _ {s offsets t : List ℕ} (lent : Lent s offsets t) where
       go true h = refl
       go false h = h
 
-  -- a stored item
-  pub leaves-stored : (tags : List ℕ) (numbers : List ℤ) (generation i : ℕ) (v : Value) (m : Mark) → i < size (sheetOf s)
-      → Memo (sheetOf s) (decodeTable t) tags numbers generation → decodeTable t i ≡ held v m
-      → (b : ℕ) → i < b → Leaves s t tags generation b (lookUp (sheetOf s) (decodeTable t) i) (found v (isNotice m)) t tags numbers
-  leaves-stored tags numbers generation i v m low memo e b over =
-      record {
-        value-is = ap (λ r. r .value) (sym is);
-        flag-is = ap (λ r. r .flag) (sym is);
-        value-formed = subst (λ c. wellFormed (Rattle.circuit.specs.Table.valueIn c) ≡ true) e (holdable-wellFormed (sheetOf s) (decodeTable t) lent-holdable i low);
-        table-is = ap (λ r. r .table) (sym is);
-        formed = lent .formed;
-        memo = subst (λ T. Memo (sheetOf s) T tags numbers generation) (ap (λ r. r .table) (sym is)) memo;
-        fresh = λ h. h;
-      }
-    where
-      is : lookUp (sheetOf s) (decodeTable t) i ≡ looked (decodeTable t) v (isNotice m)
-      is = lookUp-is (sheetOf s) (sheet-ordered s) (decodeTable t) i ∙ ap (λ c. lookCell (lookUp (sheetOf s)) (sheetOf s) (decodeTable t) i c) e
-
-  -- a remembered item
-  pub leaves-remembered : (tags : List ℕ) (numbers : List ℤ) (generation i : ℕ) (f : Found) → i < size (sheetOf s)
-      → Memo (sheetOf s) (decodeTable t) tags numbers generation → some f ≡ remembered tags numbers generation i
+  -- an item whose look-up changes nothing
+  leaves-known : {tags : List ℕ} {numbers : List ℤ} {generation : ℕ} (i : ℕ) (f : Found) → i < size (sheetOf s)
+      → Memo (sheetOf s) (decodeTable t) tags numbers generation
+      → lookUp (sheetOf s) (decodeTable t) i ≡ looked (decodeTable t) (f .value) (f .flag)
       → (b : ℕ) → i < b → Leaves s t tags generation b (lookUp (sheetOf s) (decodeTable t) i) f t tags numbers
-  leaves-remembered tags numbers generation i f low memo e b over =
+  leaves-known {tags} {numbers} {generation} i f low memo is b over =
       record {
         value-is = ap (λ r. r .value) (sym is);
         flag-is = ap (λ r. r .flag) (sym is);
@@ -80,9 +64,6 @@ module _ {s offsets t : List ℕ} (lent : Lent s offsets t) where
         memo = subst (λ T. Memo (sheetOf s) T tags numbers generation) (ap (λ r. r .table) (sym is)) memo;
         fresh = λ h. h;
       }
-    where
-      is : lookUp (sheetOf s) (decodeTable t) i ≡ looked (decodeTable t) (f .value) (f .flag)
-      is = memo .right i f (sym e)
 
 kind-small : (v : Value) → kindOf v ≤ 3
 kind-small null = omega arith
@@ -164,7 +145,8 @@ memo-remembered S T tags numbers generation i f low memo is =
         → lookUp S T j ≡ looked T (g .value) (g .flag)
     right j g true e q =
         let same : j ≡ i = eqb-true j i e in
-        let found-f : some f ≡ some g = sym (remembered-here tags numbers generation i f tags-room numbers-room) ∙ ap (λ k. remembered (set tags i (tagOf generation f)) (set numbers i (numberOf (f .value))) generation k) (sym same) ∙ q in
+        let here = remembered-here tags numbers generation i f tags-room numbers-room in
+        let found-f : some f ≡ some g = sym here ∙ ap (remembered (set tags i (tagOf generation f)) (set numbers i (numberOf (f .value))) generation) (sym same) ∙ q in
         let f-g : f ≡ g = cc in
         ap (lookUp S T) same ∙ is ∙ ap (λ h. looked T (h .value) (h .flag)) f-g
     right j g false e q =
@@ -191,55 +173,70 @@ work-own S ordered T i =
     again : upd T i (T i) ≡ T
     again = fun-ext λ j. upd-cases (λ k c. c ≡ T k) T i (T i) refl (λ k n. refl) j
 
--- An unstored item was worked out, and that was settled.
-module _ {s offsets t : List ℕ} (lent : Lent s offsets t) (tags : List ℕ) (generation i : ℕ) (noticed : Bool)
-    (low : i < size (sheetOf s)) (unstored : decodeTable t i ≡ unk noticed) where
-  looks-worked : lookUp (sheetOf s) (decodeTable t) i
-      ≡ storeIf (keptOf (itemAt (sheetOf s) i)) i (flagged noticed (work (sheetOf s) (decodeTable t) i))
+-- An unstored item was worked out, which gave w. What is settled is f: the same, flagged too where the item has a notice.
+module _ {s offsets t : List ℕ} (lent : Lent s offsets t) {tags : List ℕ} {generation i : ℕ} {noticed : Bool} (low : i < size (sheetOf s))
+    (unstored : decodeTable t i ≡ unk noticed) {w : Found} {t₁ tags₁ : List ℕ} {numbers₁ : List ℤ} (len : length t₁ ≡ length t)
+    (worked : (b : ℕ) → i ≤ b → Leaves s t tags generation b (work (sheetOf s) (decodeTable t) i) w t₁ tags₁ numbers₁)
+    (f : Found) (found-is : f ≡ found (w .value) (w .flag || noticed)) where
+  abbrev S : Sheet
+  S = sheetOf s
+
+  abbrev r : Looked
+  r = work S (decodeTable t) i
+
+  abbrev cell : Cell
+  cell = held (f .value) (noticeIf (f .flag))
+
+  here : Leaves s t tags generation i r w t₁ tags₁ numbers₁
+  here = worked i (omega arith)
+
+  value-f : f .value ≡ r .value
+  value-f = ap (λ x. x .value) found-is ∙ here .value-is
+
+  flag-f : f .flag ≡ (r .flag || noticed)
+  flag-f = ap (λ x. x .flag) found-is ∙ ap (λ x. x || noticed) (here .flag-is)
+
+  formed-f : wellFormed (f .value) ≡ true
+  formed-f = ap (λ x. wellFormed (x .value)) found-is ∙ here .value-formed
+
+  looks-worked : (kept : Bool) → kept ≡ keptOf (itemAt S i) → lookUp S (decodeTable t) i ≡ storeIf kept i (looked (r .table) (f .value) (f .flag))
   unfolding work
-  looks-worked =
-      lookUp-is (sheetOf s) (sheet-ordered s) (decodeTable t) i
-      ∙ ap (λ c. lookCell (lookUp (sheetOf s)) (sheetOf s) (decodeTable t) i c) unstored
+  looks-worked kept kept-is =
+      lookUp-is S (sheet-ordered s) (decodeTable t) i
+      ∙ ap (λ c. lookCell (lookUp S) S (decodeTable t) i c) unstored
+      ∙ ap (λ k. storeIf k i (flagged noticed r)) (sym kept-is)
+      ∙ ap (λ v. storeIf kept i (looked (r .table) v (r .flag || noticed))) (sym value-f)
+      ∙ ap (λ x. storeIf kept i (looked (r .table) (f .value) x)) (sym flag-f)
 
-  pub leaves-worked : (w : Found) (t₁ tags₁ : List ℕ) (numbers₁ : List ℤ) → length t₁ ≡ length t
-      → ((b : ℕ) → i ≤ b → Leaves s t tags generation b (work (sheetOf s) (decodeTable t) i) w t₁ tags₁ numbers₁)
-      → (kept : Bool) → kept ≡ keptOf (itemAt (sheetOf s) i)
-      → (f : Found) (t₂ tags₂ : List ℕ) (numbers₂ : List ℤ) → Settled i generation kept noticed w t₁ tags₁ numbers₁ f t₂ tags₂ numbers₂
-      → (b : ℕ) → i < b → Leaves s t tags generation b (lookUp (sheetOf s) (decodeTable t) i) f t₂ tags₂ numbers₂
-  leaves-worked w t₁ tags₁ numbers₁ len worked true kept-is f t₂ tags₂ numbers₂ settled b over =
+  -- the look-up leaves the table T′ and the memo of tags₂ and numbers₂
+  leaves-settled : (T′ : Table) → lookUp S (decodeTable t) i ≡ looked T′ (f .value) (f .flag)
+      → (t₂ tags₂ : List ℕ) (numbers₂ : List ℤ) → decodeTable t₂ ≡ T′ → tableForm S t₂ ≡ true → Memo S T′ tags₂ numbers₂ generation
+      → (b : ℕ) → (NoneFrom b tags generation → NoneFrom b tags₂ generation)
+      → Leaves s t tags generation b (lookUp S (decodeTable t) i) f t₂ tags₂ numbers₂
+  leaves-settled T′ is t₂ tags₂ numbers₂ table-is formed memo b fresh =
       record {
-        value-is = value-f ∙ ap (λ x. x .value) (sym is);
-        flag-is = flag-f ∙ ap (λ x. x .flag) (sym is);
+        value-is = ap (λ x. x .value) (sym is);
+        flag-is = ap (λ x. x .flag) (sym is);
         value-formed = formed-f;
-        table-is = ap decodeTable (settled .table-is) ∙ decode-setRow t₁ i cell fits formed-f ∙ stored ∙ ap (λ x. x .table) (sym is);
-        formed = rw (settled .table-is) (setRow-form S t₁ i cell (len ∙ lent .length-is) (here .formed) low (figure-holds (isFigure (itemAt S i)) fig formed-f));
-        memo = rw (settled .tags-are, settled .numbers-are, is) (memo-fill S (sheet-ordered s) (r .table) (upd (r .table) i (held (r .value) (noticeIf (r .flag || noticed)))) tags₁ numbers₁ generation fill (here .memo));
-        fresh = λ h. rw (settled .tags-are) (worked b (omega arith) .fresh h);
+        table-is = table-is ∙ ap (λ x. x .table) (sym is);
+        formed = formed;
+        memo = rw is memo;
+        fresh = fresh;
       }
+
+  -- the item is kept: it is stored
+  leaves-kept : true ≡ keptOf (itemAt S i) → (b : ℕ) → i < b
+      → Leaves s t tags generation b (lookUp S (decodeTable t) i) f (setRow width t₁ i (encodeCell cell)) tags₁ numbers₁
+  leaves-kept kept-is b over =
+      leaves-settled (upd (r .table) i cell) is (setRow width t₁ i (encodeCell cell)) tags₁ numbers₁
+      (decode-setRow t₁ i cell fits formed-f ∙ ap (λ X. upd X i cell) (here .table-is))
+      (setRow-form S t₁ i cell (len ∙ lent .length-is) (here .formed) low (rw fig formed-f))
+      (memo-fill S (sheet-ordered s) (r .table) (upd (r .table) i cell) tags₁ numbers₁ generation fill (here .memo))
+      b
+      (worked b (omega arith) .fresh)
     where
-      S : Sheet
-      S = sheetOf s
-
-      r : Looked
-      r = work S (decodeTable t) i
-
-      is : lookUp S (decodeTable t) i ≡ looked (upd (r .table) i (held (r .value) (noticeIf (r .flag || noticed)))) (r .value) (r .flag || noticed)
-      is = looks-worked ∙ ap (λ k. storeIf k i (flagged noticed r)) (sym kept-is)
-
-      here : Leaves s t tags generation i r w t₁ tags₁ numbers₁
-      here = worked i (omega arith)
-
-      value-f : f .value ≡ r .value
-      value-f = ap (λ x. x .value) (settled .found-is) ∙ here .value-is
-
-      flag-f : f .flag ≡ (r .flag || noticed)
-      flag-f = ap (λ x. x .flag) (settled .found-is) ∙ ap (λ x. x || noticed) (here .flag-is)
-
-      formed-f : wellFormed (f .value) ≡ true
-      formed-f = ap (λ x. wellFormed (x .value)) (settled .found-is) ∙ here .value-formed
-
-      cell : Cell
-      cell = held (f .value) (noticeIf (f .flag))
+      is : lookUp S (decodeTable t) i ≡ looked (upd (r .table) i cell) (f .value) (f .flag)
+      is = looks-worked true kept-is
 
       fits : width * i + width ≤ length t₁
       fits = omega (arith, lent-fits lent i low)
@@ -247,66 +244,39 @@ module _ {s offsets t : List ℕ} (lent : Lent s offsets t) (tags : List ℕ) (g
       fig : isFigure (itemAt S i) ≡ true
       fig = unstored-figure lent i noticed low unstored
 
-      figure-holds : (x : Bool) → x ≡ true → wellFormed (f .value) ≡ true → mayHold x cell ≡ true
-      figure-holds true e h = h
-      figure-holds false e h = let bad : _≡_ {A = ℕ} 0 1 = cc in absurd (omega arith)
-
-      stored : upd (decodeTable t₁) i cell ≡ upd (r .table) i (held (r .value) (noticeIf (r .flag || noticed)))
-      stored =
-          ap (λ X. upd X i cell) (here .table-is)
-          ∙ ap (λ v. upd (r .table) i (held v (noticeIf (f .flag)))) value-f
-          ∙ ap (λ x. upd (r .table) i (held (r .value) (noticeIf x))) flag-f
-
-      seen-r : Looks S (decodeTable t) (view S (decodeTable t) i) (lookUp S (decodeTable t) i)
-      seen-r = look-right S (sheet-ordered s) (decodeTable t) i
+      seen : Looks S (decodeTable t) (view S (decodeTable t) i) (lookUp S (decodeTable t) i)
+      seen = look-right S (sheet-ordered s) (decodeTable t) i
 
       same-view : view S (r .table) i ≡ view S (decodeTable t) i
       same-view = fill-view S (sheet-ordered s) (decodeTable t) (r .table) (work-right S (sheet-ordered s) (decodeTable t) i .fill) i
 
-      fill : Fill S (r .table) (upd (r .table) i (held (r .value) (noticeIf (r .flag || noticed))))
+      viewed : cell ≡ held (view S (r .table) i .value) (noticeIf (view S (r .table) i .flag))
+      viewed =
+          ap (λ v. held v (noticeIf (f .flag))) (ap (λ x. x .value) (sym is) ∙ seen .value ∙ ap (λ x. x .value) (sym same-view))
+          ∙ ap (λ x. held (view S (r .table) i .value) (noticeIf x)) (ap (λ x. x .flag) (sym is) ∙ seen .flag ∙ ap (λ x. x .flag) (sym same-view))
+
+      fill : Fill S (r .table) (upd (r .table) i cell)
       fill =
-          upd-cases (Filling S (r .table)) (r .table) i _
+          upd-cases (Filling S (r .table)) (r .table) i cell
           (fills noticed fig (work-own S (sheet-ordered s) (decodeTable t) i ∙ unstored) viewed)
           (λ j n. stays refl)
-        where
-          viewed : held (r .value) (noticeIf (r .flag || noticed)) ≡ held (view S (r .table) i .value) (noticeIf (view S (r .table) i .flag))
-          viewed =
-              ap (λ v. held v (noticeIf (r .flag || noticed))) (ap (λ x. x .value) (sym is) ∙ seen-r .value ∙ ap (λ x. x .value) (sym same-view))
-              ∙ ap (λ x. held (view S (r .table) i .value) (noticeIf x)) (ap (λ x. x .flag) (sym is) ∙ seen-r .flag ∙ ap (λ x. x .flag) (sym same-view))
-  leaves-worked w t₁ tags₁ numbers₁ len worked false kept-is f t₂ tags₂ numbers₂ settled b over =
-      record {
-        value-is = value-f ∙ ap (λ x. x .value) (sym is);
-        flag-is = flag-f ∙ ap (λ x. x .flag) (sym is);
-        value-formed = ap (λ x. wellFormed (x .value)) (settled .found-is) ∙ here .value-formed;
-        table-is = ap decodeTable (settled .table-is) ∙ here .table-is ∙ ap (λ x. x .table) (sym is);
-        formed = rw (settled .table-is) (here .formed);
-        memo = rw (settled .tags-are, settled .numbers-are, is) (memo-remembered S (r .table) tags₁ numbers₁ generation i f low (here .memo) again);
-        fresh = λ h j over′. rw (settled .tags-are, getD-set-other tags₁ i j (tagOf generation f) 0 (λ e. omega arith)) (worked b (omega arith) .fresh h j over′);
-      }
+
+  -- it is not kept: it is remembered
+  leaves-remembered : false ≡ keptOf (itemAt S i) → (b : ℕ) → i < b
+      → Leaves s t tags generation b (lookUp S (decodeTable t) i) f t₁ (set tags₁ i (tagOf generation f)) (set numbers₁ i (numberOf (f .value)))
+  leaves-remembered kept-is b over =
+      leaves-settled (r .table) is t₁ (set tags₁ i (tagOf generation f)) (set numbers₁ i (numberOf (f .value)))
+      (here .table-is)
+      (here .formed)
+      (memo-remembered S (r .table) tags₁ numbers₁ generation i f low (here .memo) again)
+      b
+      (λ h j over′. rw (getD-set-other tags₁ i j (tagOf generation f) 0 (λ e. omega arith)) (worked b (omega arith) .fresh h j over′))
     where
-      S : Sheet
-      S = sheetOf s
-
-      r : Looked
-      r = work S (decodeTable t) i
-
-      is : lookUp S (decodeTable t) i ≡ looked (r .table) (r .value) (r .flag || noticed)
-      is = looks-worked ∙ ap (λ k. storeIf k i (flagged noticed r)) (sym kept-is)
-
-      here : Leaves s t tags generation i r w t₁ tags₁ numbers₁
-      here = worked i (omega arith)
-
-      value-f : f .value ≡ r .value
-      value-f = ap (λ x. x .value) (settled .found-is) ∙ here .value-is
-
-      flag-f : f .flag ≡ (r .flag || noticed)
-      flag-f = ap (λ x. x .flag) (settled .found-is) ∙ ap (λ x. x || noticed) (here .flag-is)
+      is : lookUp S (decodeTable t) i ≡ looked (r .table) (f .value) (f .flag)
+      is = looks-worked false kept-is
 
       again : lookUp S (r .table) i ≡ looked (r .table) (f .value) (f .flag)
-      again =
-          subst (λ x. lookUp S (x .table) i ≡ looked (x .table) (x .value) (x .flag)) is (remember S (sheet-ordered s) (decodeTable t) i)
-          ∙ ap (λ v. looked (r .table) v (r .flag || noticed)) (sym value-f)
-          ∙ ap (λ x. looked (r .table) (f .value) x) (sym flag-f)
+      again = subst (λ x. lookUp S (x .table) i ≡ looked (x .table) (x .value) (x .flag)) is (remember S (sheet-ordered s) (decodeTable t) i)
 
 -- The same from what the code's calls ensure: what is known of the item.
 module _ {s offsets t : List ℕ} (lent : Lent s offsets t) {tags : List ℕ} {numbers : List ℤ} {generation i : ℕ} (low : i < size (sheetOf s))
@@ -314,46 +284,59 @@ module _ {s offsets t : List ℕ} (lent : Lent s offsets t) {tags : List ℕ} {n
     (knows : recallMeaning recall ≡ knownOf (decodeTable t i) (remembered tags numbers generation i)) where
   pub known-returns : (seen : Rattle.memo.specs.declared.Seen.Seen) → recall ≡ Known seen
       → (b : ℕ) → i < b → Leaves s t tags generation b (lookUp (sheetOf s) (decodeTable t) i) (seenMeaning seen) t tags numbers
-  known-returns seen e b over = go (decodeTable t i) refl (ap recallMeaning (sym e) ∙ knows)
+  known-returns seen e = leaves-known lent i (seenMeaning seen) low memo (go (decodeTable t i) refl (ap recallMeaning (sym e) ∙ knows))
     where
       go : (c : Cell) → decodeTable t i ≡ c → some (seenMeaning seen) ≡ knownOf c (remembered tags numbers generation i)
-          → Leaves s t tags generation b (lookUp (sheetOf s) (decodeTable t) i) (seenMeaning seen) t tags numbers
-      go (held v m) q r =
-          let is : found v (isNotice m) ≡ seenMeaning seen = cc in
-          subst (λ f. Leaves s t tags generation b (lookUp (sheetOf s) (decodeTable t) i) f t tags numbers) is
-          (leaves-stored lent tags numbers generation i v m low memo q b over)
-      go (unk f) q r = leaves-remembered lent tags numbers generation i (seenMeaning seen) low memo r b over
+          → lookUp (sheetOf s) (decodeTable t) i ≡ looked (decodeTable t) (seenMeaning seen .value) (seenMeaning seen .flag)
+      go (held v m) q h =
+          let same : found v (isNotice m) ≡ seenMeaning seen = cc in
+          lookUp-is (sheetOf s) (sheet-ordered s) (decodeTable t) i
+          ∙ ap (λ c. lookCell (lookUp (sheetOf s)) (sheetOf s) (decodeTable t) i c) q
+          ∙ ap (λ f. looked (decodeTable t) (f .value) (f .flag)) same
+      go (unk f) q h = memo .right i (seenMeaning seen) (sym h)
 
-  module _ (e : recall ≡ Unknown) (noticed : Bool) (marks : noticed ≡ isMarked (decodeTable t i)) where
-    unknown-unk : decodeTable t i ≡ unk noticed
-    unknown-unk = go (decodeTable t i) refl (ap recallMeaning (sym e) ∙ knows)
-      where
-        own : (f : Bool) → isMark (noticeIf f) ≡ f
-        own true = refl
-        own false = refl
+  pub unknown-unstored : recall ≡ Unknown → isStored (decodeTable t i) ≡ false
+  unknown-unstored e = go (decodeTable t i) (ap recallMeaning (sym e) ∙ knows)
+    where
+      go : (c : Cell) → none ≡ knownOf c (remembered tags numbers generation i) → isStored c ≡ false
+      go (held v m) h = let bad : _≡_ {A = ℕ} 0 1 = cc in absurd (omega arith)
+      go (unk f) h = refl
 
-        go : (c : Cell) → decodeTable t i ≡ c → none ≡ knownOf c (remembered tags numbers generation i) → decodeTable t i ≡ unk noticed
-        go (held v m) q r = let bad : _≡_ {A = ℕ} 0 1 = cc in absurd (omega arith)
-        go (unk f) q r = q ∙ ap unk (sym (marks ∙ ap isMarked q ∙ own f))
+-- what is worked out and settled
+module _ {s offsets t : List ℕ} (lent : Lent s offsets t) {i : ℕ} (low : i < size (sheetOf s)) (unstored : isStored (decodeTable t i) ≡ false)
+    (noticed : Bool) (notices : noticed ≡ isNotice (markOf (decodeTable t i))) where
+  unstored-unk : decodeTable t i ≡ unk noticed
+  unstored-unk = go (decodeTable t i) unstored notices
+    where
+      own : (f : Bool) → isNotice (noticeIf f) ≡ f
+      own true = refl
+      own false = refl
 
-    pub worked-figure : isFigure (itemAt (sheetOf s) i) ≡ true
-    worked-figure = unstored-figure lent i noticed low unknown-unk
+      go : (c : Cell) → isStored c ≡ false → noticed ≡ isNotice (markOf c) → c ≡ unk noticed
+      go (held v m) h n = let bad : _≡_ {A = ℕ} 0 1 = cc in absurd (omega arith)
+      go (unk f) h n = ap unk (sym (n ∙ own f))
 
-    pub worked-returns : (kept : Bool) → kept ≡ keptOf (fieldItem s (getD offsets i 0))
-        → (w : Found) (t₁ tags₁ : List ℕ) (numbers₁ : List ℤ) → length t₁ ≡ length t
-        → ((b : ℕ) → i ≤ b → Leaves s t tags generation b (work (sheetOf s) (decodeTable t) i) w t₁ tags₁ numbers₁)
-        → (f : Found) (t₂ tags₂ : List ℕ) (numbers₂ : List ℤ) → Settled i generation kept noticed w t₁ tags₁ numbers₁ f t₂ tags₂ numbers₂
-        → (b : ℕ) → i < b → Leaves s t tags generation b (lookUp (sheetOf s) (decodeTable t) i) f t₂ tags₂ numbers₂
-    worked-returns kept k w t₁ tags₁ numbers₁ len worked f t₂ tags₂ numbers₂ settled =
-        leaves-worked lent tags generation i noticed low unknown-unk w t₁ tags₁ numbers₁ len worked kept
-        (k ∙ ap keptOf (located-item s offsets (lent .located) i low)) f t₂ tags₂ numbers₂ settled
+  pub worked-figure : isFigure (itemAt (sheetOf s) i) ≡ true
+  worked-figure = unstored-figure lent i noticed low unstored-unk
 
--- what is known, from the cell that was read and what was recalled
-module _ (T : Table) (i : ℕ) (r : Option Found) (cell : Rattle.table.specs.declared.Cell.Cell) (reads : cellMeaning cell ≡ T i) where
-  pub stored-known : (v : Rattle.value.specs.declared.Value.Value) (m : Rattle.table.specs.declared.Mark.Mark) → cell ≡ Held v m → (flag : Bool) → flag ≡ isNotice (markMeaning m)
-      → some (found (meaning v) flag) ≡ knownOf (T i) r
-  stored-known v m e flag f =
-      ap (λ x. some (found (meaning v) x)) f ∙ ap (λ c. knownOf c r) (sym (ap cellMeaning e) ∙ reads)
+  pub worked-returns : {tags : List ℕ} {generation : ℕ} (kept : Bool) → kept ≡ keptOf (fieldItem s (getD offsets i 0))
+      → (w : Found) (t₁ tags₁ : List ℕ) (numbers₁ : List ℤ) → length t₁ ≡ length t
+      → ((b : ℕ) → i ≤ b → Leaves s t tags generation b (work (sheetOf s) (decodeTable t) i) w t₁ tags₁ numbers₁)
+      → (f : Found) (t₂ tags₂ : List ℕ) (numbers₂ : List ℤ) → Settled i generation kept noticed w t₁ tags₁ numbers₁ f t₂ tags₂ numbers₂
+      → (b : ℕ) → i < b → Leaves s t tags generation b (lookUp (sheetOf s) (decodeTable t) i) f t₂ tags₂ numbers₂
+  worked-returns true k w t₁ tags₁ numbers₁ len worked f t₂ tags₂ numbers₂ settled b over =
+      rw (settled .table-is, settled .tags-are, settled .numbers-are)
+      (leaves-kept lent low unstored-unk len worked f (settled .found-is) (k ∙ ap keptOf (located-item s offsets (lent .located) i low)) b over)
+  worked-returns false k w t₁ tags₁ numbers₁ len worked f t₂ tags₂ numbers₂ settled b over =
+      rw (settled .table-is, settled .tags-are, settled .numbers-are)
+      (leaves-remembered lent low unstored-unk len worked f (settled .found-is) (k ∙ ap keptOf (located-item s offsets (lent .located) i low)) b over)
 
-  pub unstored-known : (noticed : Bool) → cell ≡ Unk noticed → (o : Option Found) → o ≡ r → o ≡ knownOf (T i) r
-  unstored-known noticed e o is = is ∙ ap (λ c. knownOf c r) (sym (ap cellMeaning e) ∙ reads)
+-- what is known, from the cell that was read and what is recalled
+module _ {c : Cell} (r : Option Found) (read : Rattle.table.specs.declared.Cell.Cell) (reads : cellMeaning read ≡ c) (o : Option Found) where
+  pub held-known : (v : Rattle.value.specs.declared.Value.Value) (m : Rattle.table.specs.declared.Mark.Mark) → read ≡ Held v m
+      → (flag : Bool) → flag ≡ isNotice (markMeaning m) → o ≡ some (found (meaning v) flag) → o ≡ knownOf c r
+  held-known v m e flag f is =
+      is ∙ ap (λ x. some (found (meaning v) x)) f ∙ ap (λ x. knownOf x r) (sym (ap cellMeaning e) ∙ reads)
+
+  pub unk-known : (noticed : Bool) → read ≡ Unk noticed → o ≡ r → o ≡ knownOf c r
+  unk-known noticed e is = is ∙ ap (λ x. knownOf x r) (sym (ap cellMeaning e) ∙ reads)

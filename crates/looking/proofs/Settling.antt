@@ -12,7 +12,7 @@ use Rattle.table.specs.Record.{width, encodeCell}
 use Rattle.memo.specs.Memo.{Found, found, tagOf}
 use Rattle.looking.specs.Pass.{Settled}
 
-module _ (i generation : ℕ) (kept noticed : Bool) (worked : Found) (t tags : List ℕ) (numbers : List ℤ) (flag : Bool)
+module _ {i generation : ℕ} {kept noticed : Bool} {worked : Found} {t tags : List ℕ} {numbers : List ℤ} {flag : Bool}
     (flagged : flag ≡ (worked .flag || noticed)) where
   pub settled-kept : kept ≡ true → (m : Mark) → m ≡ noticeIf flag → (t′ : List ℕ)
       → t′ ≡ setRow width t i (encodeCell (held (worked .value) m))

@@ -1,15 +1,15 @@
 -- What looking up and working out are lent below the refusals, and what they leave: the result and the table are the
 -- machine's, and the memo stays right. Assumes nothing.
-use Prim.Native.Nat.{ℕ, zero, suc, _≤_}
+use Prim.Native.Nat.{ℕ, _≤_}
 use mathlib.Core.Path.{_≡_}
-use mathlib.Core.Bool.{Bool, true, false, cond, _||_}
-use mathlib.Core.List.{List, [], _∷_, _++_}
+use mathlib.Core.Bool.{Bool, true, cond, _||_}
+use mathlib.Core.List.{List}
 use lib.IntN.{ℤ}
-use lib.ListN.{length, getD, set}
+use lib.ListN.{length, set}
 use Rattle.circuit.specs.Value.{wellFormed, numberOf}
 use Rattle.circuit.specs.Sheet.{size}
-use Rattle.circuit.specs.Table.{Table, held, noticeIf}
-use Rattle.circuit.specs.Machine.{Looked, Gathered, gathered}
+use Rattle.circuit.specs.Table.{held, noticeIf}
+use Rattle.circuit.specs.Machine.{Looked}
 use Rattle.layout.specs.Opened.{sheetOf, Located}
 use Rattle.table.specs.Rows.{setRow}
 use Rattle.table.specs.Record.{width, encodeCell}
@@ -41,11 +41,3 @@ pub record Settled (i generation : ℕ) (kept noticed : Bool) (worked : Found) (
   pub table-is : t′ ≡ cond kept (setRow width t i (encodeCell (held (f .value) (noticeIf (f .flag))))) t
   pub tags-are : tags′ ≡ cond kept tags (set tags i (tagOf generation f))
   pub numbers-are : numbers′ ≡ cond kept numbers (set numbers i (numberOf (f .value)))
-
--- the first k of the items ps looked up, one after the other, in the order of the code's loop
-abbrev pub behind : Gathered → Looked → Gathered
-behind g r = gathered (r .table) (g .values ++ (r .value ∷ [])) (g .flag || r .flag)
-
-unfoldable pub gatherTo : (Table → ℕ → Looked) → Table → List ℕ → ℕ → Gathered
-gatherTo look T ps zero = gathered T [] false
-gatherTo look T ps (suc k) = behind (gatherTo look T ps k) (look (gatherTo look T ps k .table) (getD ps k 0))

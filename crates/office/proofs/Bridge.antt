@@ -4,30 +4,29 @@ use Prim.Native.Nat.{ℕ, zero, suc, _<_, _≤_, _*_}
 use native.Mathlib.Nat.{mul-le-mul-left}
 use native.Mathlib.Omega.{arith}
 use mathlib.Core.Path.{_≡_, refl, sym, ap, _∙_, fun-ext}
-use mathlib.Core.Bool.{Bool, true, false, cond, not, _&&_}
-use mathlib.Core.List.{List, [], _∷_, _++_, map}
+use mathlib.Core.Bool.{Bool, true, false, not}
+use mathlib.Core.List.{List, [], _∷_}
 use mathlib.Core.Option.{Option, none, some}
-use lib.Dec.{eqb, ltb}
-use lib.IntN.{pos}
-use lib.ListN.{length, take, drop as dropN, drop-of-length-le, List·getD-eq-default}
-use borrow.Author.Tests.{eq-eqb, ltb-true, ltb-false, leb-true, leb-false}
+use lib.Dec.{ltb}
+use lib.ListN.{length, take, drop-of-length-le, List·getD-eq-default}
+use borrow.Author.Tests.{eq-eqb, ltb-true, ltb-false}
 use Rattle.circuit.specs.Value.{Value}
-use Rattle.circuit.specs.Sheet.{Sheet, entry, size, itemAt, isFigure, beyond, Ordered}
+use Rattle.circuit.specs.Sheet.{Sheet, entry, size, itemAt, Ordered}
 use Rattle.circuit.specs.Table.{Table, Cell, unk, upd}
-use Rattle.circuit.specs.Machine.{lookUp, work, storePosting, keepFigure, dropFigure, stepItem, catchUp}
-use Rattle.circuit.specs.Calls.{Call, post, keep, drop, step, ask, Test, test, firstCause, tests, Outcome, outcome, effect, perform, unless, run, postIt, postedValue}
-use Rattle.circuit.proofs.Fill.{Fill, Filling, stays, fills, Looks, upd-cases, look-right, work-right, keep-fill}
+use Rattle.circuit.specs.Machine.{storePosting, dropFigure, stepItem, catchUp}
+use Rattle.circuit.specs.Call.{Call, post, keep, drop, step, ask}
+use Rattle.circuit.specs.Calls.{Test, test, firstCause, tests, Outcome, effect, perform, unless, run, postIt, postedValue}
+use Rattle.circuit.proofs.Fill.{Fill, Filling, stays, fills, upd-cases, look-right, work-right, keep-fill}
 use Rattle.circuit.proofs.Closure.{Closed, step-closed, catchUp-closed}
 use Rattle.circuit.proofs.Accepted.{accepted-effect, refused-table, keep-passed, drop-passed, step-passed, post-passed}
-use Rattle.layout.specs.Read.{Placed, SheetRead, opens, readSheet}
+use Rattle.layout.specs.Read.{Placed, opens, readSheet}
 use Rattle.layout.specs.Opened.{sheetRead}
 use Rattle.layout.specs.Index.{indexWidth, indexBytes}
 use Rattle.item.proofs.Offsets.{same-refl}
 use Rattle.table.specs.Record.{width, decodeCell}
-use Rattle.table.specs.Rows.{row}
-use Rattle.table.specs.Bytes.{encodeTable, decodeTable, tableForm, Holdable, tableLength}
+use Rattle.table.specs.Bytes.{encodeTable, decodeTable, Holdable, tableLength}
 use Rattle.table.proofs.Tables.{length-encodeTable, decode-encodeTable, encoded-tableForm, holdable-wellFormed}
-use Rattle.office.specs.Office.{Given, refusal, accepted, kindRead, numberRead, lengthsWrong, indexWrong, tableWrong, callTests, unlessRefused, effectOn, callRead, callOn, runOn}
+use Rattle.office.specs.Office.{keeping, Given, kindRead, numberRead, lengthsWrong, indexWrong, tableWrong, callTests, unlessRefused, effectOn, callRead, callOn, runOn}
 use Rattle.office.proofs.Holdable.{perform-holdable}
 
 -- nothing stands beyond the sheet
@@ -117,7 +116,7 @@ decode-within S T h w = fun-ext λ i. go i (ltb i (size S)) refl
 -- what the machine's outcome gives on bytes
 abbrev pub givenBy : Sheet → List ℕ → Outcome → Given
 givenBy S x o =
-    record { number = o .number; offset = 0; kind = kindRead (o .reading); value = numberRead (o .reading); index = x; table = encodeTable S (o .table) }
+    record { number = o .number; offset = 0; kind = kindRead (o .reading); value = numberRead (o .reading); after = keeping x (encodeTable S (o .table)) }
 
 effect-number : (S : Sheet) (T : Table) (c : Call) → effect S T c .number ≡ 0
 unfolding effect
@@ -138,9 +137,9 @@ module _ (s : List ℕ) (edition : ℕ) (ps : List Placed) (opening : readSheet 
     (ordered : Ordered (sheetRead edition ps)) where
   -- a call on the index of the sheet and the encoding of a table
   pub call-performs : (T : Table) (c : Call) → Holdable (sheetRead edition ps) T → Within (sheetRead edition ps) T
-      → callOn s (indexBytes ps) (encodeTable (sheetRead edition ps) T) c ≡ givenBy (sheetRead edition ps) (indexBytes ps) (perform (sheetRead edition ps) T c)
+      → callOn s (keeping (indexBytes ps) (encodeTable (sheetRead edition ps) T)) c ≡ givenBy (sheetRead edition ps) (indexBytes ps) (perform (sheetRead edition ps) T c)
   unfolding callOn perform
-  call-performs T c h w = ap (λ r. callRead r x t c) opening ∙ passed ∙ by-cause (firstCause (tests S T c))
+  call-performs T c h w = ap (λ r. callRead r (keeping x t) c) opening ∙ passed ∙ by-cause (firstCause (tests S T c))
     where
       S : Sheet
       S = sheetRead edition ps
@@ -158,25 +157,25 @@ module _ (s : List ℕ) (edition : ℕ) (ps : List Placed) (opening : readSheet 
       lengths =
           rw (eq-eqb (length x) (indexWidth * length ps) indexed, eq-eqb (length t) (width * length ps) (length-encodeTable S T ∙ ap (λ n. width * n) sized))
 
-      causes : firstCause (callTests S ps x t c) ≡ firstCause (tests S T c)
+      causes : firstCause (callTests S ps (keeping x t) c) ≡ firstCause (tests S T c)
       causes =
           pass-over 8 (lengthsWrong ps x t) _ lengths
           ∙ pass-over 9 (indexWrong ps x) _ (ap not (same-refl x))
           ∙ pass-over 10 (tableWrong S t) _ (ap not (encoded-tableForm S T h))
           ∙ ap (λ U. firstCause (tests S U c)) again
 
-      passed : callRead (opens edition ps) x t c ≡ unlessRefused (firstCause (tests S T c)) x t (effectOn S x (effect S T c))
+      passed : callRead (opens edition ps) (keeping x t) c ≡ unlessRefused (firstCause (tests S T c)) (keeping x t) (effectOn S (keeping x t) (effect S T c))
       passed = rw (causes, again)
 
-      by-cause : (k : ℕ) → unlessRefused k x t (effectOn S x (effect S T c)) ≡ givenBy S x (unless k S T c)
+      by-cause : (k : ℕ) → unlessRefused k (keeping x t) (effectOn S (keeping x t) (effect S T c)) ≡ givenBy S x (unless k S T c)
       by-cause zero = rw (effect-number S T c)
       by-cause (suc k) = refl
 
   -- a list of calls
   pub run-runs : (cs : List Call) (T : Table) → Holdable (sheetRead edition ps) T → Within (sheetRead edition ps) T
-      → runOn s (indexBytes ps) (encodeTable (sheetRead edition ps) T) cs ≡ encodeTable (sheetRead edition ps) (run (sheetRead edition ps) T cs)
+      → runOn s (keeping (indexBytes ps) (encodeTable (sheetRead edition ps) T)) cs ≡ keeping (indexBytes ps) (encodeTable (sheetRead edition ps) (run (sheetRead edition ps) T cs))
   unfolding runOn run
   run-runs [] T h w = refl
   run-runs (c ∷ cs) T h w =
-      ap (λ g. runOn s (indexBytes ps) (g .table) cs) (call-performs T c h w)
+      ap (λ g. runOn s (g .after) cs) (call-performs T c h w)
       ∙ run-runs cs (perform (sheetRead edition ps) T c .table) (perform-holdable (sheetRead edition ps) ordered T c h) (perform-within (sheetRead edition ps) ordered T c w)

@@ -20,8 +20,8 @@ use Rattle.layout.proofs.Tests.{Tells, holds, fails, tells-if, tells-and, Refut
 use Rattle.table.specs.Rows.{row, allBelow}
 use Rattle.table.specs.Record.{width, kindIn, markIn, numberIn, decodeCell, valueCoded, allowed, codesForm, numberForm, recordForm}
 use Rattle.table.specs.Bytes.{tableForm, recordInForm}
-use Rattle.office.specs.Office.{lengthsWrong, indexWrong, tableWrong}
-use Rattle.office.specs.Refusals.{LengthsWrong, IndexNotAsOpened, BeyondRange, RecordBroken, kindUnknown, markUnknown, entryUnk, entryOut, entryRefresh, unkRefresh, numberNotZero, beyondRange, RecordBrokenAt, TableBroken, NoSuchItem, NotPostable, kindOther, nullNotZero, numberBeyond}
+use Rattle.office.specs.Office.{Office, lengthsWrong, indexWrong, tableWrong}
+use Rattle.office.specs.Demand1Words.{LengthsWrong, IndexNotAsOpened, BeyondRange, RecordBroken, kindUnknown, markUnknown, entryUnk, entryOut, entryRefresh, unkRefresh, numberNotZero, beyondRange, RecordBrokenAt, TableBroken, NoSuchItem, NotPostable, kindOther, nullNotZero, numberBeyond}
 use Rattle.item.specs.Offsets.{sameBytes}
 use Rattle.item.proofs.Offsets.{same-refl, same-equal}
 
@@ -124,9 +124,9 @@ refutes-below p P h (suc n) = refutes-if into back (refutes-and (refutes-below p
         go (fails e) = let l : a .0 < suc n = a .1 in inl (a .0, omega arith, a .2)
 
 -- 8
-pub tells-lengths : (S : Sheet) (ps : List Placed) (x t : List ℕ) → size S ≡ length ps → Tells (LengthsWrong (size S) x t) (lengthsWrong ps x t)
-tells-lengths S ps x t e =
-    rw e (tells-not (refutes-and (refutes-tells (tells-eq (length x) (4 * length ps))) (refutes-tells (tells-eq (length t) (10 * length ps)))))
+pub tells-lengths : (S : Sheet) (ps : List Placed) (o : Office) → size S ≡ length ps → Tells (LengthsWrong (size S) o) (lengthsWrong ps (o .index) (o .table))
+tells-lengths S ps o e =
+    rw e (tells-not (refutes-and (refutes-tells (tells-eq (length (o .index)) (indexWidth * length ps))) (refutes-tells (tells-eq (length (o .table)) (width * length ps)))))
 
 -- 9
 pub tells-index : (ps : List Placed) (x : List ℕ) → Tells (IndexNotAsOpened ps x) (indexWrong ps x)

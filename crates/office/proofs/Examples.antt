@@ -1,53 +1,59 @@
 -- For each number from 1 to 14 an input that is given it, and calls that are accepted. By computation. Assumes nothing.
-use Prim.Native.Nat.{ℕ, _+_, _-_}
+use Prim.Native.Nat.{ℕ, zero, suc, _+_, _-_}
+use native.Mathlib.Omega.{arith}
+use mathlib.Core.Bool.{Bool, true, _&&_}
+use lib.Dec.{ltb}
+use borrow.Author.Tests.{ltb-true}
+use Rattle.circuit.proofs.RuleLaws.{and-left, and-right}
+use Rattle.field.specs.Field.{Bytes}
 use mathlib.Core.Path.{_≡_, refl, ap}
 use mathlib.Core.List.{List, [], _∷_, _++_, map}
 use mathlib.Core.Option.{none}
 use lib.IntN.{ℤ, pos, negsuc}
 use Rattle.word.specs.Word.{leAt, leBytes, bytes64}
 use Rattle.circuit.specs.Value.{limit, inRange}
-use Rattle.circuit.specs.Calls.{Call, post, keep, drop, step, ask, firstCause, tests, postedValue, effect, Outcome, perform}
+use Rattle.circuit.specs.Call.{Call, post, keep, drop, step, ask, bare, full}
+use Rattle.circuit.specs.Calls.{firstCause, tests, postedValue, effect, Outcome, perform}
 use Rattle.circuit.specs.Rules.{apply, numbers, total, anyOut}
 use Rattle.circuit.specs.Sheet.{Sheet, member}
 use Rattle.circuit.specs.Table.{Table}
 use Rattle.circuit.specs.Machine.{gather, workOut, lookFor, lookUp, work, storePosting, keepFigure, dropFigure, tellChild, tellBelow, tell, clearMark, stepItem, lowestMarked, catchUpIn, catchUp}
-use Rattle.circuit.specs.Offices.{bare, full}
 use Rattle.layout.specs.Layout.{spreadMeant, machineItem}
 use Rattle.layout.specs.Read.{refused, readSheet}
 use Rattle.layout.specs.Write.{concat, writeSheet}
 use Rattle.layout.specs.Index.{indexWidth, indexBytes}
-use Rattle.layout.proofs.Examples.{reading, exampleBytes, head, entryA, end, figureOf, chain, gives-1, gives-2, gives-3, gives-4, gives-5, gives-6, gives-7}
+use Rattle.layout.proofs.Examples.{reading, writing, exampleBytes, head, entryA, end, figureOf, chain, gives-1, gives-2, gives-3, gives-4, gives-5, gives-6, gives-7}
 use Rattle.table.specs.Rows.{rowsBelow, allBelow}
 use Rattle.table.specs.Record.{encodeCell, decodeCell, codesForm, numberForm, recordForm}
 use Rattle.table.specs.Bytes.{encodeTable, tableForm}
 use Rattle.item.specs.Offsets.{sameBytes}
-use Rattle.office.specs.Office.{Given, refusal, accepted, callRead, callOn, openRead, openOn}
-use Rattle.office.specs.Demands.{Answer, answerOf}
-use Rattle.office.specs.Refusals.{Request, opening, calling, serve, EachGiven}
+use Rattle.office.specs.Office.{Office, keeping, Given, refusal, accepted, callRead, callOn, openRead, openOn}
+use Rattle.office.specs.Demand1Words.{Request, opening, calling, serve, FitsArguments, Gets}
+use Rattle.office.specs.Demand2Words.{Answer, answerOf}
 
 -- a sheet with a fault: each request gives the fault's number and offset
-pub sheet-refused : (r : Request) (s x t : List ℕ) (k at : ℕ) → readSheet s ≡ refused k at → serve r s x t ≡ refusal k at x t
+pub sheet-refused : (r : Request) (s : List ℕ) (kept : Office) (k at : ℕ) → readSheet s ≡ refused k at → serve r s kept ≡ refusal k at kept
 unfolding openOn callOn
-sheet-refused (opening o) s x t k at e = ap (λ q. openRead o q x t) e
-sheet-refused (calling c) s x t k at e = ap (λ q. callRead q x t c) e
+sheet-refused (opening o) s kept k at e = ap (λ q. openRead o q kept) e
+sheet-refused (calling c) s kept k at e = ap (λ q. callRead q kept c) e
 
 -- the numbers 1 to 7, by sheets with such a fault
-pub sheets-refused : (r : Request) (x t : List ℕ)
-    → (serve r [] x t .number ≡ 1)
-    × (serve r entryA x t .number ≡ 2)
-    × (serve r (1 ∷ 2 ∷ 0 ∷ 1 ∷ 0 ∷ []) x t .number ≡ 3)
-    × (serve r (head 0 ++ end) x t .number ≡ 4)
-    × (serve r (head 2 ++ entryA ++ figureOf 2 0 0 0) x t .number ≡ 5)
-    × (serve r (head 2 ++ entryA ++ figureOf 1 0 0 1 ++ end) x t .number ≡ 6)
-    × (serve r (writeSheet (chain 65)) x t .number ≡ 7)
-sheets-refused r x t = (
-  ap (λ g. g .number) (sheet-refused r _ x t 1 0 (gives-1 .0)),
-  ap (λ g. g .number) (sheet-refused r _ x t 2 0 (gives-2 .0)),
-  ap (λ g. g .number) (sheet-refused r _ x t 3 0 (gives-3 .0)),
-  ap (λ g. g .number) (sheet-refused r _ x t 4 0 (gives-4 .1)),
-  ap (λ g. g .number) (sheet-refused r _ x t 5 11 (gives-5 .1)),
-  ap (λ g. g .number) (sheet-refused r _ x t 6 11 gives-6),
-  ap (λ g. g .number) (sheet-refused r _ x t 7 651 gives-7),
+pub sheets-refused : (r : Request) (kept : Office)
+    → (serve r [] kept .number ≡ 1)
+    × (serve r entryA kept .number ≡ 2)
+    × (serve r (1 ∷ 2 ∷ 0 ∷ 1 ∷ 0 ∷ []) kept .number ≡ 3)
+    × (serve r (head 0 ++ end) kept .number ≡ 4)
+    × (serve r (head 2 ++ entryA ++ figureOf 2 0 0 0) kept .number ≡ 5)
+    × (serve r (head 2 ++ entryA ++ figureOf 1 0 0 1 ++ end) kept .number ≡ 6)
+    × (serve r (writeSheet (chain 65)) kept .number ≡ 7)
+sheets-refused r kept = (
+  ap (λ g. g .number) (sheet-refused r _ kept 1 0 (gives-1 .0)),
+  ap (λ g. g .number) (sheet-refused r _ kept 2 0 (gives-2 .0)),
+  ap (λ g. g .number) (sheet-refused r _ kept 3 0 (gives-3 .0)),
+  ap (λ g. g .number) (sheet-refused r _ kept 4 0 (gives-4 .1)),
+  ap (λ g. g .number) (sheet-refused r _ kept 5 11 (gives-5 .1)),
+  ap (λ g. g .number) (sheet-refused r _ kept 6 11 gives-6),
+  ap (λ g. g .number) (sheet-refused r _ kept 7 651 gives-7),
 )
 
 -- The example sheet's index, and the tables that its openings write.
@@ -70,13 +76,13 @@ unfoldable pub fullTable : List ℕ
 fullTable = nullRecord ++ nullRecord ++ nullRecord ++ nullRecord ++ nullRecord
 
 -- to unfold this is to unfold all that the calls compute with
-unfoldable pub calls : List ℕ → List ℕ → List ℕ → Call → Given
+unfoldable pub calls : List ℕ → Office → Call → Given
 unfolding callOn openOn reading concat sameBytes indexBytes tests firstCause postedValue effect tableForm encodeTable rowsBelow allBelow encodeCell decodeCell codesForm numberForm recordForm leAt leBytes limit inRange spreadMeant machineItem
-calls s x t c = callOn s x t c
+calls s kept c = callOn s kept c
 
 -- the openings write this index and these tables
-pub example-opens : (openOn bare exampleBytes exampleIndex fullTable ≡ accepted none exampleIndex bareTable)
-    × (openOn full exampleBytes exampleIndex bareTable ≡ accepted none exampleIndex fullTable)
+pub example-opens : (openOn bare exampleBytes (keeping exampleIndex fullTable) ≡ accepted none (keeping exampleIndex bareTable))
+    × (openOn full exampleBytes (keeping exampleIndex bareTable) ≡ accepted none (keeping exampleIndex fullTable))
 unfolding calls exampleBytes exampleIndex bareTable fullTable
 example-opens = (refl, refl)
 
@@ -99,12 +105,11 @@ lastIs r = nullRecord ++ nullRecord ++ nullRecord ++ unkRecord ++ r
 -- a request on an index and a table, with the example sheet, and the number given
 pub record Lent : Type 0 where
   pub request : Request
-  pub index : List ℕ
-  pub table : List ℕ
+  pub kept : Office
   pub number : ℕ
 
 abbrev lend : Request → List ℕ → List ℕ → ℕ → Lent
-lend r x t k = record { request = r; index = x; table = t; number = k }
+lend r x t k = record { request = r; kept = keeping x t; number = k }
 
 abbrev lendTable : Call → List ℕ → ℕ → Lent
 lendTable c t k = lend (calling c) exampleIndex t k
@@ -152,35 +157,69 @@ examples =
     ∷ lendTable (ask 4) bareTable 0
     ∷ []
 
-pub examples-given : map (λ e. serve (e .request) exampleBytes (e .index) (e .table) .number) examples ≡ map (λ e. e .number) examples
+pub examples-given : map (λ e. serve (e .request) exampleBytes (e .kept) .number) examples ≡ map (λ e. e .number) examples
 unfolding calls examples exampleBytes exampleIndex bareTable
 examples-given = refl
 
+-- bytes, by a test that is computed
+unfoldable pub allBytes : List ℕ → Bool
+allBytes [] = true
+allBytes (b ∷ bs) = ltb b 256 && allBytes bs
+
+pub bytes-by : (s : List ℕ) → allBytes s ≡ true → Bytes s
+unfolding allBytes
+bytes-by [] e i = omega arith
+bytes-by (b ∷ bs) e zero = ltb-true b 256 (and-left (ltb b 256) (allBytes bs) e)
+bytes-by (b ∷ bs) e (suc i) = bytes-by bs (and-right (ltb b 256) (allBytes bs) e) i
+
+-- asks for item 0 that are given a number, on a sheet without index and table
+refused-ask : (s : List ℕ) (k : ℕ) → allBytes s ≡ true → serve (calling (ask 0)) s (keeping [] []) .number ≡ k → Gets k
+refused-ask s k b e =
+    record {
+      request = calling (ask 0);
+      sheet = s;
+      office = keeping [] [];
+      lendable = record { sheet = bytes-by s b; index = λ i. omega arith; table = λ i. omega arith; arguments = omega arith };
+      given = e;
+    }
+
+-- calls on the example sheet
+called : (c : Call) (x t : List ℕ) (k : ℕ) → FitsArguments (calling c) → allBytes exampleBytes ≡ true → allBytes x ≡ true → allBytes t ≡ true
+    → serve (calling c) exampleBytes (keeping x t) .number ≡ k → Gets k
+called c x t k fits a b d e =
+    record {
+      request = calling c;
+      sheet = exampleBytes;
+      office = keeping x t;
+      lendable = record { sheet = bytes-by exampleBytes a; index = bytes-by x b; table = bytes-by t d; arguments = fits };
+      given = e;
+    }
+
 -- Each of the numbers 1 to 14 is given.
-pub each-given : EachGiven
-unfolding calls exampleBytes exampleIndex bareTable
+pub each-given : Gets 1 × Gets 2 × Gets 3 × Gets 4 × Gets 5 × Gets 6 × Gets 7 × Gets 8 × Gets 9 × Gets 10 × Gets 11 × Gets 12 × Gets 13 × Gets 14
+unfolding calls writing allBytes exampleBytes exampleIndex bareTable
 each-given =
-    let sheets = sheets-refused (calling (ask 0)) [] [] in (
-      (calling (ask 0), [], [], [], sheets .0),
-      (calling (ask 0), entryA, [], [], sheets .1),
-      (calling (ask 0), 1 ∷ 2 ∷ 0 ∷ 1 ∷ 0 ∷ [], [], [], sheets .2),
-      (calling (ask 0), head 0 ++ end, [], [], sheets .3),
-      (calling (ask 0), head 2 ++ entryA ++ figureOf 2 0 0 0, [], [], sheets .4),
-      (calling (ask 0), head 2 ++ entryA ++ figureOf 1 0 0 1 ++ end, [], [], sheets .5),
-      (calling (ask 0), writeSheet (chain 65), [], [], sheets .6),
-      (calling (ask 0), exampleBytes, exampleIndex, unkRecord, refl),
-      (calling (ask 0), exampleBytes, zeros8 ++ zeros8 ++ (0 ∷ 0 ∷ 0 ∷ 0 ∷ []), bareTable, refl),
-      (calling (ask 0), exampleBytes, exampleIndex, firstIs unkRecord, refl),
-      (calling (ask 9), exampleBytes, exampleIndex, bareTable, refl),
-      (calling (drop 0), exampleBytes, exampleIndex, bareTable, refl),
-      (calling (post 0 2 (pos 0)), exampleBytes, exampleIndex, bareTable, refl),
-      (calling (step 0), exampleBytes, exampleIndex, bareTable, refl),
+    let sheets = sheets-refused (calling (ask 0)) (keeping [] []) in (
+      refused-ask [] 1 refl (sheets .0),
+      refused-ask entryA 2 refl (sheets .1),
+      refused-ask (1 ∷ 2 ∷ 0 ∷ 1 ∷ 0 ∷ []) 3 refl (sheets .2),
+      refused-ask (head 0 ++ end) 4 refl (sheets .3),
+      refused-ask (head 2 ++ entryA ++ figureOf 2 0 0 0) 5 refl (sheets .4),
+      refused-ask (head 2 ++ entryA ++ figureOf 1 0 0 1 ++ end) 6 refl (sheets .5),
+      refused-ask (writeSheet (chain 65)) 7 refl (sheets .6),
+      called (ask 0) exampleIndex unkRecord 8 (omega arith) refl refl refl refl,
+      called (ask 0) (zeros8 ++ zeros8 ++ (0 ∷ 0 ∷ 0 ∷ 0 ∷ [])) bareTable 9 (omega arith) refl refl refl refl,
+      called (ask 0) exampleIndex (firstIs unkRecord) 10 (omega arith) refl refl refl refl,
+      called (ask 9) exampleIndex bareTable 11 (omega arith) refl refl refl refl,
+      called (drop 0) exampleIndex bareTable 12 (omega arith) refl refl refl refl,
+      called (post 0 2 (pos 0)) exampleIndex bareTable 13 (omega arith, omega arith, record { sfits = omega arith }) refl refl refl refl,
+      called (step 0) exampleIndex bareTable 14 (omega arith) refl refl refl refl,
     )
 
 -- the answers of a list of calls
-unfoldable pub answers : List ℕ → List ℕ → List ℕ → List Call → List Answer
-answers s x t [] = []
-answers s x t (c ∷ cs) = let g : Given = callOn s x t c in answerOf g ∷ answers s x (g .table) cs
+unfoldable pub answers : List ℕ → Office → List Call → List Answer
+answers s kept [] = []
+answers s kept (c ∷ cs) = let g : Given = callOn s kept c in answerOf g ∷ answers s (g .after) cs
 
 abbrev answer : ℕ → ℕ → ℤ → Answer
 answer number kind value = record { number = number; offset = 0; kind = kind; value = value }
@@ -191,7 +230,7 @@ unfolding perform keepFigure dropFigure storePosting stepItem tell tellBelow tel
 machine S T c = perform S T c
 
 -- the day of the example
-pub example-day : answers exampleBytes exampleIndex bareTable (post 0 3 (pos 1000) ∷ post 1 3 (pos 300) ∷ ask 4 ∷ post 2 3 (negsuc 199) ∷ ask 4 ∷ drop 0 ∷ ask 9 ∷ [])
+pub example-day : answers exampleBytes (keeping exampleIndex bareTable) (post 0 3 (pos 1000) ∷ post 1 3 (pos 300) ∷ ask 4 ∷ post 2 3 (negsuc 199) ∷ ask 4 ∷ drop 0 ∷ ask 9 ∷ [])
     ≡ answer 0 0 (pos 0) ∷ answer 0 0 (pos 0) ∷ answer 0 3 (pos 700) ∷ answer 0 0 (pos 0) ∷ answer 0 3 (pos 500) ∷ answer 12 0 (pos 0) ∷ answer 11 0 (pos 0) ∷ []
 unfolding calls machine answers exampleBytes exampleIndex bareTable
 example-day = refl

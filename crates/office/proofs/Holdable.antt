@@ -1,6 +1,6 @@
 -- The cells that a table in form can be are kept by every call: values stay within the range, and entries stay stored, not
 -- OUT, without refresh. Assumes that the sheet is ordered, where it says so.
-use Prim.Native.Nat.{ℕ, zero, suc, _<_, _*_}
+use Prim.Native.Nat.{ℕ, zero, suc, _<_}
 use native.Mathlib.Omega.{arith}
 use mathlib.Core.Path.{_≡_, refl, sym, ap, _∙_}
 use mathlib.Core.Bool.{Bool, true, false, cond, not, _&&_}
@@ -9,16 +9,17 @@ use mathlib.Core.Logic.{inl, inr}
 use mathlib.Core.Option.{Option, none, some}
 use lib.Dec.{eqb}
 use lib.IntN.{ℤ, pos}
-use Rattle.circuit.specs.Value.{Value, null, out, num, isOut, same, wellFormed, inRange, sameNumber}
+use Rattle.circuit.specs.Value.{Value, null, num, isOut, same, wellFormed, inRange, sameNumber}
 use Rattle.circuit.specs.WellFormed.{allWellFormed}
 use Rattle.circuit.specs.Circuit.{Listed}
 use Rattle.circuit.specs.Sheet.{Sheet, Item, entry, figure, Spread, defer, renew, forget, size, itemAt, isFigure, parentsOf, parents, spreadOf, isChild, evaluate, Ordered}
-use Rattle.circuit.specs.Table.{Table, Cell, Mark, unmarked, refresh, notice, unk, held, upd, noticeIf, isMarked, valueIn, entryForm}
-use Rattle.circuit.specs.Machine.{Looked, lookUp, work, storePosting, postCell, keepFigure, dropFigure, dropCell, renewed, tellChild, tellCell, tellStored, tellIf, tellBelow, tell, clearMark, clearCell, stepItem, stepCell, stepMark, catchUp}
-use Rattle.circuit.specs.Calls.{Call, post, keep, drop, step, ask, postedValue, effect, perform, unless, tests, firstCause, run, postIt}
+use Rattle.circuit.specs.Table.{Table, Cell, Mark, unmarked, refresh, notice, unk, held, upd, entryForm}
+use Rattle.circuit.specs.Machine.{lookUp, work, storePosting, postCell, keepFigure, dropFigure, dropCell, renewed, tellChild, tellCell, tellStored, tellIf, tellBelow, tell, clearMark, clearCell, stepItem, stepCell, catchUp}
+use Rattle.circuit.specs.Call.{Call, post, keep, drop, step, ask}
+use Rattle.circuit.specs.Calls.{postedValue, effect, perform, tests, firstCause, run, postIt}
 use Rattle.circuit.proofs.RuleLaws.{apply-wellFormed, and-true, and-left, and-right}
-use Rattle.circuit.proofs.View.{view, view-at, result, strong, seenCell}
-use Rattle.circuit.proofs.Fill.{Fill, Filling, stays, fills, Looks, upd-cases, look-right, work-right, keep-fill}
+use Rattle.circuit.proofs.View.{view, view-at, result, strong}
+use Rattle.circuit.proofs.Fill.{Fill, Filling, stays, fills, upd-cases, look-right, work-right, keep-fill}
 use Rattle.circuit.proofs.Closure.{catchUp-closed, member-listed}
 use Rattle.circuit.proofs.Accepted.{accepted-effect, refused-table, keep-passed, drop-passed, step-passed}
 use Rattle.table.specs.Record.{mayHold}

@@ -5,17 +5,18 @@ use mathlib.Core.Path.{_≡_, refl, sym, ap, _∙_, subst}
 use mathlib.Core.Bool.{Bool, true, false, cond}
 use mathlib.Core.List.{List}
 use mathlib.Core.Logic.{inl, inr, ⊎-elim}
-use lib.IntN.{ℤ}
+use lib.IntN.{ℤ, pos}
 use lib.ListN.{length}
 use Rattle.circuit.specs.Value.{Value, null, out, num, same, kindOf, numberOf, wellFormed}
 use Rattle.circuit.specs.Sheet.{Sheet, Ordered, size}
-use Rattle.circuit.specs.Table.{Table, Cell, Mark, notice, unk, held, upd, markOf, valueIn}
-use Rattle.circuit.specs.Machine.{storePosting, postCell}
-use Rattle.circuit.specs.Calls.{Call, post, ask, perform, effect, postIt}
+use Rattle.circuit.specs.Table.{Table, Cell, Mark, unmarked, refresh, notice, unk, held, upd, noticeIf, markOf, valueIn}
+use Rattle.circuit.specs.Machine.{work, storePosting, postCell, keepFigure, keepCell, dropFigure, dropCell, droppedMark, tell, clearMark, stepItem, stepCell, catchUp}
+use Rattle.circuit.specs.Call.{Call, post, keep, drop, step, ask}
+use Rattle.circuit.specs.Calls.{perform, effect, postIt}
 use Rattle.circuit.specs.Words.{Quiet}
 use Rattle.circuit.proofs.RuleLaws.{same-true, same-refl}
 use Rattle.circuit.proofs.Fill.{upd-same, upd-other}
-use Rattle.circuit.proofs.CatchUp.{asked-quiet}
+use Rattle.circuit.proofs.CatchUp.{asked-quiet, catchUp-ends}
 use Rattle.circuit.proofs.Accepted.{accepted-effect, effect-number}
 use Rattle.layout.specs.Read.{Placed, opens, readSheet}
 use Rattle.layout.specs.Opened.{sheetOf}
@@ -24,16 +25,15 @@ use Rattle.layout.proofs.Tests.{Tells, holds, fails, tells-eq}
 use Rattle.layout.proofs.Causes.{opens-faultless}
 use Rattle.word.specs.Word.{Bytes}
 use Rattle.table.specs.Rows.{row}
-use Rattle.table.specs.Record.{width, kindIn, markIn, numberIn, encodeCell}
+use Rattle.table.specs.Record.{width, kindIn, markIn, numberIn, markCode, encodeCell}
 use Rattle.table.specs.Bytes.{encodeTable, decodeTable, Holdable}
 use Rattle.table.proofs.Records.{number-fits, number-again}
 use Rattle.table.proofs.Tables.{length-encodeTable, encoded-record, encode-decodeTable, encodeTable-ext, decoded-holdable, encoded-tableForm, holdable-wellFormed}
-use Rattle.office.specs.Office.{effectOn, callOn}
-use Rattle.office.specs.Demands.{NoMarkStands}
-use Rattle.office.specs.Refusals.{calling, NoneHolds, ownCauses, AcceptedLent}
-use Rattle.office.specs.Meaning.{Posts, Leaves}
+use Rattle.office.specs.Office.{Office, keeping, effectOn, callOn}
+use Rattle.office.specs.Demand1Words.{calling, NoneHolds, ownCauses, AcceptedLent}
+use Rattle.office.specs.Demand2Words.{valueOf, Stores, Posts, Keeps, Drops, Steps, Asks, NoMarkStands, CallsLeave}
 use Rattle.office.proofs.Holdable.{perform-holdable}
-use Rattle.office.proofs.Demands.{mark-cell, unmarked-code}
+use Rattle.office.proofs.Agreeing.{mark-cell, unmarked-code}
 use Rattle.office.proofs.Refusals.{turned-back, opens-sheet, unbroken-form, form-unbroken, call-accepted, own-passed, Postable, postable}
 
 value-same : (w v : Value) → kindOf w ≡ kindOf v → numberOf w ≡ numberOf v → w ≡ v
@@ -60,12 +60,42 @@ unk-kind : (f : Bool) → kindIn (encodeCell (unk f)) ≡ 0
 unfolding encodeCell
 unk-kind f = refl
 
+unk-number : (f : Bool) → numberIn (encodeCell (unk f)) ≡ pos 0
+unfolding encodeCell
+unk-number f = number-again _ _ _ (number-fits null refl)
+
+-- an UNK cell is not to be refreshed
+unk-unrefreshed : (b : Bool) → markCode (noticeIf b) ≡ 1 → ⊥
+unk-unrefreshed true h = omega arith
+unk-unrefreshed false h = omega arith
+
+-- the notice of a dropped cell, by the mark that it had
+dropped-refresh : (m : Mark) → markCode m ≡ 1 → droppedMark m ≡ true
+dropped-refresh unmarked h = absurd (omega arith)
+dropped-refresh refresh h = refl
+dropped-refresh notice h = absurd (omega arith)
+
+dropped-other : (m : Mark) → (markCode m ≡ 1 → ⊥) → markCode (noticeIf (droppedMark m)) ≡ markCode m
+dropped-other unmarked h = refl
+dropped-other refresh h = absurd (h refl)
+dropped-other notice h = refl
+
+differs : (v w : Value) → (v ≡ w → ⊥) → same v w ≡ false
+differs v w n = go (same v w) refl
+  where
+    go : (b : Bool) → same v w ≡ b → b ≡ false
+    go true e = absurd (n (same-true v w e))
+    go false e = refl
+
 some-kind : (v : Value) → 0 < kindOf v
 some-kind null = omega arith
 some-kind out = omega arith
 some-kind (num z) = omega arith
 
-module _ (s x t : List ℕ) (lent : AcceptedLent s x t) where
+module _ (s : List ℕ) (kept : Office) (lent : AcceptedLent s kept) where
+  abbrev t : List ℕ
+  t = kept .table
+
   pub ordered : Ordered (sheetOf s)
   ordered = go (opens-faultless s .1 (lent .sheet))
     where
@@ -76,20 +106,20 @@ module _ (s x t : List ℕ) (lent : AcceptedLent s x t) where
   holdable = decoded-holdable (sheetOf s) t (unbroken-form (sheetOf s) t (lent .lent .1 .1 .0))
 
   -- no cause of the call's own
-  own : (c : Call) → callOn s x t c .number ≡ 0 → NoneHolds (ownCauses (sheetOf s) t c)
-  own c z = turned-back (calling c) s x t .accepted .0 z .lent .1 .1 .1
+  own : (c : Call) → callOn s kept c .number ≡ 0 → NoneHolds (ownCauses (sheetOf s) t c)
+  own c z = turned-back (calling c) s kept .accepted .0 z .lent .1 .1 .1
 
-  is : (c : Call) → callOn s x t c .number ≡ 0 → callOn s x t c ≡ effectOn (sheetOf s) x (effect (sheetOf s) (decodeTable t) c)
-  is c z = call-accepted s x t c (turned-back (calling c) s x t .accepted .0 z)
+  is : (c : Call) → callOn s kept c .number ≡ 0 → callOn s kept c ≡ effectOn (sheetOf s) kept (effect (sheetOf s) (decodeTable t) c)
+  is c z = call-accepted s kept c (turned-back (calling c) s kept .accepted .0 z)
 
-  performs : (c : Call) → callOn s x t c .number ≡ 0 → perform (sheetOf s) (decodeTable t) c ≡ effect (sheetOf s) (decodeTable t) c
+  performs : (c : Call) → callOn s kept c .number ≡ 0 → perform (sheetOf s) (decodeTable t) c ≡ effect (sheetOf s) (decodeTable t) c
   performs c z = accepted-effect (sheetOf s) (decodeTable t) c (own-passed (sheetOf s) t c (lent .lent .1 .1 .0) (own c z))
 
-  effect-holdable : (c : Call) → callOn s x t c .number ≡ 0 → Holdable (sheetOf s) (effect (sheetOf s) (decodeTable t) c .table)
+  effect-holdable : (c : Call) → callOn s kept c .number ≡ 0 → Holdable (sheetOf s) (effect (sheetOf s) (decodeTable t) c .table)
   effect-holdable c z = subst (λ o. Holdable (sheetOf s) (o .table)) (performs c z) (perform-holdable (sheetOf s) ordered (decodeTable t) c holdable)
 
   -- a table in form, with the index as it was
-  lent-again : (T : Table) → Holdable (sheetOf s) T → AcceptedLent s x (encodeTable (sheetOf s) T)
+  lent-again : (T : Table) → Holdable (sheetOf s) T → AcceptedLent s (keeping (kept .index) (encodeTable (sheetOf s) T))
   lent-again T h =
       record {
         sheet = lent .sheet;
@@ -99,23 +129,40 @@ module _ (s x t : List ℕ) (lent : AcceptedLent s x t) where
         );
       }
 
-  stays-accepted : (c : Call) → AcceptedLent s x (callOn s x t c .table)
-  stays-accepted c = go (tells-eq (callOn s x t c .number) 0)
+  stays-accepted : (c : Call) → AcceptedLent s (callOn s kept c .after)
+  stays-accepted c = go (tells-eq (callOn s kept c .number) 0)
     where
-      go : {b : Bool} → Tells (callOn s x t c .number ≡ 0) b → AcceptedLent s x (callOn s x t c .table)
-      go (holds z) = subst (λ g. AcceptedLent s x (g .table)) (sym (is c z)) (lent-again _ (effect-holdable c z))
-      go (fails n) = subst (λ u. AcceptedLent s x u) (sym (turned-back (calling c) s x t .left n .1)) lent
+      go : {b : Bool} → Tells (callOn s kept c .number ≡ 0) b → AcceptedLent s (callOn s kept c .after)
+      go (holds z) = subst (λ g. AcceptedLent s (g .after)) (sym (is c z)) (lent-again _ (effect-holdable c z))
+      go (fails n) = subst (AcceptedLent s) (sym (turned-back (calling c) s kept .left n)) lent
 
-  index-same : (c : Call) → callOn s x t c .index ≡ x
-  index-same c = go (tells-eq (callOn s x t c .number) 0)
+  index-same : (c : Call) → callOn s kept c .after .index ≡ kept .index
+  index-same c = go (tells-eq (callOn s kept c .number) 0)
     where
-      go : {b : Bool} → Tells (callOn s x t c .number ≡ 0) b → callOn s x t c .index ≡ x
-      go (holds z) = ap (λ g. g .index) (is c z)
-      go (fails n) = turned-back (calling c) s x t .left n .0
+      go : {b : Bool} → Tells (callOn s kept c .number ≡ 0) b → callOn s kept c .after .index ≡ kept .index
+      go (holds z) = ap (λ g. g .after .index) (is c z)
+      go (fails n) = ap (λ k. k .index) (turned-back (calling c) s kept .left n)
 
-  ask-quiets : (i : ℕ) → callOn s x t (ask i) .number ≡ 0 → NoMarkStands (sheetOf s) (callOn s x t (ask i) .table)
+  -- a figure that is stored in the table that a call leaves, and what its record holds
+  pub stored-record : (c : Call) → callOn s kept c .number ≡ 0 → (k : ℕ) → k < size (sheetOf s) → ¬ (kindIn (row width (callOn s kept c .after .table) k) ≡ 0)
+      → (v : Value) × (m : Mark) × (effect (sheetOf s) (decodeTable t) c .table k ≡ held v m) × Stores (callOn s kept c .after .table) k v
+  stored-record c z k low n = go (U k) refl
+    where
+      U : Table
+      U = effect (sheetOf s) (decodeTable t) c .table
+
+      record-here : (d : Cell) → U k ≡ d → row width (callOn s kept c .after .table) k ≡ encodeCell d
+      record-here d e = ap (λ g. row width (g .after .table) k) (is c z) ∙ encoded-record (sheetOf s) U k low ∙ ap encodeCell e
+
+      go : (d : Cell) → U k ≡ d → (v : Value) × (m : Mark) × (U k ≡ held v m) × Stores (callOn s kept c .after .table) k v
+      go (unk b) e = absurd (n (ap kindIn (record-here (unk b) e) ∙ unk-kind b))
+      go (held v m) e =
+          let formed : wellFormed v ≡ true = subst (λ d. wellFormed (valueIn d) ≡ true) e (holdable-wellFormed (sheetOf s) U (effect-holdable c z) k low) in
+          (v, m, e, (ap kindIn (record-here (held v m) e) ∙ held-kind v m, ap numberIn (record-here (held v m) e) ∙ held-number v m formed))
+
+  ask-quiets : (i : ℕ) → callOn s kept (ask i) .number ≡ 0 → NoMarkStands (sheetOf s) (callOn s kept (ask i) .after .table)
   ask-quiets i z k low =
-      ap (λ g. markIn (row width (g .table) k)) (is (ask i) z)
+      ap (λ g. markIn (row width (g .after .table) k)) (is (ask i) z)
       ∙ ap markIn (encoded-record (sheetOf s) U k low) ∙ mark-cell (U k) ∙ unmarked-code (markOf (U k)) (quiet k low)
     where
       U : Table
@@ -127,10 +174,10 @@ module _ (s x t : List ℕ) (lent : AcceptedLent s x t) where
           (asked-quiet (sheetOf s) ordered (decodeTable t) i (ap (λ o. o .number) (performs (ask i) z) ∙ effect-number (sheetOf s) (decodeTable t) (ask i)))
 
   module _ (bytes : Bytes t) where
-    long : length t ≡ 10 * size (sheetOf s)
-    long = go (tells-eq (length t) (10 * size (sheetOf s)))
+    long : length t ≡ width * size (sheetOf s)
+    long = go (tells-eq (length t) (width * size (sheetOf s)))
       where
-        go : {b : Bool} → Tells (length t ≡ 10 * size (sheetOf s)) b → length t ≡ 10 * size (sheetOf s)
+        go : {b : Bool} → Tells (length t ≡ width * size (sheetOf s)) b → length t ≡ width * size (sheetOf s)
         go (holds e) = e
         go (fails n) = absurd (lent .lent .0 (inr n))
 
@@ -140,8 +187,121 @@ module _ (s x t : List ℕ) (lent : AcceptedLent s x t) where
     record-is : (j : ℕ) → j < size (sheetOf s) → row width t j ≡ encodeCell (decodeTable t j)
     record-is j low = ap (λ u. row width u j) (sym again) ∙ encoded-record (sheetOf s) (decodeTable t) j low
 
-    post-leaves : (i kind : ℕ) (z : ℤ) → callOn s x t (post i kind z) .number ≡ 0
-        → Posts (size (sheetOf s)) t i kind z (callOn s x t (post i kind z) .table)
+    -- the records of a table with one cell stored
+    row-here : (i : ℕ) → i < size (sheetOf s) → (d : Cell) → row width (encodeTable (sheetOf s) (upd (decodeTable t) i d)) i ≡ encodeCell d
+    row-here i low d = encoded-record (sheetOf s) (upd (decodeTable t) i d) i low ∙ ap encodeCell (upd-same (decodeTable t) i d)
+
+    row-other : (i : ℕ) (d : Cell) (j : ℕ) → j < size (sheetOf s) → ¬ (j ≡ i) → row width (encodeTable (sheetOf s) (upd (decodeTable t) i d)) j ≡ row width t j
+    row-other i d j l n = encoded-record (sheetOf s) (upd (decodeTable t) i d) j l ∙ ap encodeCell (upd-other (decodeTable t) i d j n) ∙ sym (record-is j l)
+
+    -- kind and mark of the record of a cell
+    kind-of : (i : ℕ) → i < size (sheetOf s) → (c : Cell) → decodeTable t i ≡ c → kindIn (row width t i) ≡ kindIn (encodeCell c)
+    kind-of i low c e = ap kindIn (record-is i low ∙ ap encodeCell e)
+
+    mark-of : (i : ℕ) → i < size (sheetOf s) → (c : Cell) → decodeTable t i ≡ c → markIn (row width t i) ≡ markCode (markOf c)
+    mark-of i low c e = ap markIn (record-is i low ∙ ap encodeCell e) ∙ mark-cell c
+
+    keep-leaves : (i : ℕ) → callOn s kept (keep i) .number ≡ 0 → Keeps (sheetOf s) t i (callOn s kept (keep i) .after .table)
+    unfolding effect keepFigure
+    keep-leaves i z = subst (Keeps (sheetOf s) t i) (sym (ap (λ g. g .after .table) (is (keep i) z))) (pick (decodeTable t i) refl)
+      where
+        low : i < size (sheetOf s)
+        low = omega (arith, own (keep i) z .0)
+
+        pick : (c : Cell) → decodeTable t i ≡ c → Keeps (sheetOf s) t i (encodeTable (sheetOf s) (keepCell (sheetOf s) (decodeTable t) i (decodeTable t i)))
+        pick (unk b) e =
+            record {
+              untouched = λ n. absurd (n (kind-of i low (unk b) e ∙ unk-kind b));
+              stored = λ k. ap (λ c. encodeTable (sheetOf s) (keepCell (sheetOf s) (decodeTable t) i c)) e;
+            }
+        pick (held v m) e =
+            record {
+              untouched = λ n. ap (λ c. encodeTable (sheetOf s) (keepCell (sheetOf s) (decodeTable t) i c)) e ∙ again;
+              stored = λ k. absurd (omega (arith, kind-of i low (held v m) e, held-kind v m, some-kind v));
+            }
+
+    drop-leaves : (i : ℕ) → callOn s kept (drop i) .number ≡ 0 → Drops (size (sheetOf s)) t i (callOn s kept (drop i) .after .table)
+    unfolding effect dropFigure
+    drop-leaves i z = subst (Drops (size (sheetOf s)) t i) (sym (ap (λ g. g .after .table) (is (drop i) z))) (pick (decodeTable t i) refl)
+      where
+        low : i < size (sheetOf s)
+        low = omega (arith, own (drop i) z .0)
+
+        -- the record of an UNK cell
+        blank : (b : Bool) → ((markIn (row width t i) ≡ 1) → b ≡ true) → (¬ (markIn (row width t i) ≡ 1) → markCode (noticeIf b) ≡ markIn (row width t i))
+            → Drops (size (sheetOf s)) t i (encodeTable (sheetOf s) (upd (decodeTable t) i (unk b)))
+        blank b refreshed remains =
+            record {
+              kind-0 = ap kindIn (row-here i low (unk b)) ∙ unk-kind b;
+              number-0 = ap numberIn (row-here i low (unk b)) ∙ unk-number b;
+              refresh-noticed = λ h. ap markIn (row-here i low (unk b)) ∙ mark-cell (unk b) ∙ ap (λ x. markCode (noticeIf x)) (refreshed h);
+              other-marks = λ h. ap markIn (row-here i low (unk b)) ∙ mark-cell (unk b) ∙ remains h;
+              others = row-other i (unk b);
+            }
+
+        pick : (c : Cell) → decodeTable t i ≡ c → Drops (size (sheetOf s)) t i (encodeTable (sheetOf s) (upd (decodeTable t) i (dropCell (decodeTable t i))))
+        pick (unk b) e =
+            subst (λ d. Drops (size (sheetOf s)) t i (encodeTable (sheetOf s) (upd (decodeTable t) i d))) (sym (ap dropCell e))
+            (blank b (λ h. absurd (unk-unrefreshed b (sym (mark-of i low (unk b) e) ∙ h))) (λ n. sym (mark-of i low (unk b) e)))
+        pick (held v m) e =
+            subst (λ d. Drops (size (sheetOf s)) t i (encodeTable (sheetOf s) (upd (decodeTable t) i d))) (sym (ap dropCell e))
+            (blank (droppedMark m) (λ h. dropped-refresh m (sym (mark-of i low (held v m) e) ∙ h)) (λ n. dropped-other m (λ h. n (mark-of i low (held v m) e ∙ h)) ∙ sym (mark-of i low (held v m) e)))
+
+    step-leaves : (i : ℕ) → callOn s kept (step i) .number ≡ 0 → Steps (sheetOf s) t i (callOn s kept (step i) .after .table)
+    unfolding effect stepItem
+    step-leaves i z = subst (Steps (sheetOf s) t i) (sym (ap (λ g. g .after .table) (is (step i) z))) (pick (decodeTable t i) refl)
+      where
+        S : Sheet
+        S = sheetOf s
+
+        T : Table
+        T = decodeTable t
+
+        low : i < size (sheetOf s)
+        low = omega (arith, own (step i) z .0)
+
+        stepped : (c : Cell) → T i ≡ c → encodeTable S (stepCell S T i (T i)) ≡ encodeTable S (stepCell S T i c)
+        stepped c e = ap (λ d. encodeTable S (stepCell S T i d)) e
+
+        -- no refresh, by a mark code that is not 1
+        noticed : (c : Cell) (e : T i ≡ c) → (markCode (markOf c) ≡ 1 → ⊥) → (markCode (markOf c) ≡ 2 → stepCell S T i c ≡ clearMark (tell S T i) i)
+            → Steps S t i (encodeTable S (stepCell S T i (T i)))
+        noticed c e other tells =
+            record {
+              equal = λ h q. absurd (other (sym (mark-of i low c e) ∙ h));
+              different = λ h q. absurd (other (sym (mark-of i low c e) ∙ h));
+              tells = λ h. stepped c e ∙ ap (encodeTable S) (tells (sym (mark-of i low c e) ∙ h));
+            }
+
+        refreshed : (v : Value) → T i ≡ held v refresh → Steps S t i (encodeTable S (stepCell S T i (T i)))
+        refreshed v e =
+            record {
+              equal = λ h q.
+                  let known : valueOf t i ≡ v = ap valueIn e in
+                  let alike : same v (work S T i .value) ≡ true = ap (same v) (q ∙ known) ∙ same-refl v in
+                  stepped (held v refresh) e ∙ ap (encodeTable S) (ap (λ b. upd (work S T i .table) i (cond b (held v unmarked) (held (work S T i .value) notice))) alike ∙ ap (λ w. upd (work S T i .table) i (held w unmarked)) (sym known));
+              different = λ h n.
+                  let known : valueOf t i ≡ v = ap valueIn e in
+                  let unlike : same v (work S T i .value) ≡ false = differs v (work S T i .value) (λ q. n (sym q ∙ sym known)) in
+                  stepped (held v refresh) e ∙ ap (encodeTable S) (ap (λ b. upd (work S T i .table) i (cond b (held v unmarked) (held (work S T i .value) notice))) unlike);
+              tells = λ h. absurd (omega (arith, mark-of i low (held v refresh) e));
+            }
+
+        pick : (c : Cell) → T i ≡ c → Steps S t i (encodeTable S (stepCell S T i (T i)))
+        pick (unk true) e = noticed (unk true) e (λ h. omega arith) (λ h. refl)
+        pick (unk false) e = noticed (unk false) e (λ h. omega arith) (λ h. absurd (omega arith))
+        pick (held v unmarked) e = noticed (held v unmarked) e (λ h. omega arith) (λ h. absurd (omega arith))
+        pick (held v refresh) e = refreshed v e
+        pick (held v notice) e = noticed (held v notice) e (λ h. omega arith) (λ h. refl)
+
+    ask-leaves : (i : ℕ) → callOn s kept (ask i) .number ≡ 0 → Asks (sheetOf s) t i (callOn s kept (ask i))
+    unfolding effect
+    ask-leaves i z =
+        subst (Asks (sheetOf s) t i) (sym (is (ask i) z))
+        (record { caught-up = catchUp (sheetOf s) (decodeTable t); catches = catchUp-ends (sheetOf s) ordered (decodeTable t); value-is = refl; table-is = refl })
+
+    post-leaves : (i kind : ℕ) (z : ℤ) → callOn s kept (post i kind z) .number ≡ 0
+        → Posts (size (sheetOf s)) t i kind z (callOn s kept (post i kind z) .after .table)
     unfolding effect storePosting
     post-leaves i kind z zero = subst (Posts (size (sheetOf s)) t i kind z) (sym table-is) (pick (decodeTable t i) refl)
       where
@@ -163,41 +323,35 @@ module _ (s x t : List ℕ) (lent : AcceptedLent s x t) where
         v : Value
         v = p .value
 
-        table-is : callOn s x t (post i kind z) .table ≡ encodeTable S (upd T i (postCell (T i) v))
-        table-is = ap (λ g. g .table) (is (post i kind z) zero) ∙ ap (λ w. encodeTable S (postIt T i w)) (p .posted)
+        table-is : callOn s kept (post i kind z) .after .table ≡ encodeTable S (upd T i (postCell (T i) v))
+        table-is = ap (λ g. g .after .table) (is (post i kind z) zero) ∙ ap (λ w. encodeTable S (postIt T i w)) (p .posted)
 
         formed : (d : Cell) → postCell (T i) v ≡ d → wellFormed (valueIn d) ≡ true
         formed d e =
             subst (λ c. wellFormed (valueIn c) ≡ true) (upd-same T i (postCell (T i) v) ∙ e)
             (holdable-wellFormed S _ (subst (λ w. Holdable S (postIt T i w)) (p .posted) (effect-holdable (post i kind z) zero)) i low)
 
-        row-here : (d : Cell) → row width (encodeTable S (upd T i d)) i ≡ encodeCell d
-        row-here d = encoded-record S (upd T i d) i low ∙ ap encodeCell (upd-same T i d)
-
-        row-other : (d : Cell) (j : ℕ) → j < size S → ¬ (j ≡ i) → row width (encodeTable S (upd T i d)) j ≡ row width t j
-        row-other d j l n = encoded-record S (upd T i d) j l ∙ ap encodeCell (upd-other T i d j n) ∙ sym (record-is j l)
-
         -- another value is stored with notice
         new : ¬ ((kindIn (row width t i) ≡ kind) × (numberIn (row width t i) ≡ z)) → wellFormed v ≡ true
             → Posts (size S) t i kind z (encodeTable S (upd T i (held v notice)))
         new differs w =
             record {
-              kind-is = ap kindIn (row-here (held v notice)) ∙ held-kind v notice ∙ p .kind-is;
-              number-is = ap numberIn (row-here (held v notice)) ∙ held-number v notice w ∙ p .number-is;
+              kind-is = ap kindIn (row-here i low (held v notice)) ∙ held-kind v notice ∙ p .kind-is;
+              number-is = ap numberIn (row-here i low (held v notice)) ∙ held-number v notice w ∙ p .number-is;
               equal = λ k n. absurd (differs (k, n));
-              noticed = λ n. ap markIn (row-here (held v notice)) ∙ mark-cell (held v notice);
-              others = row-other (held v notice);
+              noticed = λ n. ap markIn (row-here i low (held v notice)) ∙ mark-cell (held v notice);
+              others = row-other i (held v notice);
             }
 
         -- an equal value changes nothing
         old : (w : Value) (m : Mark) → T i ≡ held w m → w ≡ v → wellFormed w ≡ true → Posts (size S) t i kind z (encodeTable S (upd T i (held w m)))
         old w m e q f =
             record {
-              kind-is = ap kindIn (row-here (held w m)) ∙ kind-here;
-              number-is = ap numberIn (row-here (held w m)) ∙ number-here;
+              kind-is = ap kindIn (row-here i low (held w m)) ∙ kind-here;
+              number-is = ap numberIn (row-here i low (held w m)) ∙ number-here;
               equal = λ k n. encodeTable-ext S (upd T i (held w m)) T (λ j l. unchanged j) ∙ again;
               noticed = λ n. absurd (n (ap kindIn here ∙ kind-here, ap numberIn here ∙ number-here));
-              others = row-other (held w m);
+              others = row-other i (held w m);
             }
           where
             kind-here : kindIn (encodeCell (held w m)) ≡ kind
@@ -252,5 +406,15 @@ module _ (s x t : List ℕ) (lent : AcceptedLent s x t) where
                     let same-v : same w v ≡ true = ap (λ u. same u v) (value-same w v kinds numbers) ∙ same-refl v in
                     let bad : _≡_ {A = ℕ} 0 1 = cc in omega arith
 
-    pub leaves : Leaves s x t
-    leaves = record { index-kept = index-same; accepted = stays-accepted; posts = post-leaves; quiet = ask-quiets }
+    pub leaves : CallsLeave s kept
+    leaves =
+        record {
+          index-kept = index-same;
+          accepted = stays-accepted;
+          posts = post-leaves;
+          keeps = keep-leaves;
+          drops = drop-leaves;
+          steps = step-leaves;
+          asks = ask-leaves;
+          quiet = ask-quiets;
+        }

@@ -1,4 +1,5 @@
 pub mod Accepted
+pub mod Agreeing
 pub mod Bridge
 pub mod Causes
 pub mod Demands

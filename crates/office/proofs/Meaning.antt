@@ -5,7 +5,7 @@ use native.Mathlib.Omega.{arith}
 use mathlib.Core.Path.{_≡_, refl, sym, ap, _∙_, subst}
 use mathlib.Core.Bool.{Bool, true, false}
 use mathlib.Core.List.{List, [], _∷_}
-use mathlib.Core.Logic.{inl, inr}
+use mathlib.Core.Logic.{inl, inr, _↔_}
 use mathlib.Core.Option.{none}
 use lib.Dec.{eqb}
 use lib.ListN.{length, getD, length-map, List·getD-map}
@@ -13,23 +13,24 @@ use Rattle.word.specs.Word.{leBytes}
 use Rattle.circuit.specs.Value.{Value, kindOf, numberOf}
 use Rattle.circuit.specs.Circuit.{Circuit, IsSolution}
 use Rattle.circuit.specs.Sheet.{Sheet, Ordered, Entries, itemAt, size, isFigure, circuitOf}
-use Rattle.circuit.specs.Table.{unk, held, isStored, noticeIf}
+use Rattle.circuit.specs.Table.{Table, Mark, unk, held, isStored, noticeIf, valueIn, opened}
 use Rattle.circuit.specs.Machine.{Looked, lookUp, catchUp, keepFigure, keepCell}
-use Rattle.circuit.specs.Calls.{Call, keep, ask, effect}
+use Rattle.circuit.specs.Call.{Call, keep, ask, Opening, bare, full}
+use Rattle.circuit.specs.Calls.{effect}
 use Rattle.circuit.specs.Words.{Bare}
 use Rattle.circuit.proofs.Solution.{solution, solution-solves, solution-unique, sheet-acyclic, below-listed}
-use Rattle.circuit.proofs.Fill.{upd-same}
+use Rattle.circuit.proofs.View.{view, view-at}
+use Rattle.circuit.proofs.Fill.{Fill, Filling, stays, fills, look-right, keep-fill, upd-same}
 use Rattle.circuit.proofs.CatchUp.{catchUp-quiet}
 use Rattle.circuit.proofs.Reading.{bare-look, quiet-look}
 use Rattle.circuit.proofs.Sound.{Sound, catchUp-sound}
-use Rattle.circuit.specs.Offices.{Opening, bare, full, opened}
 use Rattle.field.specs.Field.{Bytes}
 use Rattle.layout.specs.Layout.{Layout, LayoutItem, entryField, figureField, machineItem, machineSheet}
 use Rattle.layout.specs.Read.{Placed, opens, readSheet, layoutOf}
 use Rattle.layout.specs.Write.{concat, within, writeSheet}
 use Rattle.layout.specs.Places.{places}
 use Rattle.layout.specs.Opened.{sheetOf, sheetFrom, placedFrom}
-use Rattle.layout.specs.Index.{bytes32, indexBytes}
+use Rattle.layout.specs.Index.{indexWidth, bytes32, indexBytes}
 use Rattle.layout.proofs.Tests.{Tells, holds, fails, tells-eq}
 use Rattle.layout.proofs.Exactly.{written-opens, places-layout, places-offset, opened-written, layout-unique}
 use Rattle.layout.proofs.Causes.{opens-faultless}
@@ -40,14 +41,13 @@ use Rattle.table.specs.Record.{width, kindIn, markIn, numberIn, cellCoded, enco
 use Rattle.table.specs.Bytes.{encodeTable, decodeTable, Holdable}
 use Rattle.table.proofs.Records.{number-fits, number-again}
 use Rattle.table.proofs.Tables.{length-encodeTable, encoded-record, holdable-formed}
-use Rattle.office.specs.Office.{accepted, effectOn, callOn, openOn, runOn}
-use Rattle.office.specs.Demands.{answerOf}
-use Rattle.office.specs.Refusals.{opening, LengthsWrong, NoneHolds, ownCauses, AcceptedLent}
-use Rattle.office.specs.Meaning.{Fits, openedRecord, Writes, Openings, NoneStored, entriesIn, reading, GivesSolution, Meaning}
+use Rattle.office.specs.Office.{Office, keeping, accepted, effectOn, callOn, openOn, runOn}
+use Rattle.office.specs.Demand1Words.{opening, LengthsWrong, NoneHolds, ownCauses, AcceptedLent}
+use Rattle.office.specs.Demand2Words.{answerOf, FollowsLayout, openedRecord, Writes, NoneStored, entriesIn, reading, OnlySolution, Stores, StoredRight, Gives}
 use Rattle.office.proofs.Holdable.{look-formed}
-use Rattle.office.proofs.Demands.{Opens, opening-opens, figure-below}
+use Rattle.office.proofs.Agreeing.{Opens, opening-opens, figure-below}
 use Rattle.office.proofs.Accepted.{office-accepted}
-use Rattle.office.proofs.Leaves.{ordered, holdable as lent-holdable, leaves}
+use Rattle.office.proofs.Leaves.{ordered, holdable as lent-holdable, stored-record}
 use Rattle.office.proofs.Refusals.{turned-back, opens-sheet, call-accepted}
 
 -- ---- the openings
@@ -59,18 +59,18 @@ stable a b n = go (tells-eq a b)
     go (holds e) = e
     go (fails f) = absurd (n f)
 
-opening-fits : (how : Opening) (s x t : List ℕ) → Bytes s → openOn how s x t .number ≡ 0 → Fits s x t
-opening-fits how s x t b z =
+opening-fits : (how : Opening) (s : List ℕ) (kept : Office) → Bytes s → openOn how s kept .number ≡ 0 → FollowsLayout s kept
+opening-fits how s kept b z =
     record {
       layout = l;
       limits = w .0;
       written = w .1;
-      index-long = stable (length x) (4 * length (l .items)) (λ n. right (inl n));
-      table-long = stable (length t) (10 * length (l .items)) (λ n. right (inr n));
+      index-long = stable (length (kept .index)) (indexWidth * length (l .items)) (λ n. right (inl n));
+      table-long = stable (length (kept .table)) (width * length (l .items)) (λ n. right (inr n));
     }
   where
-    o : Opens s x t how
-    o = opening-opens s x t how z
+    o : Opens s kept how
+    o = opening-opens s kept how z
 
     l : Layout
     l = layoutOf (o .edition) (o .placed)
@@ -81,14 +81,14 @@ opening-fits how s x t b z =
     counted : size (sheetOf s) ≡ length (l .items)
     counted = ap size (opens-sheet s (o .edition) (o .placed) (o .reads)) ∙ length-map (l .items) machineItem
 
-    right : ¬ LengthsWrong (length (l .items)) x t
-    right = subst (λ n. ¬ LengthsWrong n x t) counted (turned-back (opening how) s x t .accepted .0 z .lent .0)
+    right : ¬ LengthsWrong (length (l .items)) kept
+    right = subst (λ n. ¬ LengthsWrong n kept) counted (turned-back (opening how) s kept .accepted .0 z .lent .0)
 
-module _ (s x t : List ℕ) (f : Fits s x t) where
+module _ (s : List ℕ) (kept : Office) (f : FollowsLayout s kept) where
   fits-reads : readSheet s ≡ opens (f .layout .edition) (places (f .layout))
   fits-reads = ap readSheet (f .written) ∙ written-opens (f .layout) (f .limits)
 
-  fits-sheet : sheetOf s ≡ machineSheet (f .layout)
+  pub fits-sheet : sheetOf s ≡ machineSheet (f .layout)
   fits-sheet = opens-sheet s (f .layout .edition) (places (f .layout)) fits-reads ∙ ap machineSheet (places-layout (f .layout))
 
   places-counted : length (places (f .layout)) ≡ length (f .layout .items)
@@ -97,25 +97,25 @@ module _ (s x t : List ℕ) (f : Fits s x t) where
   counted : size (sheetOf s) ≡ length (f .layout .items)
   counted = ap size fits-sheet ∙ length-map (f .layout .items) machineItem
 
-  fits-opens : (how : Opening) → openOn how s x t .number ≡ 0
+  fits-opens : (how : Opening) → openOn how s kept .number ≡ 0
   fits-opens how =
-      turned-back (opening how) s x t .accepted .1
+      turned-back (opening how) s kept .accepted .1
       (record { sheet = opens-faultless s .0 (f .layout .edition, places (f .layout), fits-reads); lent = (fitting, tt) })
     where
-      long : LengthsWrong (length (f .layout .items)) x t → ⊥
+      long : LengthsWrong (length (f .layout .items)) kept → ⊥
       long (inl n) = n (f .index-long)
       long (inr n) = n (f .table-long)
 
-      fitting : ¬ LengthsWrong (size (sheetOf s)) x t
-      fitting = subst (λ n. ¬ LengthsWrong n x t) (sym counted) long
+      fitting : ¬ LengthsWrong (size (sheetOf s)) kept
+      fitting = subst (λ n. ¬ LengthsWrong n kept) (sym counted) long
 
   fits-gives : (how : Opening)
-      → openOn how s x t ≡ accepted none (indexBytes (places (f .layout))) (encodeTable (machineSheet (f .layout)) (opened how (machineSheet (f .layout))))
+      → openOn how s kept ≡ accepted none (keeping (indexBytes (places (f .layout))) (encodeTable (machineSheet (f .layout)) (opened how (machineSheet (f .layout)))))
   fits-gives how =
-      let o : Opens s x t how = opening-opens s x t how (fits-opens how) in
+      let o : Opens s kept how = opening-opens s kept how (fits-opens how) in
       o .gives
-      ∙ ap (λ q. accepted none (indexBytes (placedFrom q)) (encodeTable (sheetFrom q) (opened how (sheetFrom q)))) (sym (o .reads) ∙ fits-reads)
-      ∙ ap (λ l. accepted none (indexBytes (places (f .layout))) (encodeTable (machineSheet l) (opened how (machineSheet l)))) (places-layout (f .layout))
+      ∙ ap (λ q. accepted none (keeping (indexBytes (placedFrom q)) (encodeTable (sheetFrom q) (opened how (sheetFrom q))))) (sym (o .reads) ∙ fits-reads)
+      ∙ ap (λ l. accepted none (keeping (indexBytes (places (f .layout))) (encodeTable (machineSheet l) (opened how (machineSheet l))))) (places-layout (f .layout))
 
 bytes32-bytes : (n : ℕ) → Bytes (bytes32 n)
 bytes32-bytes n zero = omega arith
@@ -145,8 +145,8 @@ item-at : (l : Layout) (i : ℕ) → itemAt (machineSheet l) i ≡ machineItem (
 unfolding machineItem
 item-at l i = List·getD-map machineItem (l .items) i (entryField [])
 
-opening-writes : (how : Opening) (s x t : List ℕ) (f : Fits s x t) → Writes how (f .layout) (openOn how s x t)
-opening-writes how s x t f = subst (Writes how l) (sym (fits-gives s x t f how)) wrote
+pub opening-writes : (how : Opening) (s : List ℕ) (kept : Office) (f : FollowsLayout s kept) → Writes how (f .layout) (openOn how s kept)
+opening-writes how s kept f = subst (Writes how l) (sym (fits-gives s kept f how)) wrote
   where
     l : Layout
     l = f .layout
@@ -167,15 +167,15 @@ opening-writes how s x t f = subst (Writes how l) (sym (fits-gives s x t f how))
         ∙ ap (λ it. encodeCell (opened how (it ∷ []) 0)) (item-at l j)
         ∙ record-opened how (getD (l .items) j (entryField []))
 
-    wrote : Writes how l (accepted none (indexBytes ps) (encodeTable S (opened how S)))
+    wrote : Writes how l (accepted none (keeping (indexBytes ps) (encodeTable S (opened how S))))
     wrote =
         record {
           number-0 = refl;
           offset-0 = refl;
-          index-long = index-length ps ∙ ap (λ n. 4 * n) (places-counted s x t f);
+          index-long = index-length ps ∙ ap (λ n. indexWidth * n) (places-counted s kept f);
           index-bytes = index-bytes ps;
-          offsets = λ j low. opened-entry s (l .edition) ps (fits-reads s x t f) j (omega (arith, places-counted s x t f)) ∙ places-offset l j low;
-          table-long = length-encodeTable S (opened how S) ∙ ap (λ n. 10 * n) sized;
+          offsets = λ j low. opened-entry s (l .edition) ps (fits-reads s kept f) j (omega (arith, places-counted s kept f)) ∙ places-offset l j low;
+          table-long = length-encodeTable S (opened how S) ∙ ap (λ n. width * n) sized;
           records = record-at;
         }
 
@@ -185,22 +185,20 @@ unfolding machineItem
 bare-record (entryField name) e = let bad : _≡_ {A = ℕ} 0 1 = cc in absurd (omega arith)
 bare-record (figureField rule kept spread parents name) e = refl
 
-bare-unstored : (s x t : List ℕ) (f : Fits s x t) → NoneStored s (openOn bare s x t .table)
-bare-unstored s x t f k low fig =
-    ap kindIn (opening-writes bare s x t f .records k (omega (arith, counted s x t f)))
-    ∙ bare-record (getD (f .layout .items) k (entryField [])) (ap isFigure (sym (ap (λ S. itemAt S k) (fits-sheet s x t f) ∙ item-at (f .layout) k)) ∙ fig)
+pub bare-unstored : (s : List ℕ) (kept : Office) (f : FollowsLayout s kept) → NoneStored s (openOn bare s kept .after .table)
+bare-unstored s kept f k low fig =
+    ap kindIn (opening-writes bare s kept f .records k (omega (arith, counted s kept f)))
+    ∙ bare-record (getD (f .layout .items) k (entryField [])) (ap isFigure (sym (ap (λ S. itemAt S k) (fits-sheet s kept f) ∙ item-at (f .layout) k)) ∙ fig)
 
-pub openings : Openings
+pub opens-exactly : (how : Opening) (s : List ℕ) (kept : Office) → Bytes s → (openOn how s kept .number ≡ 0) ↔ FollowsLayout s kept
+opens-exactly how s kept b = (opening-fits how s kept b, λ f. fits-opens s kept f how)
+
+pub accepted-opened : (how : Opening) (s : List ℕ) (kept : Office) → FollowsLayout s kept → AcceptedLent s (openOn how s kept .after)
 unfolding runOn
-openings =
-    record {
-      exactly = λ how s x t b. (opening-fits how s x t b, λ f. fits-opens s x t f how);
-      writes = opening-writes;
-      circuit = fits-sheet;
-      lent = λ how s x t f. office-accepted s x t how (fits-opens s x t f how) [] .accepted;
-      unstored = bare-unstored;
-      only = λ s x t x′ t′ f g. layout-unique (f .layout) (g .layout) (f .limits) (g .limits) (sym (f .written) ∙ g .written);
-    }
+accepted-opened how s kept f = office-accepted s kept how (fits-opens s kept f how) [] .accepted
+
+pub one-layout : (s : List ℕ) (kept other : Office) (f : FollowsLayout s kept) (g : FollowsLayout s other) → f .layout ≡ g .layout
+one-layout s kept other f g = layout-unique (f .layout) (g .layout) (f .limits) (g .limits) (sym (f .written) ∙ g .written)
 
 -- ---- the solution
 
@@ -209,12 +207,15 @@ unk-cell : (r : List ℕ) → kindIn r ≡ 0 → decodeCell r ≡ unk (eqb (mark
 unfolding decodeCell
 unk-cell r e = ap (λ k. cellCoded k (markIn r) (numberIn r)) e
 
-module _ (s x t : List ℕ) (lent : AcceptedLent s x t) (none-stored : NoneStored s t) where
+module _ (s : List ℕ) (kept : Office) (lent : AcceptedLent s kept) (none-stored : NoneStored s (kept .table)) where
+  abbrev t : List ℕ
+  t = kept .table
+
   sheet-ordered : Ordered (sheetOf s)
-  sheet-ordered = ordered s x t lent
+  sheet-ordered = ordered s kept lent
 
   holdable : Holdable (sheetOf s) (decodeTable t)
-  holdable = lent-holdable s x t lent
+  holdable = lent-holdable s kept lent
 
   unstored : Bare (sheetOf s) (decodeTable t)
   unstored k low fig = ap isStored (unk-cell (row width t k) (none-stored k low fig))
@@ -231,32 +232,30 @@ module _ (s x t : List ℕ) (lent : AcceptedLent s x t) (none-stored : NoneStore
       }
 
   -- a call that no cause of its own turns back
-  performed : (c : Call) → NoneHolds (ownCauses (sheetOf s) t c) → callOn s x t c ≡ effectOn (sheetOf s) x (effect (sheetOf s) (decodeTable t) c)
-  performed c own = call-accepted s x t c (record { sheet = lent .sheet; lent = (lent .lent .0, (lent .lent .1 .0, (lent .lent .1 .1 .0, own))) })
+  performed : (c : Call) → NoneHolds (ownCauses (sheetOf s) t c) → callOn s kept c ≡ effectOn (sheetOf s) kept (effect (sheetOf s) (decodeTable t) c)
+  performed c own = call-accepted s kept c (record { sheet = lent .sheet; lent = (lent .lent .0, (lent .lent .1 .0, (lent .lent .1 .1 .0, own))) })
 
   module _ (values : ℕ → Value) (solves : IsSolution (circuitOf (sheetOf s)) (entriesIn t) values) where
-    ask-gives : (i : ℕ) → i < size (sheetOf s) → answerOf (callOn s x t (ask i)) ≡ reading (values i)
-    unfolding effect
-    ask-gives i low = ap answerOf (performed (ask i) ((λ h. omega arith), tt)) ∙ ap reading value
-      where
-        caught : Sound (sheetOf s) (entriesIn t) (catchUp (sheetOf s) (decodeTable t))
-        caught = catchUp-sound (sheetOf s) sheet-ordered (entriesIn t) (decodeTable t) sound
+    caught-gives : (k : ℕ) → k < size (sheetOf s) → lookUp (sheetOf s) (catchUp (sheetOf s) (decodeTable t)) k .value ≡ values k
+    caught-gives k low =
+        let caught = catchUp-sound (sheetOf s) sheet-ordered (entriesIn t) (decodeTable t) sound in
+        quiet-look (sheetOf s) sheet-ordered (entriesIn t) values solves (catchUp (sheetOf s) (decodeTable t)) (caught .invariant) (caught .formed) (caught .holds)
+        (catchUp-quiet (sheetOf s) sheet-ordered (decodeTable t)) k low
 
-        value : lookUp (sheetOf s) (catchUp (sheetOf s) (decodeTable t)) i .value ≡ values i
-        value =
-            quiet-look (sheetOf s) sheet-ordered (entriesIn t) values solves (catchUp (sheetOf s) (decodeTable t)) (caught .invariant) (caught .formed) (caught .holds)
-            (catchUp-quiet (sheetOf s) sheet-ordered (decodeTable t)) i low
+    ask-gives : (i : ℕ) → i < size (sheetOf s) → answerOf (callOn s kept (ask i)) ≡ reading (values i)
+    unfolding effect
+    ask-gives i low = ap answerOf (performed (ask i) ((λ h. omega arith), tt)) ∙ ap reading (caught-gives i low)
 
     keep-gives : (i : ℕ) → i < size (sheetOf s) → isFigure (itemAt (sheetOf s) i) ≡ true
-        → (callOn s x t (keep i) .number ≡ 0)
-        × (kindIn (row width (callOn s x t (keep i) .table) i) ≡ kindOf (values i))
-        × (numberIn (row width (callOn s x t (keep i) .table) i) ≡ numberOf (values i))
+        → (callOn s kept (keep i) .number ≡ 0) × Stores (callOn s kept (keep i) .after .table) i (values i)
     unfolding effect keepFigure encodeCell
     keep-gives i low fig = (
       ap (λ g. g .number) done,
-      ap (λ g. kindIn (row width (g .table) i)) done ∙ ap kindIn stored ∙ ap kindOf value,
-      ap (λ g. numberIn (row width (g .table) i)) done ∙ ap numberIn stored
-          ∙ number-again _ _ _ (number-fits v (look-formed (sheetOf s) sheet-ordered (decodeTable t) i low holdable)) ∙ ap numberOf value,
+      (
+        ap (λ g. kindIn (row width (g .after .table) i)) done ∙ ap kindIn stored ∙ ap kindOf value,
+        ap (λ g. numberIn (row width (g .after .table) i)) done ∙ ap numberIn stored
+            ∙ number-again _ _ _ (number-fits v (look-formed (sheetOf s) sheet-ordered (decodeTable t) i low holdable)) ∙ ap numberOf value,
+      ),
     )
       where
         looked : Looked
@@ -265,7 +264,7 @@ module _ (s x t : List ℕ) (lent : AcceptedLent s x t) (none-stored : NoneStore
         v : Value
         v = looked .value
 
-        done : callOn s x t (keep i) ≡ effectOn (sheetOf s) x (effect (sheetOf s) (decodeTable t) (keep i))
+        done : callOn s kept (keep i) ≡ effectOn (sheetOf s) kept (effect (sheetOf s) (decodeTable t) (keep i))
         done = performed (keep i) ((λ h. omega arith), ((λ h. let bad : _≡_ {A = ℕ} 0 1 = cc in omega arith), tt))
 
         value : looked .value ≡ values i
@@ -280,31 +279,63 @@ module _ (s x t : List ℕ) (lent : AcceptedLent s x t) (none-stored : NoneStore
         stored : row width (encodeTable (sheetOf s) (keepFigure (sheetOf s) (decodeTable t) i)) i ≡ encodeCell (held v (noticeIf (looked .flag)))
         stored = encoded-record (sheetOf s) _ i low ∙ ap encodeCell cell
 
-pub gives-solution : GivesSolution
-gives-solution s x t lent none-stored = (
+    -- on a table whose look-ups give the solution, a fill holds the solution's values
+    fill-right : (C U : Table) → Fill (sheetOf s) C U → ((k : ℕ) → k < size (sheetOf s) → lookUp (sheetOf s) C k .value ≡ values k)
+        → (k : ℕ) → k < size (sheetOf s) → (v : Value) (m : Mark) → U k ≡ held v m → v ≡ values k
+    fill-right C U fill right k low v m e = go (fill k)
+      where
+        seen : view (sheetOf s) C k .value ≡ values k
+        seen = sym (look-right (sheetOf s) sheet-ordered C k .value) ∙ right k low
+
+        go : Filling (sheetOf s) C k (U k) → v ≡ values k
+        go (stays q) = sym (ap (λ r. r .value) (view-at (sheetOf s) sheet-ordered C k (sym q ∙ e))) ∙ seen
+        go (fills b fig q x) = ap valueIn (sym e ∙ x) ∙ seen
+
+    stores-right : (c : Call) → callOn s kept c .number ≡ 0 → (C : Table) → Fill (sheetOf s) C (effect (sheetOf s) (decodeTable t) c .table)
+        → ((k : ℕ) → k < size (sheetOf s) → lookUp (sheetOf s) C k .value ≡ values k) → StoredRight s (callOn s kept c .after .table) values
+    stores-right c z C fill right k low fig n =
+        let r = stored-record s kept lent c z k low n in
+        subst (Stores (callOn s kept c .after .table) k) (fill-right C _ fill right k low (r .0) (r .1) (r .2)) (r .3)
+
+    ask-stores : (i : ℕ) → i < size (sheetOf s) → StoredRight s (callOn s kept (ask i) .after .table) values
+    unfolding effect
+    ask-stores i low =
+        stores-right (ask i) (ap (λ g. g .number) (performed (ask i) ((λ h. omega arith), tt))) (catchUp (sheetOf s) (decodeTable t))
+        (look-right (sheetOf s) sheet-ordered (catchUp (sheetOf s) (decodeTable t)) i .fill) caught-gives
+
+    keep-stores : (i : ℕ) → i < size (sheetOf s) → isFigure (itemAt (sheetOf s) i) ≡ true → StoredRight s (callOn s kept (keep i) .after .table) values
+    unfolding effect
+    keep-stores i low fig =
+        stores-right (keep i) (keep-gives i low fig .0) (decodeTable t) (keep-fill (sheetOf s) sheet-ordered (decodeTable t) i fig)
+        (λ k l. bare-look (sheetOf s) sheet-ordered (entriesIn t) values solves (decodeTable t) (sound .formed) (sound .holds) unstored k l)
+
+pub gives-solution : (s : List ℕ) (kept : Office) → AcceptedLent s kept → NoneStored s (kept .table)
+    → (values : ℕ → Value) × OnlySolution (sheetOf s) (entriesIn (kept .table)) values × Gives s kept values
+gives-solution s kept lent none-stored = (
   values,
   record { ordered = lower; solves = solves; only = λ other h i b. solution-unique C (sheet-acyclic S lower) E h i (below-listed (size S) i b) },
-  record { asked = ask-gives s x t lent none-stored values solves; kept = keep-gives s x t lent none-stored values solves },
+  record {
+    asked = ask-gives s kept lent none-stored values solves;
+    asked-stored = ask-stores s kept lent none-stored values solves;
+    kept = keep-gives s kept lent none-stored values solves;
+    kept-stored = keep-stores s kept lent none-stored values solves;
+  },
 )
   where
     S : Sheet
     S = sheetOf s
 
     lower : Ordered S
-    lower = sheet-ordered s x t lent none-stored
+    lower = sheet-ordered s kept lent none-stored
 
     C : Circuit ℕ Value
     C = circuitOf S
 
     E : Entries
-    E = entriesIn t
+    E = entriesIn (kept .table)
 
     values : ℕ → Value
     values = solution C E
 
     solves : IsSolution C E values
     solves = solution-solves C (sheet-acyclic S lower) E
-
--- Demand 2.
-pub meaning : Meaning
-meaning = record { openings = openings; solution = gives-solution; leaves = λ s x t b lent. leaves s x t lent b }

@@ -12,7 +12,8 @@ use lib.ListN.{length, length-map}
 use borrow.Author.Tests.{not-false}
 use Rattle.circuit.specs.Value.{Value, null, num, inRange, sameNumber, kindOf, numberOf}
 use Rattle.circuit.specs.Sheet.{Sheet, size, itemAt, isFigure}
-use Rattle.circuit.specs.Calls.{Call, post, keep, drop, step, ask, Test, firstCause, tests, postedValue, effect}
+use Rattle.circuit.specs.Call.{Call, post, keep, drop, step, ask}
+use Rattle.circuit.specs.Calls.{Test, firstCause, tests, postedValue, effect}
 use Rattle.layout.specs.Read.{Placed, SheetRead, opens, refused, readSheet, layoutOf}
 use Rattle.layout.specs.Opened.{sheetRead, sheetOf, sheetFrom, itemsOf, placedFrom}
 use Rattle.layout.specs.Causes.{Faultless}
@@ -21,8 +22,8 @@ use Rattle.layout.proofs.Causes.{refused-exactly, opens-faultless, refused-numb
 use Rattle.table.specs.Rows.{row}
 use Rattle.table.specs.Record.{width}
 use Rattle.table.specs.Bytes.{decodeTable, tableForm}
-use Rattle.office.specs.Office.{Given, refusal, accepted, openingTests, callTests, unlessRefused, effectOn, callRead, callOn, openRead, openOn}
-use Rattle.office.specs.Refusals.{Request, opening, calling, serve, BeyondRange, TableBroken, NotPostable, kindOther, nullNotZero, numberBeyond, Row, cause, ownCauses, causesIn, causesOf, First, NoneHolds, HoldsAt, Lowest, Refused, bySheet, byLent, NoCause, TurnedBack, AcceptedLent}
+use Rattle.office.specs.Office.{Office, Given, refusal, accepted, openingTests, callTests, unlessRefused, effectOn, callRead, callOn, openRead, openOn}
+use Rattle.office.specs.Demand1Words.{Request, opening, calling, serve, BeyondRange, TableBroken, NotPostable, kindOther, nullNotZero, numberBeyond, Row, cause, ownCauses, causesIn, causesOf, First, NoneHolds, HoldsAt, Lowest, Refused, bySheet, byLent, NoCause, AcceptedLent}
 use Rattle.office.proofs.Causes.{tells-is, tells-is-not, tells-zero, refutes-range, tells-lengths, tells-index, tells-table, tells-beyond, tells-posted, tells-mark}
 
 -- ---- the first cause
@@ -82,9 +83,9 @@ tested-none (r ∷ rs) (t ∷ ts) h n = go (λ p. tested-none rs ts (h .3 p) (n 
     go rest (fails p) = rest p
 
 -- the tests of a request
-testsIn : Sheet → List Placed → List ℕ → List ℕ → Request → List Test
-testsIn S ps x t (opening o) = openingTests ps x t
-testsIn S ps x t (calling c) = callTests S ps x t c
+testsIn : Sheet → List Placed → Office → Request → List Test
+testsIn S ps kept (opening o) = openingTests ps kept
+testsIn S ps kept (calling c) = callTests S ps kept c
 
 own-tested : (S : Sheet) (t : List ℕ) (c : Call) → ¬ TableBroken S t → Tested (ownCauses S t c) (tests S (decodeTable t) c)
 unfolding tests
@@ -96,14 +97,14 @@ own-tested S t (step i) form =
     (refl, omega arith, tells-beyond S i, λ low. (refl, omega arith, tells-mark (isFigure (itemAt S i)) (row width t i) (λ b. form (i, omega arith, b)), λ n. tt))
 own-tested S t (ask i) form = (refl, omega arith, tells-beyond S i, λ low. tt)
 
-tested : (S : Sheet) (ps : List Placed) → size S ≡ length ps → (x t : List ℕ) (r : Request) → Tested (causesIn S ps x t r) (testsIn S ps x t r)
+tested : (S : Sheet) (ps : List Placed) → size S ≡ length ps → (kept : Office) (r : Request) → Tested (causesIn S ps kept r) (testsIn S ps kept r)
 unfolding testsIn
-tested S ps e x t (opening o) = (refl, omega arith, tells-lengths S ps x t e, λ n. tt)
-tested S ps e x t (calling c) = (
+tested S ps e kept (opening o) = (refl, omega arith, tells-lengths S ps kept e, λ n. tt)
+tested S ps e kept (calling c) = (
   refl,
   omega arith,
-  tells-lengths S ps x t e,
-  λ n. (refl, omega arith, tells-index ps x, λ m. (refl, omega arith, tells-table S t, λ form. own-tested S t c form)),
+  tells-lengths S ps kept e,
+  λ n. (refl, omega arith, tells-index ps (kept .index), λ m. (refl, omega arith, tells-table S (kept .table), λ form. own-tested S (kept .table) c form)),
 )
 
 -- ---- the lowest number
@@ -146,55 +147,55 @@ own-rising S t (drop i) = (omega arith, (omega arith, tt))
 own-rising S t (step i) = (omega arith, (omega arith, tt))
 own-rising S t (ask i) = (omega arith, tt)
 
-causes-rising : (S : Sheet) (ps : List Placed) (x t : List ℕ) (r : Request) → Rising 7 (causesIn S ps x t r)
-causes-rising S ps x t (opening o) = (omega arith, tt)
-causes-rising S ps x t (calling c) = (omega arith, (omega arith, (omega arith, own-rising S t c)))
+causes-rising : (S : Sheet) (ps : List Placed) (kept : Office) (r : Request) → Rising 7 (causesIn S ps kept r)
+causes-rising S ps kept (opening o) = (omega arith, tt)
+causes-rising S ps kept (calling c) = (omega arith, (omega arith, (omega arith, own-rising S (kept .table) c)))
 
-first-lowest : (s x t : List ℕ) (r : Request) (k : ℕ) → First (causesOf s x t r) k ↔ Lowest (causesOf s x t r) k
-first-lowest s x t r k = (
-  λ f. record { holds = first-holds (causesOf s x t r) k f; none-below = first-below 7 (causesOf s x t r) up k f },
-  λ l. lowest-first 7 (causesOf s x t r) up k (l .holds) (l .none-below),
+first-lowest : (s : List ℕ) (kept : Office) (r : Request) (k : ℕ) → First (causesOf s kept r) k ↔ Lowest (causesOf s kept r) k
+first-lowest s kept r k = (
+  λ f. record { holds = first-holds (causesOf s kept r) k f; none-below = first-below 7 (causesOf s kept r) up k f },
+  λ l. lowest-first 7 (causesOf s kept r) up k (l .holds) (l .none-below),
 )
   where
-    up : Rising 7 (causesOf s x t r)
-    up = causes-rising (sheetOf s) (itemsOf s) x t r
+    up : Rising 7 (causesOf s kept r)
+    up = causes-rising (sheetOf s) (itemsOf s) kept r
 
 -- ---- what a request gives
 
 -- by the sheet's fault, or by the first of its tests
-data Served (s x t : List ℕ) (r : Request) (g : Given) : Type 0 where
-  atSheet : (k at : ℕ) → readSheet s ≡ refused k at → g ≡ refusal k at x t → Served s x t r g
-  atLent : (edition : ℕ) (ps : List Placed) (k : ℕ) → readSheet s ≡ opens edition ps → firstCause (testsIn (sheetRead edition ps) ps x t r) ≡ suc k
-      → g ≡ refusal (suc k) 0 x t → Served s x t r g
-  done : (edition : ℕ) (ps : List Placed) → readSheet s ≡ opens edition ps → firstCause (testsIn (sheetRead edition ps) ps x t r) ≡ 0
-      → g .number ≡ 0 → g .offset ≡ 0 → Served s x t r g
+data Served (s : List ℕ) (kept : Office) (r : Request) (g : Given) : Type 0 where
+  atSheet : (k at : ℕ) → readSheet s ≡ refused k at → g ≡ refusal k at kept → Served s kept r g
+  atLent : (edition : ℕ) (ps : List Placed) (k : ℕ) → readSheet s ≡ opens edition ps → firstCause (testsIn (sheetRead edition ps) ps kept r) ≡ suc k
+      → g ≡ refusal (suc k) 0 kept → Served s kept r g
+  done : (edition : ℕ) (ps : List Placed) → readSheet s ≡ opens edition ps → firstCause (testsIn (sheetRead edition ps) ps kept r) ≡ 0
+      → g .number ≡ 0 → g .offset ≡ 0 → Served s kept r g
 
-module _ (s x t : List ℕ) (r : Request) where
+module _ (s : List ℕ) (kept : Office) (r : Request) where
   by-first : (edition : ℕ) (ps : List Placed) → readSheet s ≡ opens edition ps → (G : Given) → G .number ≡ 0 → G .offset ≡ 0
-      → (k : ℕ) → firstCause (testsIn (sheetRead edition ps) ps x t r) ≡ k → Served s x t r (unlessRefused k x t G)
+      → (k : ℕ) → firstCause (testsIn (sheetRead edition ps) ps kept r) ≡ k → Served s kept r (unlessRefused k kept G)
   by-first edition ps e G n o zero c = done edition ps e c n o
   by-first edition ps e G n o (suc k) c = atLent edition ps k e c refl
 
-served : (s x t : List ℕ) (r : Request) → Served s x t r (serve r s x t)
+served : (s : List ℕ) (kept : Office) (r : Request) → Served s kept r (serve r s kept)
 unfolding openOn callOn testsIn
-served s x t (opening o) = go (readSheet s) refl
+served s kept (opening o) = go (readSheet s) refl
   where
-    go : (q : SheetRead) → readSheet s ≡ q → Served s x t (opening o) (openRead o q x t)
+    go : (q : SheetRead) → readSheet s ≡ q → Served s kept (opening o) (openRead o q kept)
     go (refused k at) e = atSheet k at e refl
-    go (opens edition ps) e = by-first s x t (opening o) edition ps e _ refl refl (firstCause (openingTests ps x t)) refl
-served s x t (calling c) = go (readSheet s) refl
+    go (opens edition ps) e = by-first s kept (opening o) edition ps e _ refl refl (firstCause (openingTests ps kept)) refl
+served s kept (calling c) = go (readSheet s) refl
   where
-    go : (q : SheetRead) → readSheet s ≡ q → Served s x t (calling c) (callRead q x t c)
+    go : (q : SheetRead) → readSheet s ≡ q → Served s kept (calling c) (callRead q kept c)
     go (refused k at) e = atSheet k at e refl
-    go (opens edition ps) e = by-first s x t (calling c) edition ps e _ refl refl (firstCause (callTests (sheetRead edition ps) ps x t c)) refl
+    go (opens edition ps) e = by-first s kept (calling c) edition ps e _ refl refl (firstCause (callTests (sheetRead edition ps) ps kept c)) refl
 
-module _ (s x t : List ℕ) (r : Request) where
+module _ (s : List ℕ) (kept : Office) (r : Request) where
   -- the rows and the tests of a sheet that opens
-  tested-read : (edition : ℕ) (ps : List Placed) → readSheet s ≡ opens edition ps → Tested (causesOf s x t r) (testsIn (sheetRead edition ps) ps x t r)
+  tested-read : (edition : ℕ) (ps : List Placed) → readSheet s ≡ opens edition ps → Tested (causesOf s kept r) (testsIn (sheetRead edition ps) ps kept r)
   unfolding sheetOf itemsOf
   tested-read edition ps e =
-      subst (λ q. Tested (causesIn (sheetFrom q) (placedFrom q) x t r) (testsIn (sheetRead edition ps) ps x t r)) (sym e)
-      (tested (sheetRead edition ps) ps (length-map (layoutOf edition ps .items) _ ∙ length-map ps _) x t r)
+      subst (λ q. Tested (causesIn (sheetFrom q) (placedFrom q) kept r) (testsIn (sheetRead edition ps) ps kept r)) (sym e)
+      (tested (sheetRead edition ps) ps (length-map (layoutOf edition ps .items) _ ∙ length-map ps _) kept r)
 
   -- a sheet that opens has no fault
   opens-not-refused : (edition : ℕ) (ps : List Placed) (k at : ℕ) → readSheet s ≡ opens edition ps → readSheet s ≡ refused k at → ⊥
@@ -205,7 +206,7 @@ module _ (s x t : List ℕ) (r : Request) where
       let o = opens-faultless s .1 f in opens-not-refused (o .0) (o .1) k at (o .2) q
 
   module _ (g : Given) where
-    to-cause : Served s x t r g → (k offset : ℕ) → ¬ (k ≡ 0) → (g .number ≡ k) × (g .offset ≡ offset) → Refused s x t r k offset
+    to-cause : Served s kept r g → (k offset : ℕ) → ¬ (k ≡ 0) → (g .number ≡ k) × (g .offset ≡ offset) → Refused s kept r k offset
     to-cause (atSheet j at e q) k offset n (a, b) =
         let number : j ≡ k = ap (λ h. h .number) (sym q) ∙ a in
         let place : at ≡ offset = ap (λ h. h .offset) (sym q) ∙ b in
@@ -213,10 +214,10 @@ module _ (s x t : List ℕ) (r : Request) where
     to-cause (atLent edition ps j e c q) k offset n (a, b) =
         let number : suc j ≡ k = ap (λ h. h .number) (sym q) ∙ a in
         let place : 0 ≡ offset = ap (λ h. h .offset) (sym q) ∙ b in
-        byLent (opens-faultless s .0 (edition, ps, e)) (first-tested (causesOf s x t r) _ (tested-read edition ps e) k n (c ∙ number)) (sym place)
+        byLent (opens-faultless s .0 (edition, ps, e)) (first-tested (causesOf s kept r) _ (tested-read edition ps e) k n (c ∙ number)) (sym place)
     to-cause (done edition ps e c z o) k offset n (a, b) = absurd (n (sym a ∙ z))
 
-    from-cause : Served s x t r g → (k offset : ℕ) → ¬ (k ≡ 0) → Refused s x t r k offset → (g .number ≡ k) × (g .offset ≡ offset)
+    from-cause : Served s kept r g → (k offset : ℕ) → ¬ (k ≡ 0) → Refused s kept r k offset → (g .number ≡ k) × (g .offset ≡ offset)
     from-cause (atSheet j at e q) k offset n (bySheet f) =
         let same : refused j at ≡ refused k offset = sym e ∙ refused-exactly s k offset .1 f in
         let number : j ≡ k = cc in
@@ -226,32 +227,32 @@ module _ (s x t : List ℕ) (r : Request) where
     from-cause (atLent edition ps j e c q) k offset n (bySheet f) =
         absurd (opens-not-refused edition ps k offset e (refused-exactly s k offset .1 f))
     from-cause (atLent edition ps j e c q) k offset n (byLent f h z) =
-        let number : suc j ≡ k = sym c ∙ tested-first (causesOf s x t r) _ (tested-read edition ps e) k h in
+        let number : suc j ≡ k = sym c ∙ tested-first (causesOf s kept r) _ (tested-read edition ps e) k h in
         (ap (λ h. h .number) q ∙ number, ap (λ h. h .offset) q ∙ sym z)
     from-cause (done edition ps e c z o) k offset n (bySheet f) =
         absurd (opens-not-refused edition ps k offset e (refused-exactly s k offset .1 f))
     from-cause (done edition ps e c z o) k offset n (byLent f h w) =
-        absurd (n (sym (tested-first (causesOf s x t r) _ (tested-read edition ps e) k h) ∙ c))
+        absurd (n (sym (tested-first (causesOf s kept r) _ (tested-read edition ps e) k h) ∙ c))
 
-    to-none : Served s x t r g → g .number ≡ 0 → NoCause s x t r
+    to-none : Served s kept r g → g .number ≡ 0 → NoCause s kept r
     to-none (atSheet j at e q) z = absurd (omega (arith, refused-number s j at e, ap (λ h. h .number) q))
     to-none (atLent edition ps j e c q) z = absurd (omega (arith, ap (λ h. h .number) q))
     to-none (done edition ps e c n o) z =
-        record { sheet = opens-faultless s .0 (edition, ps, e); lent = none-tested (causesOf s x t r) _ (tested-read edition ps e) c }
+        record { sheet = opens-faultless s .0 (edition, ps, e); lent = none-tested (causesOf s kept r) _ (tested-read edition ps e) c }
 
-    from-none : Served s x t r g → NoCause s x t r → g .number ≡ 0
+    from-none : Served s kept r g → NoCause s kept r → g .number ≡ 0
     from-none (atSheet j at e q) f = absurd (faultless-not-refused j at (f .sheet) e)
     from-none (atLent edition ps j e c q) f =
-        absurd (omega (arith, tested-none (causesOf s x t r) _ (tested-read edition ps e) (f .lent)))
+        absurd (omega (arith, tested-none (causesOf s kept r) _ (tested-read edition ps e) (f .lent)))
     from-none (done edition ps e c n o) f = n
 
-    at-0 : Served s x t r g → g .number ≡ 0 → g .offset ≡ 0
+    at-0 : Served s kept r g → g .number ≡ 0 → g .offset ≡ 0
     at-0 (atSheet j at e q) z = absurd (omega (arith, refused-number s j at e, ap (λ h. h .number) q))
     at-0 (atLent edition ps j e c q) z = absurd (omega (arith, ap (λ h. h .number) q))
     at-0 (done edition ps e c n o) z = o
 
     -- a refusal has the lent bytes as they were, and no value
-    as-it-was : Served s x t r g → ¬ (g .number ≡ 0) → (k at : ℕ) × (g ≡ refusal k at x t)
+    as-it-was : Served s kept r g → ¬ (g .number ≡ 0) → (k at : ℕ) × (g ≡ refusal k at kept)
     as-it-was (atSheet j at e q) n = (j, at, q)
     as-it-was (atLent edition ps j e c q) n = (suc j, 0, q)
     as-it-was (done edition ps e c z o) n = absurd (n z)
@@ -276,18 +277,18 @@ unfolding sheetOf
 opens-sheet s edition ps e = ap sheetFrom e
 
 -- Where no cause holds, a call is the machine's on the decoded table, and leaves its table encoded.
-pub call-accepted : (s x t : List ℕ) (c : Call) → NoCause s x t (calling c)
-    → callOn s x t c ≡ effectOn (sheetOf s) x (effect (sheetOf s) (decodeTable t) c)
+pub call-accepted : (s : List ℕ) (kept : Office) (c : Call) → NoCause s kept (calling c)
+    → callOn s kept c ≡ effectOn (sheetOf s) kept (effect (sheetOf s) (decodeTable (kept .table)) c)
 unfolding callOn testsIn
-call-accepted s x t c free = go (opens-faultless s .1 (free .sheet))
+call-accepted s kept c free = go (opens-faultless s .1 (free .sheet))
   where
     go : (edition : ℕ) × (ps : List Placed) × (readSheet s ≡ opens edition ps)
-        → callRead (readSheet s) x t c ≡ effectOn (sheetOf s) x (effect (sheetOf s) (decodeTable t) c)
+        → callRead (readSheet s) kept c ≡ effectOn (sheetOf s) kept (effect (sheetOf s) (decodeTable (kept .table)) c)
     go (edition, ps, e) =
-        ap (λ q. callRead q x t c) e
-        ∙ ap (λ k. unlessRefused k x t (effectOn (sheetRead edition ps) x (effect (sheetRead edition ps) (decodeTable t) c)))
-        (tested-none (causesOf s x t (calling c)) _ (tested-read s x t (calling c) edition ps e) (free .lent))
-        ∙ ap (λ S. effectOn S x (effect S (decodeTable t) c)) (sym (opens-sheet s edition ps e))
+        ap (λ q. callRead q kept c) e
+        ∙ ap (λ k. unlessRefused k kept (effectOn (sheetRead edition ps) kept (effect (sheetRead edition ps) (decodeTable (kept .table)) c)))
+        (tested-none (causesOf s kept (calling c)) _ (tested-read s kept (calling c) edition ps e) (free .lent))
+        ∙ ap (λ S. effectOn S kept (effect S (decodeTable (kept .table)) c)) (sym (opens-sheet s edition ps e))
 
 -- a table in form passes a call's own tests where none of its own causes holds
 pub own-passed : (S : Sheet) (t : List ℕ) (c : Call) → ¬ TableBroken S t → NoneHolds (ownCauses S t c) → firstCause (tests S (decodeTable t) c) ≡ 0
@@ -313,30 +314,37 @@ postable kind z n = go (eqb kind 1) (sameNumber z (pos 0)) (eqb kind 3) (inRange
     go false b true false e (fails p) q (holds r) (wrong s) = absurd (n (numberBeyond r s))
     go false b false d e (fails p) q (fails r) s = absurd (n (kindOther p r))
 
--- Demand 1.
-pub turned-back : (r : Request) (s x t : List ℕ) → TurnedBack r s x t
-turned-back r s x t =
+-- What is demanded of a request.
+pub record TurnedBack (r : Request) (s : List ℕ) (kept : Office) : Type 0 where
+  pub given : (k offset : ℕ) → ¬ (k ≡ 0) → ((serve r s kept .number ≡ k) × (serve r s kept .offset ≡ offset)) ↔ Refused s kept r k offset
+  pub lowest : (k : ℕ) → First (causesOf s kept r) k ↔ Lowest (causesOf s kept r) k
+  pub accepted : (serve r s kept .number ≡ 0) ↔ NoCause s kept r
+  pub offset-0 : serve r s kept .number ≡ 0 → serve r s kept .offset ≡ 0
+  pub left : ¬ (serve r s kept .number ≡ 0) → serve r s kept .after ≡ kept
+  pub no-value : ¬ (serve r s kept .number ≡ 0) → (serve r s kept .kind ≡ 0) × (serve r s kept .value ≡ pos 0)
+
+pub turned-back : (r : Request) (s : List ℕ) (kept : Office) → TurnedBack r s kept
+turned-back r s kept =
     record {
-      given = λ k offset n. (to-cause s x t r g is k offset n, from-cause s x t r g is k offset n);
-      numbered = λ k n. (λ e. (g .offset, to-cause s x t r g is k (g .offset) n (e, refl)), λ f. from-cause s x t r g is k (f .0) n (f .1) .0);
-      lowest = first-lowest s x t r;
-      accepted = (to-none s x t r g is, from-none s x t r g is);
-      offset-0 = at-0 s x t r g is;
-      left = λ n. let q = as-it-was s x t r g is n in (ap (λ h. h .index) (q .2), ap (λ h. h .table) (q .2));
-      no-value = λ n. let q = as-it-was s x t r g is n in (ap (λ h. h .kind) (q .2), ap (λ h. h .value) (q .2));
+      given = λ k offset n. (to-cause s kept r g is k offset n, from-cause s kept r g is k offset n);
+      lowest = first-lowest s kept r;
+      accepted = (to-none s kept r g is, from-none s kept r g is);
+      offset-0 = at-0 s kept r g is;
+      left = λ n. ap (λ h. h .after) (as-it-was s kept r g is n .2);
+      no-value = λ n. let q = as-it-was s kept r g is n in (ap (λ h. h .kind) (q .2), ap (λ h. h .value) (q .2));
     }
   where
     g : Given
-    g = serve r s x t
+    g = serve r s kept
 
-    is : Served s x t r g
-    is = served s x t r
+    is : Served s kept r g
+    is = served s kept r
 
 -- What is lent is accepted: a call has number 0, or one of its own causes.
-pub lent-numbers : (s x t : List ℕ) → AcceptedLent s x t → (c : Call) → (callOn s x t c .number ≡ 0) ⊎ (11 ≤ callOn s x t c .number)
-lent-numbers s x t lent c = go (tells-eq (callOn s x t c .number) 0)
+pub lent-numbers : (s : List ℕ) (kept : Office) → AcceptedLent s kept → (c : Call) → (callOn s kept c .number ≡ 0) ⊎ (11 ≤ callOn s kept c .number)
+lent-numbers s kept lent c = go (tells-eq (callOn s kept c .number) 0)
   where
-    own : (d : Call) (k : ℕ) → First (ownCauses (sheetOf s) t d) k → 11 ≤ k
+    own : (d : Call) (k : ℕ) → First (ownCauses (sheetOf s) (kept .table) d) k → 11 ≤ k
     own (post i kind z) k (inl f) = omega (arith, f .0)
     own (post i kind z) k (inr (n, inl f)) = omega (arith, f .0)
     own (post i kind z) k (inr (n, inr (m, inl f))) = omega (arith, f .0)
@@ -353,17 +361,17 @@ lent-numbers s x t lent c = go (tells-eq (callOn s x t c .number) 0)
     own (ask i) k (inl f) = omega (arith, f .0)
     own (ask i) k (inr f) = absurd (f .1)
 
-    past : (k : ℕ) → First (causesOf s x t (calling c)) k → 11 ≤ k
+    past : (k : ℕ) → First (causesOf s kept (calling c)) k → 11 ≤ k
     past k (inl f) = absurd (lent .lent .0 (f .1))
     past k (inr (n, inl f)) = absurd (lent .lent .1 .0 (f .1))
     past k (inr (n, inr (m, inl f))) = absurd (lent .lent .1 .1 .0 (f .1))
     past k (inr (n, inr (m, inr (o, f)))) = own c k f
 
-    refuse : (k offset : ℕ) → Refused s x t (calling c) k offset → 11 ≤ k
+    refuse : (k offset : ℕ) → Refused s kept (calling c) k offset → 11 ≤ k
     refuse k offset (bySheet f) = absurd (lent .sheet (f .place) (f .in-sheet) k (f .cause))
     refuse k offset (byLent f h z) = past k h
 
-    go : {b : Bool} → Tells (callOn s x t c .number ≡ 0) b → (callOn s x t c .number ≡ 0) ⊎ (11 ≤ callOn s x t c .number)
+    go : {b : Bool} → Tells (callOn s kept c .number ≡ 0) b → (callOn s kept c .number ≡ 0) ⊎ (11 ≤ callOn s kept c .number)
     go (holds e) = inl e
     go (fails n) =
-        inr (refuse _ _ (turned-back (calling c) s x t .given (callOn s x t c .number) (callOn s x t c .offset) n .0 (refl, refl)))
+        inr (refuse _ _ (turned-back (calling c) s kept .given (callOn s kept c .number) (callOn s kept c .offset) n .0 (refl, refl)))

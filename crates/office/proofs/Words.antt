@@ -13,13 +13,13 @@ use Rattle.circuit.specs.Sheet.{size, itemAt, isFigure}
 use Rattle.layout.specs.Layout.{entryField, figureField, headTag, machineItem}
 use Rattle.layout.specs.Read.{Placed, scan, headNext, headContent, countIn, ruleIn, keepIn, spreadIn, parentCountIn, parentsIn, nameIn, itemIn, opens, readSheet}
 use Rattle.layout.specs.Opened.{sheetRead, sheetOf, itemsOf, placedFrom}
-use Rattle.layout.specs.Index.{indexBytes, le32At}
+use Rattle.layout.specs.Index.{indexWidth, indexBytes, le32At}
 use Rattle.layout.specs.Causes.{item, fieldOffset, itemCount, tagOf, Faultless}
 use Rattle.layout.proofs.Scan.{offsetFrom, offset-placed, scan-prefix, scan-item, opened, opened-length, machine-item}
 use Rattle.layout.proofs.Causes.{opens-faultless, count-same}
 use Rattle.layout.proofs.IndexLaws.{index-length, opened-entry}
-use Rattle.office.specs.Refusals.{SheetWords}
-use Rattle.office.proofs.Demands.{sized}
+use Rattle.office.specs.Demand1Words.{SheetWords}
+use Rattle.office.proofs.Agreeing.{sized}
 use Rattle.office.proofs.Refusals.{opens-sheet}
 
 figure-tag : (tag : ℕ) (content : List ℕ) → isFigure (machineItem (itemIn tag content)) ≡ eqb tag 3
@@ -74,9 +74,9 @@ module _ (s : List ℕ) (edition : ℕ) (ps : List Placed) (reads : readSheet s 
           λ e. eqb-true (tagOf s (item i)) 3 (sym (figure i h) ∙ e),
           λ e. figure i h ∙ eq-eqb (tagOf s (item i)) 3 e,
         );
-        index-long = ap (λ qs. length (indexBytes qs)) (items-of s edition ps reads) ∙ index-length ps ∙ ap (λ n. 4 * n) counted;
+        index-long = ap (λ qs. length (indexBytes qs)) (items-of s edition ps reads) ∙ index-length ps ∙ ap (λ n. indexWidth * n) counted;
         offset-is = λ i h.
-            ap (λ qs. le32At (indexBytes qs) (4 * i)) (items-of s edition ps reads)
+            ap (λ qs. le32At (indexBytes qs) (indexWidth * i)) (items-of s edition ps reads)
             ∙ opened-entry s edition ps reads i (omega (arith, counted))
             ∙ sym (offset-placed (opened s edition ps reads .at) ps i (omega (arith, counted)))
             ∙ item-offset i (omega (arith, counted));

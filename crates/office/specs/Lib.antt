@@ -1,4 +1,5 @@
-pub mod Demands
-pub mod Meaning
 pub mod Office
-pub mod Refusals
+pub mod Demand1Words
+pub mod Demand2Words
+pub mod Demand3Words
+pub mod Demands

@@ -9,8 +9,9 @@ use lib.IntN.{ℤ, pos}
 use lib.ListN.{length}
 use Rattle.circuit.specs.Value.{Value, kindOf, numberOf}
 use Rattle.circuit.specs.Sheet.{Sheet}
-use Rattle.circuit.specs.Calls.{Call, Test, test, firstCause, tests, Outcome, effect}
-use Rattle.circuit.specs.Offices.{Opening, opened}
+use Rattle.circuit.specs.Call.{Call, Opening}
+use Rattle.circuit.specs.Calls.{Test, test, firstCause, tests, Outcome, effect}
+use Rattle.circuit.specs.Table.{opened}
 use Rattle.layout.specs.Read.{Placed, SheetRead, opens, refused, readSheet}
 use Rattle.layout.specs.Opened.{sheetRead}
 use Rattle.layout.specs.Index.{indexWidth, indexBytes}
@@ -18,19 +19,26 @@ use Rattle.item.specs.Offsets.{sameBytes}
 use Rattle.table.specs.Record.{width}
 use Rattle.table.specs.Bytes.{encodeTable, decodeTable, tableForm}
 
--- What a call gives: its number and offset, the kind and the number of an accepted ask's value (0 and 0 otherwise), and the
--- index and the table afterwards.
+-- What an office keeps from call to call: the index and the table.
+pub record Office : Type 0 where
+  pub index : List ℕ
+  pub table : List ℕ
+
+abbrev pub keeping : List ℕ → List ℕ → Office
+keeping x t = record { index = x; table = t }
+
+-- What a call gives: its number and offset, the kind and the number of an accepted ask's value (0 and 0 otherwise), and what
+-- the office keeps afterwards.
 pub record Given : Type 0 where
   pub number : ℕ
   pub offset : ℕ
   pub kind : ℕ
   pub value : ℤ
-  pub index : List ℕ
-  pub table : List ℕ
+  pub after : Office
 
 -- a refusal leaves everything lent as it was
-abbrev pub refusal : ℕ → ℕ → List ℕ → List ℕ → Given
-refusal k at x t = record { number = k; offset = at; kind = 0; value = pos 0; index = x; table = t }
+abbrev pub refusal : ℕ → ℕ → Office → Given
+refusal k at o = record { number = k; offset = at; kind = 0; value = pos 0; after = o }
 
 abbrev pub kindRead : Option Value → ℕ
 kindRead none = 0
@@ -41,8 +49,8 @@ numberRead none = pos 0
 numberRead (some v) = numberOf v
 
 -- an accepted call: number 0 and offset 0
-abbrev pub accepted : Option Value → List ℕ → List ℕ → Given
-accepted v x t = record { number = 0; offset = 0; kind = kindRead v; value = numberRead v; index = x; table = t }
+abbrev pub accepted : Option Value → Office → Given
+accepted v o = record { number = 0; offset = 0; kind = kindRead v; value = numberRead v; after = o }
 
 -- 8: index not 4n bytes, or table not 10n
 abbrev pub lengthsOff : ℕ → ℕ → ℕ → Bool
@@ -60,47 +68,47 @@ abbrev pub tableWrong : Sheet → List ℕ → Bool
 tableWrong S t = not (tableForm S t)
 
 -- the tests of an opening, after the sheet has been read
-abbrev pub openingTests : List Placed → List ℕ → List ℕ → List Test
-openingTests ps x t = test 8 (lengthsWrong ps x t) ∷ []
+abbrev pub openingTests : List Placed → Office → List Test
+openingTests ps o = test 8 (lengthsWrong ps (o .index) (o .table)) ∷ []
 
 -- the tests of a call, after the sheet has been read: those of what is lent, then its own
-abbrev pub callTests : Sheet → List Placed → List ℕ → List ℕ → Call → List Test
-callTests S ps x t c =
-    test 8 (lengthsWrong ps x t)
-    ∷ test 9 (indexWrong ps x)
-    ∷ test 10 (tableWrong S t)
-    ∷ tests S (decodeTable t) c
+abbrev pub callTests : Sheet → List Placed → Office → Call → List Test
+callTests S ps o c =
+    test 8 (lengthsWrong ps (o .index) (o .table))
+    ∷ test 9 (indexWrong ps (o .index))
+    ∷ test 10 (tableWrong S (o .table))
+    ∷ tests S (decodeTable (o .table)) c
 
 -- refused by the first cause, else what is given there
-abbrev pub unlessRefused : ℕ → List ℕ → List ℕ → Given → Given
-unlessRefused zero x t given = given
-unlessRefused (suc k) x t given = refusal (suc k) 0 x t
+abbrev pub unlessRefused : ℕ → Office → Given → Given
+unlessRefused zero o given = given
+unlessRefused (suc k) o given = refusal (suc k) 0 o
 
--- the call on the decoded table, its table encoded
-abbrev pub effectOn : Sheet → List ℕ → Outcome → Given
-effectOn S x o = accepted (o .reading) x (encodeTable S (o .table))
+-- the call on the decoded table: the index stays, and its table is encoded
+abbrev pub effectOn : Sheet → Office → Outcome → Given
+effectOn S o e = accepted (e .reading) (keeping (o .index) (encodeTable S (e .table)))
 
-abbrev pub callRead : SheetRead → List ℕ → List ℕ → Call → Given
-callRead (refused k at) x t c = refusal k at x t
-callRead (opens edition ps) x t c =
-    unlessRefused (firstCause (callTests (sheetRead edition ps) ps x t c)) x t
-    (effectOn (sheetRead edition ps) x (effect (sheetRead edition ps) (decodeTable t) c))
+abbrev pub callRead : SheetRead → Office → Call → Given
+callRead (refused k at) o c = refusal k at o
+callRead (opens edition ps) o c =
+    unlessRefused (firstCause (callTests (sheetRead edition ps) ps o c)) o
+    (effectOn (sheetRead edition ps) o (effect (sheetRead edition ps) (decodeTable (o .table)) c))
 
--- a call on a sheet s, an index x and a table t
-unfoldable pub callOn : List ℕ → List ℕ → List ℕ → Call → Given
-callOn s x t c = callRead (readSheet s) x t c
+-- a call on a sheet s, at an office that keeps o
+unfoldable pub callOn : List ℕ → Office → Call → Given
+callOn s o c = callRead (readSheet s) o c
 
--- an opening, bare or full
-abbrev pub openRead : Opening → SheetRead → List ℕ → List ℕ → Given
-openRead how (refused k at) x t = refusal k at x t
-openRead how (opens edition ps) x t =
-    unlessRefused (firstCause (openingTests ps x t)) x t
-    (accepted none (indexBytes ps) (encodeTable (sheetRead edition ps) (opened how (sheetRead edition ps))))
+-- an opening, bare or full: the index and the table of the sheet
+abbrev pub openRead : Opening → SheetRead → Office → Given
+openRead how (refused k at) o = refusal k at o
+openRead how (opens edition ps) o =
+    unlessRefused (firstCause (openingTests ps o)) o
+    (accepted none (keeping (indexBytes ps) (encodeTable (sheetRead edition ps) (opened how (sheetRead edition ps)))))
 
-unfoldable pub openOn : Opening → List ℕ → List ℕ → List ℕ → Given
-openOn how s x t = openRead how (readSheet s) x t
+unfoldable pub openOn : Opening → List ℕ → Office → Given
+openOn how s o = openRead how (readSheet s) o
 
--- the table after a list of calls, all lent the same sheet and index
-unfoldable pub runOn : List ℕ → List ℕ → List ℕ → List Call → List ℕ
-runOn s x t [] = t
-runOn s x t (c ∷ cs) = runOn s x (callOn s x t c .table) cs
+-- what an office keeps after a list of calls on its sheet: each call gets what the last one left
+unfoldable pub runOn : List ℕ → Office → List Call → Office
+runOn s o [] = o
+runOn s o (c ∷ cs) = runOn s (callOn s o c .after) cs

@@ -1,8 +1,8 @@
 // The functions that a C program calls: the openings, the five calls and the printer, with numbers and byte slices. A slice is a
 // pointer and a length in C; include/rozhinal.h declares them. Each is one call of the function that does the work.
-ghost use Rattle.circuit.specs.Calls as calls;
-ghost use Rattle.circuit.specs.Offices.{bare, full};
-ghost use Rattle.office.specs.Office.{openOn, callOn};
+ghost use Rattle.circuit.specs.Call as call;
+ghost use Rattle.circuit.specs.Call.{bare, full};
+ghost use Rattle.office.specs.Office.{openOn, callOn, keeping};
 ghost use Rattle.admission.specs.Answers.{Answered};
 ghost use Rattle.call_open.specs.Opening.{Opened};
 ghost use Rattle.call_ask.specs.Asking.{Asked};
@@ -12,14 +12,14 @@ use call_ask::Reading;
 
 #[no_mangle]
 pub extern "C" fn rozhinal_open_bare(sheet: &[u8], index: &mut [u8], table: &mut [u8]) -> Answer
-    ensures { λ r. ⌜ Opened (openOn bare (now (sheet .entry)) (now (index .entry)) (now (table .entry))) r (now (index .exit)) (now (table .exit)) ⌝ }
+    ensures { λ r. ⌜ Opened (openOn bare (now (sheet .entry)) (keeping (now (index .entry)) (now (table .entry)))) r (now (index .exit)) (now (table .exit)) ⌝ }
 {
     call_open::open_bare(sheet, index, table)
 }
 
 #[no_mangle]
 pub extern "C" fn rozhinal_open_full(sheet: &[u8], index: &mut [u8], table: &mut [u8]) -> Answer
-    ensures { λ r. ⌜ Opened (openOn full (now (sheet .entry)) (now (index .entry)) (now (table .entry))) r (now (index .exit)) (now (table .exit)) ⌝ }
+    ensures { λ r. ⌜ Opened (openOn full (now (sheet .entry)) (keeping (now (index .entry)) (now (table .entry)))) r (now (index .exit)) (now (table .exit)) ⌝ }
 {
     call_open::open_full(sheet, index, table)
 }
@@ -33,35 +33,35 @@ pub extern "C" fn rozhinal_post(
     kind: u64,
     number: i64,
 ) -> Answer
-    ensures { λ r. ⌜ Answered (callOn (now (sheet .entry)) (now (index .entry)) (now (table .entry)) (calls.post item kind number)) r (now (table .exit)) ⌝ }
+    ensures { λ r. ⌜ Answered (callOn (now (sheet .entry)) (keeping (now (index .entry)) (now (table .entry))) (call.post item kind number)) r (now (table .exit)) ⌝ }
 {
     call_post::post(sheet, index, table, item, kind, number)
 }
 
 #[no_mangle]
 pub extern "C" fn rozhinal_keep(sheet: &[u8], index: &[u8], table: &mut [u8], item: u64) -> Answer
-    ensures { λ r. ⌜ Answered (callOn (now (sheet .entry)) (now (index .entry)) (now (table .entry)) (calls.keep item)) r (now (table .exit)) ⌝ }
+    ensures { λ r. ⌜ Answered (callOn (now (sheet .entry)) (keeping (now (index .entry)) (now (table .entry))) (call.keep item)) r (now (table .exit)) ⌝ }
 {
     call_keep::keep(sheet, index, table, item)
 }
 
 #[no_mangle]
 pub extern "C" fn rozhinal_drop(sheet: &[u8], index: &[u8], table: &mut [u8], item: u64) -> Answer
-    ensures { λ r. ⌜ Answered (callOn (now (sheet .entry)) (now (index .entry)) (now (table .entry)) (calls.drop item)) r (now (table .exit)) ⌝ }
+    ensures { λ r. ⌜ Answered (callOn (now (sheet .entry)) (keeping (now (index .entry)) (now (table .entry))) (call.drop item)) r (now (table .exit)) ⌝ }
 {
     call_keep::drop_figure(sheet, index, table, item)
 }
 
 #[no_mangle]
 pub extern "C" fn rozhinal_step(sheet: &[u8], index: &[u8], table: &mut [u8], item: u64) -> Answer
-    ensures { λ r. ⌜ Answered (callOn (now (sheet .entry)) (now (index .entry)) (now (table .entry)) (calls.step item)) r (now (table .exit)) ⌝ }
+    ensures { λ r. ⌜ Answered (callOn (now (sheet .entry)) (keeping (now (index .entry)) (now (table .entry))) (call.step item)) r (now (table .exit)) ⌝ }
 {
     call_step::step(sheet, index, table, item)
 }
 
 #[no_mangle]
 pub extern "C" fn rozhinal_ask(sheet: &[u8], index: &[u8], table: &mut [u8], item: u64) -> Reading
-    ensures { λ r. ⌜ Asked (callOn (now (sheet .entry)) (now (index .entry)) (now (table .entry)) (calls.ask item)) r (now (table .exit)) ⌝ }
+    ensures { λ r. ⌜ Asked (callOn (now (sheet .entry)) (keeping (now (index .entry)) (now (table .entry))) (call.ask item)) r (now (table .exit)) ⌝ }
 {
     call_ask::ask(sheet, index, table, item)
 }

@@ -1,4 +1,4 @@
--- Catching up as one sweep, from what the code's calls ensure. Assumes nothing.
+-- Catching up as one ascending pass, from what the code's calls ensure. Assumes nothing.
 use Prim.Native.Nat.{ℕ, zero, suc, _+_, _*_, _<_, _≤_}
 use native.Mathlib.Omega.{arith}
 use native.Mathlib.Numerals.{add-one}
@@ -9,8 +9,9 @@ use lib.IntN.{ℤ}
 use lib.ListN.{length}
 use Rattle.circuit.specs.Sheet.{Sheet, size}
 use Rattle.circuit.specs.Table.{Table, isMarked}
-use Rattle.circuit.specs.Machine.{stepIf, stepItem, stepMarked, sweepBelow, sweep, catchUp}
-use Rattle.circuit.proofs.CatchUp.{catchUp-sweep}
+use Rattle.circuit.specs.Machine.{stepItem, catchUp}
+use Rattle.circuit.specs.Ascending.{stepIf, stepMarked, ascendBelow, ascend}
+use Rattle.circuit.proofs.CatchUp.{catchUp-ascends}
 use Rattle.layout.specs.Opened.{sheetOf}
 use Rattle.item.proofs.Located.{sheet-ordered, size-most}
 use Rattle.table.specs.Bytes.{decodeTable, tableForm, LowestMarked}
@@ -77,13 +78,13 @@ pub ready-after : {s tags : List ℕ} {numbers : List ℤ} {generation : ℕ} �
 ready-after {s} {tags} {numbers} {generation} ready few =
     record { tag-room = ready .tag-room; number-room = ready .number-room; generations = few; older = still-older tags generation (ready .older) }
 
--- below the lowest marked item a sweep changes nothing
-sweep-none : (S : Sheet) (T : Table) (k : ℕ) → ((i : ℕ) → i < k → isMarked (T i) ≡ false) → sweepBelow S T k ≡ T
-unfolding sweepBelow stepMarked
+-- below the lowest marked item the pass changes nothing
+sweep-none : (S : Sheet) (T : Table) (k : ℕ) → ((i : ℕ) → i < k → isMarked (T i) ≡ false) → ascendBelow S T k ≡ T
+unfolding ascendBelow stepMarked
 sweep-none S T zero none = refl
 sweep-none S T (suc k) none =
     let here : isMarked (T k) ≡ false = none k (omega arith) in
-    let below : sweepBelow S T k ≡ T = sweep-none S T k (λ i h. none i (omega arith)) in
+    let below : ascendBelow S T k ≡ T = sweep-none S T k (λ i h. none i (omega arith)) in
     ap (λ U. stepIf (isMarked (stepIf (isMarked (U k)) S U k k)) S (stepIf (isMarked (U k)) S U k) k) below
     ∙ ap (λ x. stepIf (isMarked (stepIf x S T k k)) S (stepIf x S T k) k) here
     ∙ ap (λ x. stepIf x S T k) here
@@ -93,7 +94,7 @@ pub record Sweeping (s offsets t₀ tags₀ : List ℕ) (numbers₀ : List ℤ) 
   pub lent : Lent s offsets t
   pub n-is : n ≡ size (sheetOf s)
   pub within : i ≤ n
-  pub table-is : decodeTable t ≡ sweepBelow (sheetOf s) (decodeTable t₀) i
+  pub table-is : decodeTable t ≡ ascendBelow (sheetOf s) (decodeTable t₀) i
   pub ready : Ready s tags numbers (2 * i + 1)
   pub t-length : length t ≡ length t₀
   pub tags-length : length tags ≡ length tags₀
@@ -124,7 +125,7 @@ module _ {s offsets t₀ tags₀ : List ℕ} {numbers₀ : List ℤ} {n i : ℕ}
   pub sweeping-next : (t₂ tags₂ : List ℕ) (numbers₂ : List ℤ) → length t₂ ≡ length t → length tags₂ ≡ length tags → length numbers₂ ≡ length numbers
       → Steps s (2 * i + 1 + 1) (stepMarked (sheetOf s) (stepMarked (sheetOf s) (decodeTable t) i) i) t₂ tags₂
       → Sweeping s offsets t₀ tags₀ numbers₀ n (i + 1) t₂ tags₂ numbers₂
-  unfolding sweepBelow
+  unfolding ascendBelow
   sweeping-next t₂ tags₂ numbers₂ a b c steps =
       record {
         lent = lent-on (inv .lent) t₂ a (steps .formed);
@@ -133,7 +134,7 @@ module _ {s offsets t₀ tags₀ : List ℕ} {numbers₀ : List ℤ} {n i : ℕ}
         table-is =
             steps .table-is
             ∙ ap (λ T. stepMarked (sheetOf s) (stepMarked (sheetOf s) T i) i) (inv .table-is)
-            ∙ ap (sweepBelow (sheetOf s) (decodeTable t₀)) (sym (add-one i));
+            ∙ ap (ascendBelow (sheetOf s) (decodeTable t₀)) (sym (add-one i));
         ready = subst (Ready s tags₂ numbers₂) (omega arith) (ready-on sweeping-ready tags₂ numbers₂ b c few (steps .older));
         t-length = a ∙ inv .t-length;
         tags-length = b ∙ inv .tags-length;
@@ -142,10 +143,10 @@ module _ {s offsets t₀ tags₀ : List ℕ} {numbers₀ : List ℤ} {n i : ℕ}
 
 pub sweeping-done : {s offsets t₀ tags₀ : List ℕ} {numbers₀ : List ℤ} {n i : ℕ} {t tags : List ℕ} {numbers : List ℤ}
     → Sweeping s offsets t₀ tags₀ numbers₀ n i t tags numbers → n ≤ i → Steps s (2 * n) (catchUp (sheetOf s) (decodeTable t₀)) t tags
-unfolding sweep
+unfolding ascend
 sweeping-done {s} {offsets} {t₀} {tags₀} {numbers₀} {n} {i} {t} {tags} {numbers} inv h =
     record {
-      table-is = inv .table-is ∙ ap (sweepBelow (sheetOf s) (decodeTable t₀)) (end ∙ inv .n-is) ∙ sym (catchUp-sweep (sheetOf s) (sheet-ordered s) (decodeTable t₀));
+      table-is = inv .table-is ∙ ap (ascendBelow (sheetOf s) (decodeTable t₀)) (end ∙ inv .n-is) ∙ sym (catchUp-ascends (sheetOf s) (sheet-ordered s) (decodeTable t₀));
       formed = inv .lent .formed;
       older = subst (λ k. NoneFrom 0 tags (2 * k + 1)) end (inv .ready .older);
     }
@@ -156,7 +157,7 @@ sweeping-done {s} {offsets} {t₀} {tags₀} {numbers₀} {n} {i} {t} {tags} {nu
 -- where no item is marked, catching up changes nothing
 pub quiet-caught : {s offsets t : List ℕ} {n first : ℕ} → Lent s offsets t → n ≡ size (sheetOf s) → LowestMarked (decodeTable t) n first → n ≤ first
     → decodeTable t ≡ catchUp (sheetOf s) (decodeTable t)
-unfolding sweep
+unfolding ascend
 quiet-caught {s} {offsets} {t} {n} {first} lent n-is lowest h =
-    sym (catchUp-sweep (sheetOf s) (sheet-ordered s) (decodeTable t)
+    sym (catchUp-ascends (sheetOf s) (sheet-ordered s) (decodeTable t)
     ∙ sweep-none (sheetOf s) (decodeTable t) (size (sheetOf s)) (λ i l. lowest .none-below i (omega (arith, lowest .within))))

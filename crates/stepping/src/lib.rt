@@ -4,7 +4,8 @@ ghost use mathlib.Core.Bool.{false};
 ghost use Prim.Native.Nat.{_+_, _*_, _<_, _≤_};
 ghost use lib.ListN.{length};
 ghost use Rattle.circuit.specs.Sheet.{size};
-ghost use Rattle.circuit.specs.Machine.{tell, clearCell, clearMark, stepItem, stepMarked, catchUp};
+ghost use Rattle.circuit.specs.Machine.{tell, clearCell, clearMark, stepItem, catchUp};
+ghost use Rattle.circuit.specs.Ascending.{stepMarked};
 ghost use Rattle.circuit.specs.Table.{markOf, isNotice};
 ghost use Rattle.layout.specs.Opened.{sheetOf};
 ghost use Rattle.table.specs.Bytes.{decodeTable, LowestMarked};
@@ -198,7 +199,7 @@ fn step_twice(
     }
 }
 
-// Catches up: one ascending sweep, in which each item is stepped while it is marked. No item below `first` is marked. A step is
+// Catches up: one ascending pass, in which each item is stepped while it is marked. No item below `first` is marked. A step is
 // a generation of the memo, from 1 on.
 pub fn catch_up(
     sheet: &[u8],

@@ -11,7 +11,7 @@ use Rattle.circuit.specs.Sheet.{Sheet, Spread, defer, renew, forget, size, item
 use Rattle.circuit.specs.Table.{Table, Cell, Mark, unmarked, refresh, notice, unk, held, upd, valueIn}
 use Rattle.circuit.specs.Machine.{work, renewed, refreshCleared, tellStored, tellCell, tellChild}
 use Rattle.layout.specs.Opened.{sheetOf}
-use Rattle.item.specs.Item.{fieldItem, sporderedMeaning}
+use Rattle.item.specs.Item.{fieldItem, spreadMeaning}
 use Rattle.item.proofs.Located.{sheet-ordered, located-item}
 use Rattle.table.specs.Rows.{setRow}
 use Rattle.table.specs.Record.{width, encodeCell, mayHold}
@@ -88,9 +88,9 @@ module _ {s offsets t tags : List ℕ} {numbers : List ℤ} {generation c : ℕ}
       v-formed : wellFormed (meaning v) ≡ true
       v-formed = subst (λ x. wellFormed (valueIn x) ≡ true) holds-v (holdable-wellFormed (sheetOf s) (decodeTable t) (lent-holdable lent) c low)
 
-      module _ (sp : Rattle.item.specs.declared.Spread.Spread) (spreads : sporderedMeaning sp ≡ spreadOf (fieldItem s (getD offsets c 0)))
-          (told : Told) (tells : told ≡ toldBy (sporderedMeaning sp) (markMeaning m)) where
-        child-told : tellChild (sheetOf s) (decodeTable t) c ≡ tellStored (sporderedMeaning sp) (sheetOf s) (decodeTable t) c (meaning v) (markMeaning m)
+      module _ (sp : Rattle.item.specs.declared.Spread.Spread) (spreads : spreadMeaning sp ≡ spreadOf (fieldItem s (getD offsets c 0)))
+          (told : Told) (tells : told ≡ toldBy (spreadMeaning sp) (markMeaning m)) where
+        child-told : tellChild (sheetOf s) (decodeTable t) c ≡ tellStored (spreadMeaning sp) (sheetOf s) (decodeTable t) c (meaning v) (markMeaning m)
         unfolding tellChild
         child-told =
             ap (tellCell (sheetOf s) (decodeTable t) c) holds-v
@@ -100,14 +100,14 @@ module _ {s offsets t tags : List ℕ} {numbers : List ℤ} {generation c : ℕ}
             → Moves s generation c (tellChild (sheetOf s) (decodeTable t) c) t₂ tags numbers
         told-forgets e t₂ stored =
             subst (λ U. Moves s generation c U t₂ tags numbers)
-            (sym (child-told ∙ tell-forgets (sporderedMeaning sp) (markMeaning m) (sheetOf s) (decodeTable t) c (meaning v) (sym tells ∙ e)))
+            (sym (child-told ∙ tell-forgets (spreadMeaning sp) (markMeaning m) (sheetOf s) (decodeTable t) c (meaning v) (sym tells ∙ e)))
             (cell-moves (unk true) refl t₂ stored)
 
         pub told-refreshes : told ≡ Refreshes → (t₂ : List ℕ) → t₂ ≡ setRow width t c (encodeCell (held (meaning v) refresh))
             → Moves s generation c (tellChild (sheetOf s) (decodeTable t) c) t₂ tags numbers
         told-refreshes e t₂ stored =
             subst (λ U. Moves s generation c U t₂ tags numbers)
-            (sym (child-told ∙ tell-refreshes (sporderedMeaning sp) (markMeaning m) (sheetOf s) (decodeTable t) c (meaning v) (sym tells ∙ e)))
+            (sym (child-told ∙ tell-refreshes (spreadMeaning sp) (markMeaning m) (sheetOf s) (decodeTable t) c (meaning v) (sym tells ∙ e)))
             (cell-moves (held (meaning v) refresh) v-formed t₂ stored)
 
         pub told-renews : told ≡ Renews → (k : Mark) → k ≡ refreshCleared (markMeaning m) → (t₂ tags₂ : List ℕ) (numbers₂ : List ℤ)
@@ -116,5 +116,5 @@ module _ {s offsets t tags : List ℕ} {numbers : List ℤ} {generation c : ℕ}
         told-renews e k cleared t₂ tags₂ numbers₂ moves =
             subst (λ U. Moves s generation c U t₂ tags₂ numbers₂)
             (ap (λ x. renewed c (meaning v) x (work (sheetOf s) (decodeTable t) c)) cleared
-            ∙ sym (child-told ∙ tell-renews (sporderedMeaning sp) (markMeaning m) (sheetOf s) (decodeTable t) c (meaning v) (sym tells ∙ e)))
+            ∙ sym (child-told ∙ tell-renews (spreadMeaning sp) (markMeaning m) (sheetOf s) (decodeTable t) c (meaning v) (sym tells ∙ e)))
             moves

@@ -6,7 +6,7 @@ ghost use Rattle.circuit.specs.Sheet.{size, itemAt, isFigure};
 ghost use Rattle.circuit.specs.Machine.{work, renewed, refreshCleared, tellChild, tell};
 ghost use Rattle.layout.specs.Opened.{sheetOf};
 ghost use Rattle.value.specs.Meaning.{meaning};
-ghost use Rattle.item.specs.Item.{sporderedMeaning};
+ghost use Rattle.item.specs.Item.{spreadMeaning};
 ghost use Rattle.table.specs.Bytes.{decodeTable};
 ghost use Rattle.table.specs.Meaning.{markMeaning};
 ghost use Rattle.children.specs.Children.{Linked};
@@ -27,7 +27,7 @@ pub enum Told {
 }
 
 fn told_by(spread: Spread, mark: Mark) -> Told
-    ensures { λ r. ⌜ r ≡ toldBy (sporderedMeaning spread) (markMeaning mark) ⌝ }
+    ensures { λ r. ⌜ r ≡ toldBy (spreadMeaning spread) (markMeaning mark) ⌝ }
 {
     match spread {
         Spread::Defer => match mark {

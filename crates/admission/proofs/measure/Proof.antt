@@ -7,75 +7,71 @@ use Rattle.admission.proofs.Admitting.{count-most, measured-refused, me
 use Rattle.admission.proofs.measure.Statement.{statement}
 use Rattle.admission.proofs.measure.Tie as tie
 
-check-requires : tie.Need-check-requires
-check-requires c κs = search needs
-
-enum-known-number : tie.Need-enum-known-number
-enum-known-number c = search needs
-
-enum-known-count : tie.Need-enum-known-count
-enum-known-count c = search needs
-
 mul-if1 : tie.Need-mul-if1
-mul-if1 c = let a = c .before .before .before .before .before .before .before .before .before .before .before .before .before .args in let g = c .before .count .given in let k = c .before .before .before .before .before .before .before .check in let e = sym (g .1) ∙ k .ensures .0 in omega (arith, count-most (a .sheet .now) (a .index-len) (a .table-len) (g .0 .0) (g .0 .1 .0) e)
-
-same-length : tie.Need-same-length
-same-length c = search needs
-
-same-length-2 : tie.Need-same-length-2
-same-length-2 c = search needs
+mul-if1 c =
+    let a = c .before .before .before .before .before .before .before .before .before .before .before .before .before .args in
+    let g = c .before .count .given in
+    let k = c .before .before .before .before .before .before .before .check in
+    let e = sym (g .1) ∙ k .ensures .0 in
+    omega (arith, count-most (a .sheet .now) (a .index-len) (a .table-len) (g .0 .0) (g .0 .1 .0) e)
 
 returns : tie.Need-returns
-returns c = let a = c .before .before .before .before .before .before .before .before .before .before .before .before .before .before .args in let g = c .before .before .count .given in let k = c .before .before .before .before .before .before .before .before .check in let e = sym (g .1) ∙ k .ensures .0 in (measured-index (a .sheet .now) (a .index-len) (a .table-len) (g .0 .0) (g .0 .1 .0) e (c .if1 .taken), record { offsets-are = k .ensures .1 .0; levels-are = k .ensures .1 .1; located = located (a .sheet .now) _ _ (k .ensures .1 .0) })
+returns c =
+    let a = c .before .before .before .before .before .before .before .before .before .before .before .before .before .before .args in
+    let g = c .before .before .count .given in
+    let k = c .before .before .before .before .before .before .before .before .check in
+    let e = sym (g .1) ∙ k .ensures .0 in
+    (measured-index (a .sheet .now) (a .index-len) (a .table-len) (g .0 .0) (g .0 .1 .0) e (c .if1 .taken), record { offsets-are = k .ensures .1 .0; levels-are = k .ensures .1 .1; located = located (a .sheet .now) _ _ (k .ensures .1 .0) })
 
 mul-if2 : tie.Need-mul-if2
-mul-if2 c = let a = c .before .before .before .before .before .before .before .before .before .before .before .before .before .before .args in let g = c .before .before .count .given in let k = c .before .before .before .before .before .before .before .before .check in let e = sym (g .1) ∙ k .ensures .0 in omega (arith, count-most (a .sheet .now) (a .index-len) (a .table-len) (g .0 .0) (g .0 .1 .0) e)
-
-same-length-3 : tie.Need-same-length-3
-same-length-3 c = search needs
-
-same-length-4 : tie.Need-same-length-4
-same-length-4 c = search needs
+mul-if2 c =
+    let a = c .before .before .before .before .before .before .before .before .before .before .before .before .before .before .args in
+    let g = c .before .before .count .given in
+    let k = c .before .before .before .before .before .before .before .before .check in
+    let e = sym (g .1) ∙ k .ensures .0 in
+    omega (arith, count-most (a .sheet .now) (a .index-len) (a .table-len) (g .0 .0) (g .0 .1 .0) e)
 
 returns-2 : tie.Need-returns-2
-returns-2 c = let a = c .before .before .before .before .before .before .before .before .before .before .before .before .before .before .before .args in let g = c .before .before .before .count .given in let k = c .before .before .before .before .before .before .before .before .before .check in let e = sym (g .1) ∙ k .ensures .0 in (measured-table (a .sheet .now) (a .index-len) (a .table-len) (g .0 .0) (g .0 .1 .0) e (c .before .if1 .left) (c .if2 .taken), record { offsets-are = k .ensures .1 .0; levels-are = k .ensures .1 .1; located = located (a .sheet .now) _ _ (k .ensures .1 .0) })
-
-same-length-5 : tie.Need-same-length-5
-same-length-5 c = search needs
-
-same-length-6 : tie.Need-same-length-6
-same-length-6 c = search needs
+returns-2 c =
+    let a = c .before .before .before .before .before .before .before .before .before .before .before .before .before .before .before .args in
+    let g = c .before .before .before .count .given in
+    let k = c .before .before .before .before .before .before .before .before .before .check in
+    let e = sym (g .1) ∙ k .ensures .0 in
+    (measured-table (a .sheet .now) (a .index-len) (a .table-len) (g .0 .0) (g .0 .1 .0) e (c .before .if1 .left) (c .if2 .taken), record { offsets-are = k .ensures .1 .0; levels-are = k .ensures .1 .1; located = located (a .sheet .now) _ _ (k .ensures .1 .0) })
 
 returns-3 : tie.Need-returns-3
-returns-3 c = let a = c .before .before .before .before .before .before .before .before .before .before .before .before .before .args in let g = c .before .number .given in let k = c .before .before .before .before .before .before .before .check in (measured-refused (a .sheet .now) (a .index-len) (a .table-len) (g .0 .0) (g .0 .1 .0) (sym (g .1) ∙ k .ensures .0), record { offsets-are = k .ensures .1 .0; levels-are = k .ensures .1 .1; located = located (a .sheet .now) _ _ (k .ensures .1 .0) })
-
-same-length-7 : tie.Need-same-length-7
-same-length-7 c = search needs
-
-same-length-8 : tie.Need-same-length-8
-same-length-8 c = search needs
+returns-3 c =
+    let a = c .before .before .before .before .before .before .before .before .before .before .before .before .before .args in
+    let g = c .before .number .given in
+    let k = c .before .before .before .before .before .before .before .check in
+    (measured-refused (a .sheet .now) (a .index-len) (a .table-len) (g .0 .0) (g .0 .1 .0) (sym (g .1) ∙ k .ensures .0), record { offsets-are = k .ensures .1 .0; levels-are = k .ensures .1 .1; located = located (a .sheet .now) _ _ (k .ensures .1 .0) })
 
 returns-4 : tie.Need-returns-4
-returns-4 c = let a = c .before .before .before .before .before .before .before .before .before .before .before .before .before .before .before .args in let g = c .before .before .before .count .given in let k = c .before .before .before .before .before .before .before .before .before .check in let e = sym (g .1) ∙ k .ensures .0 in (measured-items (a .sheet .now) (a .index-len) (a .table-len) (g .0 .0) (g .0 .1 .0) e (c .before .if1 .left) (c .if2 .left), record { offsets-are = k .ensures .1 .0; levels-are = k .ensures .1 .1; located = located (a .sheet .now) _ _ (k .ensures .1 .0) })
+returns-4 c =
+    let a = c .before .before .before .before .before .before .before .before .before .before .before .before .before .before .before .args in
+    let g = c .before .before .before .count .given in
+    let k = c .before .before .before .before .before .before .before .before .before .check in
+    let e = sym (g .1) ∙ k .ensures .0 in
+    (measured-items (a .sheet .now) (a .index-len) (a .table-len) (g .0 .0) (g .0 .1 .0) e (c .before .if1 .left) (c .if2 .left), record { offsets-are = k .ensures .1 .0; levels-are = k .ensures .1 .1; located = located (a .sheet .now) _ _ (k .ensures .1 .0) })
 
 pub measure-spec : {M : Type 1} → statement M
 measure-spec =
     tie.close
     (tie.spec
-    check-requires
-    enum-known-number
-    enum-known-count
+    (λ c κs. search needs)
+    (λ c. search needs)
+    (λ c. search needs)
     mul-if1
-    same-length
-    same-length-2
+    (λ c. search needs)
+    (λ c. search needs)
     returns
     mul-if2
-    same-length-3
-    same-length-4
+    (λ c. search needs)
+    (λ c. search needs)
     returns-2
-    same-length-5
-    same-length-6
+    (λ c. search needs)
+    (λ c. search needs)
     returns-3
-    same-length-7
-    same-length-8
+    (λ c. search needs)
+    (λ c. search needs)
     returns-4)

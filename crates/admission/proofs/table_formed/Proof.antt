@@ -29,13 +29,20 @@ shared-slice-read-is-figure : tie.Need-shared-slice-read-is-figure Inv-loop μ-l
 shared-slice-read-is-figure c = search needs
 
 is-figure-requires : tie.Need-is-figure-requires Inv-loop μ-loop
-is-figure-requires c κs = let a = c .before .before .before .before .before .before .args in let p = c .before .before .before .before .before .before .pre .0 in located-field (a .sheet .now) (a .offsets .now) (p .located) (c .before .before .loop .k) (omega (arith, p .count-is, c .before .loop-test .taken))
+is-figure-requires c κs =
+    let a = c .before .before .before .before .before .before .args in
+    let p = c .before .before .before .before .before .before .pre .0 in
+    located-field (a .sheet .now) (a .offsets .now) (p .located) (c .before .before .loop .k) (omega (arith, p .count-is, c .before .loop-test .taken))
 
 record-formed-requires : tie.Need-record-formed-requires Inv-loop μ-loop
 record-formed-requires c κs = omega arith
 
 returns : tie.Need-returns Inv-loop μ-loop
-returns c = let a = c .before .before .before .before .before .before .before .before .before .args in let p = c .before .before .before .before .before .before .before .before .before .pre .0 in let l = c .before .before .before .before .before .loop in unformed-record (a .sheet .now) (a .offsets .now) (a .table .now) (p .located) (l .k) (omega (arith, p .count-is, c .before .before .before .before .loop-test .taken)) (c .before .before .is-figure .result) (c .before .record-formed .result) (c .before .before .is-figure .ensures) (c .before .record-formed .ensures) (not-true _ (c .if1 .taken))
+returns c =
+    let a = c .before .before .before .before .before .before .before .before .before .args in
+    let p = c .before .before .before .before .before .before .before .before .before .pre .0 in
+    let l = c .before .before .before .before .before .loop in
+    unformed-record (a .sheet .now) (a .offsets .now) (a .table .now) (p .located) (l .k) (omega (arith, p .count-is, c .before .before .before .before .loop-test .taken)) (c .before .before .is-figure .result) (c .before .record-formed .result) (c .before .before .is-figure .ensures) (c .before .record-formed .ensures) (not-true _ (c .if1 .taken))
 
 add-k : tie.Need-add-k Inv-loop μ-loop
 add-k c = search needs
@@ -44,10 +51,18 @@ loop-less : tie.Need-loop-less Inv-loop μ-loop
 loop-less c = omega arith
 
 loop-again : tie.Need-loop-again Inv-loop μ-loop
-loop-again c = let a = c .before .before .before .before .before .before .before .before .before .args in let p = c .before .before .before .before .before .before .before .before .before .pre .0 in let l = c .before .before .before .before .before .loop in (omega arith, formed-record (a .sheet .now) (a .offsets .now) (a .table .now) (p .located) (l .k) (omega (arith, p .count-is, c .before .before .before .before .loop-test .taken)) (c .before .before .is-figure .result) (c .before .record-formed .result) (c .before .before .is-figure .ensures) (c .before .record-formed .ensures) (not-false _ (c .if1 .left)) (l .inv .1))
+loop-again c =
+    let a = c .before .before .before .before .before .before .before .before .before .args in
+    let p = c .before .before .before .before .before .before .before .before .before .pre .0 in
+    let l = c .before .before .before .before .before .loop in
+    (omega arith, formed-record (a .sheet .now) (a .offsets .now) (a .table .now) (p .located) (l .k) (omega (arith, p .count-is, c .before .before .before .before .loop-test .taken)) (c .before .before .is-figure .result) (c .before .record-formed .result) (c .before .before .is-figure .ensures) (c .before .record-formed .ensures) (not-false _ (c .if1 .left)) (l .inv .1))
 
 returns-2 : tie.Need-returns-2 Inv-loop μ-loop
-returns-2 c = let a = c .before .before .before .before .before .args in let p = c .before .before .before .before .before .pre .0 in let l = c .before .loop in formed-done (sheetOf (a .sheet .now)) (a .table .now) (l .k) (omega (arith, p .count-is, l .inv .0, c .loop-test .left)) (l .inv .1)
+returns-2 c =
+    let a = c .before .before .before .before .before .args in
+    let p = c .before .before .before .before .before .pre .0 in
+    let l = c .before .loop in
+    formed-done (sheetOf (a .sheet .now)) (a .table .now) (l .k) (omega (arith, p .count-is, l .inv .0, c .loop-test .left)) (l .inv .1)
 
 pub table-formed-spec : {M : Type 1} → statement M
 table-formed-spec =

@@ -4,9 +4,6 @@ use borrow.Author.Needs.{needs}
 use Rattle.call_ask.proofs.ask_lent.Statement.{statement}
 use Rattle.call_ask.proofs.ask_lent.Tie as tie
 
-refuse-requires : tie.Need-refuse-requires
-refuse-requires c κs = search needs
-
 returns : tie.Need-returns
 returns c =
     λ x.
@@ -14,15 +11,6 @@ returns c =
     let p = c .before .before .before .before .before .pre in
     let r = c .refuse in
     ask-refused (p .1) x (a .n) (a .item) (p .0 .count-is) (r .result) (c .before .if1 .taken) (r .ensures .0) (r .ensures .1) (r .ensures .2) (r .ensures .3)
-
-caught-up-requires : tie.Need-caught-up-requires
-caught-up-requires c κs = search needs
-
-read-value-requires : tie.Need-read-value-requires
-read-value-requires c κs = search needs
-
-same-length : tie.Need-same-length
-same-length c = search needs
 
 returns-2 : tie.Need-returns-2
 returns-2 c =
@@ -35,4 +23,4 @@ returns-2 c =
 pub ask-lent-spec : {M : Type 1} → statement M
 ask-lent-spec =
     tie.close
-    (tie.spec refuse-requires returns caught-up-requires read-value-requires same-length returns-2)
+    (tie.spec (λ c κs. search needs) returns (λ c κs. search needs) (λ c κs. search needs) (λ c. search needs) returns-2)

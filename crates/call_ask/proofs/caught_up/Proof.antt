@@ -12,30 +12,12 @@ use borrow.Author.Needs.{needs}
 use Rattle.call_ask.proofs.caught_up.Statement.{statement}
 use Rattle.call_ask.proofs.caught_up.Tie as tie
 
-slice-aggregate-catch-up : tie.Need-slice-aggregate-catch-up
-slice-aggregate-catch-up c = search needs
-
-slice-aggregate-catch-up-2 : tie.Need-slice-aggregate-catch-up-2
-slice-aggregate-catch-up-2 c = search needs
-
 catch-up-requires : tie.Need-catch-up-requires
 unfolding mostItems itemLimit
 catch-up-requires c κs =
     let a = c .before .before .before .before .before .before .args in
     let p = c .before .before .before .before .before .before .pre in
     (p .0, (fresh-ready (a .sheet .now) _ _ refl refl (same-all 0 mostItems), p .1 .0))
-
-slice-aggregate-look-up : tie.Need-slice-aggregate-look-up
-slice-aggregate-look-up c = search needs
-
-slice-aggregate-look-up-2 : tie.Need-slice-aggregate-look-up-2
-slice-aggregate-look-up-2 c = search needs
-
-mul-look-up : tie.Need-mul-look-up
-mul-look-up c = search needs
-
-add-look-up : tie.Need-add-look-up
-add-look-up c = search needs
 
 look-up-requires : tie.Need-look-up-requires
 unfolding mostItems itemLimit
@@ -46,9 +28,6 @@ look-up-requires c κs =
     let ready = fresh-ready (a .sheet .now) (replicate mostItems 0) (replicate mostItems (pos 0)) refl refl (same-all 0 mostItems) in
     (lent-on (p .0) _ (u .kept .1 .1 .0) (u .ensures .formed), (caught-memo ready (p .1 .0) _ _ (u .kept .1 .1 .1 .0) (u .kept .1 .1 .1 .1 .0) (u .ensures) _, omega (arith, p .1 .0, p .1 .1)))
 
-same-length : tie.Need-same-length
-same-length c = search needs
-
 returns : tie.Need-returns
 returns c =
     let a = c .before .before .before .before .before .before .before .before .before .before .before .before .before .before .before .before .before .before .before .before .args in
@@ -58,13 +37,13 @@ pub caught-up-spec : {M : Type 1} → statement M
 caught-up-spec =
     tie.close
     (tie.spec
-    slice-aggregate-catch-up
-    slice-aggregate-catch-up-2
+    (λ c. search needs)
+    (λ c. search needs)
     catch-up-requires
-    slice-aggregate-look-up
-    slice-aggregate-look-up-2
-    mul-look-up
-    add-look-up
+    (λ c. search needs)
+    (λ c. search needs)
+    (λ c. search needs)
+    (λ c. search needs)
     look-up-requires
-    same-length
+    (λ c. search needs)
     returns)

@@ -6,15 +6,6 @@ use borrow.Author.Needs.{needs}
 use Rattle.call_keep.proofs.dropped_cell.Statement.{statement}
 use Rattle.call_keep.proofs.dropped_cell.Tie as tie
 
-enum-known-cell : tie.Need-enum-known-cell
-enum-known-cell c = search needs
-
-enum-known-cell-2 : tie.Need-enum-known-cell-2
-enum-known-cell-2 c = search needs
-
-dropped-mark-requires : tie.Need-dropped-mark-requires
-dropped-mark-requires c κs = search needs
-
 returns : tie.Need-returns
 returns c = sym (ap (λ q. dropCell (cellMeaning q)) (c .before .cell .given .1))
 
@@ -23,4 +14,4 @@ returns-2 c = ap unk (c .dropped-mark .ensures) ∙ sym (ap (λ q. dropCell (cel
 
 pub dropped-cell-spec : {M : Type 1} → statement M
 dropped-cell-spec =
-    tie.close (tie.spec enum-known-cell enum-known-cell-2 dropped-mark-requires returns returns-2)
+    tie.close (tie.spec (λ c. search needs) (λ c. search needs) (λ c κs. search needs) returns returns-2)

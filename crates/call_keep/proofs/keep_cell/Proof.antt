@@ -1,43 +1,40 @@
 use Rattle.call_keep.proofs.Keeping.{kept-held, kept-unk}
+use Rattle.circuit.specs.Table.{isStored}
 use Rattle.table.specs.Meaning.{cellMeaning}
 use mathlib.Core.Path.{sym, ap, _∙_}
 use borrow.Author.Needs.{needs}
 use Rattle.call_keep.proofs.keep_cell.Statement.{statement}
 use Rattle.call_keep.proofs.keep_cell.Tie as tie
 
-read-cell-requires : tie.Need-read-cell-requires
-read-cell-requires c κs = search needs
-
-enum-told : tie.Need-enum-told
-enum-told c = search needs
-
-enum-told-2 : tie.Need-enum-told-2
-enum-told-2 c = search needs
-
 keep-new-requires : tie.Need-keep-new-requires
-keep-new-requires c κs = search needs
-
-same-length : tie.Need-same-length
-same-length c = search needs
+keep-new-requires c κs =
+    let e = c .before .before .before .before .before .before .before .before in
+    let unstored = ap isStored (sym (c .before .before .before .read-cell .ensures) ∙ ap cellMeaning (c .before .enum-told2 .given .1)) in
+    (e .pre .0, (e .pre .1 .0, (e .pre .1 .1, unstored)))
 
 returns : tie.Need-returns
-returns c = let a = c .before .before .before .before .before .before .before .args in let p = c .before .before .before .before .before .before .before .pre in kept-held (p .0) (a .i) (p .1 .0) _ _ (sym (c .before .before .read-cell .ensures) ∙ ap cellMeaning (c .enum-told .given .1))
-
-same-length-2 : tie.Need-same-length-2
-same-length-2 c = search needs
+returns c =
+    let r = c .before .before in
+    let e = r .before .before .before .before .before in
+    kept-held (e .pre .0) (e .args .i) (e .pre .1 .0) _ _ (sym (r .read-cell .ensures) ∙ ap cellMeaning (c .enum-told .given .1))
 
 returns-2 : tie.Need-returns-2
-returns-2 c = let a = c .before .before .before .before .before .before .before .before .before .before .before .args in let p = c .before .before .before .before .before .before .before .before .before .before .before .pre in kept-unk (p .0) (a .i) (p .1 .0) _ _ (sym (c .before .before .before .before .before .before .read-cell .ensures) ∙ ap cellMeaning (c .before .before .before .before .enum-told2 .given .1)) (c .before .before .keep-new .ensures)
+returns-2 c =
+    let u = c .before .before .before .before in
+    let r = u .before .before in
+    let e = r .before .before .before .before .before in
+    let unk-is = sym (r .read-cell .ensures) ∙ ap cellMeaning (u .enum-told2 .given .1) in
+    kept-unk (e .pre .0) (e .args .i) (e .pre .1 .0) _ _ unk-is (c .before .before .keep-new .ensures)
 
 pub keep-cell-spec : {M : Type 1} → statement M
 keep-cell-spec =
     tie.close
     (tie.spec
-    read-cell-requires
-    enum-told
-    enum-told-2
+    (λ c κs. search needs)
+    (λ c. search needs)
+    (λ c. search needs)
     keep-new-requires
-    same-length
+    (λ c. search needs)
     returns
-    same-length-2
+    (λ c. search needs)
     returns-2)

@@ -4,35 +4,38 @@ use borrow.Author.Needs.{needs}
 use Rattle.call_keep.proofs.keep_lent.Statement.{statement}
 use Rattle.call_keep.proofs.keep_lent.Tie as tie
 
-item-cause-requires : tie.Need-item-cause-requires
-item-cause-requires c κs = search needs
-
-give-requires : tie.Need-give-requires
-give-requires c κs = search needs
-
 returns : tie.Need-returns
-returns c = λ x. let a = c .before .before .before .before .before .before .args in let p = c .before .before .before .before .before .before .pre in let i = c .before .before .item-cause in keep-item (p .1) x (a .item) (i .result) (i .ensures) (c .give .result) (c .give .ensures .1) (c .before .if1 .taken) (c .give .ensures .0)
+returns c =
+    λ x.
+    let a = c .before .before .before .before .before .before .args in
+    let p = c .before .before .before .before .before .before .pre in
+    let i = c .before .before .item-cause in
+    keep-item (p .1) x (a .item) (i .result) (i .ensures) (c .give .result) (c .give .ensures .1) (c .before .if1 .taken) (c .give .ensures .0)
 
 keep-cell-requires : tie.Need-keep-cell-requires
-keep-cell-requires c κs = let a = c .before .before .before .before .before .before .args in let p = c .before .before .before .before .before .before .pre in let i = c .before .before .item-cause in let q = cause-figure (sheetOf (a .sheet .now)) (a .item) (i .result) (i .ensures) (c .before .if1 .left) in (p .1, (q .0, q .1))
-
-give-requires-2 : tie.Need-give-requires-2
-give-requires-2 c κs = search needs
-
-same-length : tie.Need-same-length
-same-length c = search needs
+keep-cell-requires c κs =
+    let a = c .before .before .before .before .before .before .args in
+    let p = c .before .before .before .before .before .before .pre in
+    let i = c .before .before .item-cause in
+    let q = cause-figure (sheetOf (a .sheet .now)) (a .item) (i .result) (i .ensures) (c .before .if1 .left) in
+    (p .1, (q .0, q .1))
 
 returns-2 : tie.Need-returns-2
-returns-2 c = λ x. let a = c .before .before .before .before .before .before .before .before .before .before .args in let p = c .before .before .before .before .before .before .before .before .before .before .pre in let i = c .before .before .before .before .before .before .item-cause in keep-done (p .1) x (a .item) (i .result) (i .ensures) (c .give2 .result) (c .give2 .ensures .1) (c .before .before .before .before .before .if1 .left) _ (λ j. c .before .slice-known2 .given j .fits) (c .before .before .before .keep-cell .kept .1 .1 .0) (c .before .before .before .keep-cell .ensures) (c .give2 .ensures .0)
+returns-2 c =
+    λ x.
+    let a = c .before .before .before .before .before .before .before .before .before .before .args in
+    let p = c .before .before .before .before .before .before .before .before .before .before .pre in
+    let i = c .before .before .before .before .before .before .item-cause in
+    keep-done (p .1) x (a .item) (i .result) (i .ensures) (c .give2 .result) (c .give2 .ensures .1) (c .before .before .before .before .before .if1 .left) _ (λ j. c .before .slice-known2 .given j .fits) (c .before .before .before .keep-cell .kept .1 .1 .0) (c .before .before .before .keep-cell .ensures) (c .give2 .ensures .0)
 
 pub keep-lent-spec : {M : Type 1} → statement M
 keep-lent-spec =
     tie.close
     (tie.spec
-    item-cause-requires
-    give-requires
+    (λ c κs. search needs)
+    (λ c κs. search needs)
     returns
     keep-cell-requires
-    give-requires-2
-    same-length
+    (λ c κs. search needs)
+    (λ c. search needs)
     returns-2)

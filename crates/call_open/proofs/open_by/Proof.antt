@@ -8,70 +8,58 @@ use borrow.Author.Needs.{needs}
 use Rattle.call_open.proofs.open_by.Statement.{statement}
 use Rattle.call_open.proofs.open_by.Tie as tie
 
-slice-aggregate-measure : tie.Need-slice-aggregate-measure
-slice-aggregate-measure c = search needs
-
-slice-aggregate-measure-2 : tie.Need-slice-aggregate-measure-2
-slice-aggregate-measure-2 c = search needs
-
-measure-requires : tie.Need-measure-requires
-unfolding mostItems itemLimit
-measure-requires c κs = search needs
-
-enum-known-number : tie.Need-enum-known-number
-enum-known-number c = search needs
-
-give-requires : tie.Need-give-requires
-give-requires c κs = search needs
-
-enum-known-n : tie.Need-enum-known-n
-enum-known-n c = search needs
-
-slice-aggregate-write-index : tie.Need-slice-aggregate-write-index
-slice-aggregate-write-index c = search needs
-
 write-index-requires : tie.Need-write-index-requires
 unfolding mostItems itemLimit
-write-index-requires c κs = let a = c .before .before .before .before .before .before .before .before .before .before .before .before .before .args in let m = c .before .before .before .before .before .before .before .measure in let w = c .before .before .before .n .given in let e = sym (w .1) ∙ m .ensures .0 in let g = measured (a .sheet .now) (a .index .now) (a .table .now) (w .0 .0) e in (omega (arith, g .count-is, size-room (a .sheet .now), m .kept .1 .1 .1 .0), g .index-length)
-
-slice-aggregate-write-table : tie.Need-slice-aggregate-write-table
-slice-aggregate-write-table c = search needs
+write-index-requires c κs =
+    let a = c .before .before .before .before .before .before .before .before .before .before .before .before .before .args in
+    let m = c .before .before .before .before .before .before .before .measure in
+    let w = c .before .before .before .n .given in
+    let e = sym (w .1) ∙ m .ensures .0 in
+    let g = measured (a .sheet .now) (a .index .now) (a .table .now) (w .0 .0) e in
+    (omega (arith, g .count-is, size-room (a .sheet .now), m .kept .1 .1 .1 .0), g .index-length)
 
 write-table-requires : tie.Need-write-table-requires
 unfolding mostItems itemLimit
-write-table-requires c κs = let a = c .before .before .before .before .before .before .before .before .before .before .before .before .before .before .before .before .before .before .args in let m = c .before .before .before .before .before .before .before .before .before .before .before .before .measure in let w = c .before .before .before .before .before .before .before .before .n .given in let e = sym (w .1) ∙ m .ensures .0 in let g = measured (a .sheet .now) (a .index .now) (a .table .now) (w .0 .0) e in (admitted-placing (a .sheet .now) _ (w .0 .0) (g .count-is) (m .ensures .1 .located) (omega (arith, m .kept .1 .1 .1 .0)), g .table-length)
-
-give-requires-2 : tie.Need-give-requires-2
-give-requires-2 c κs = search needs
+write-table-requires c κs =
+    let a = c .before .before .before .before .before .before .before .before .before .before .before .before .before .before .before .before .before .before .args in
+    let m = c .before .before .before .before .before .before .before .before .before .before .before .before .measure in
+    let w = c .before .before .before .before .before .before .before .before .n .given in
+    let e = sym (w .1) ∙ m .ensures .0 in
+    let g = measured (a .sheet .now) (a .index .now) (a .table .now) (w .0 .0) e in
+    (admitted-placing (a .sheet .now) _ (w .0 .0) (g .count-is) (m .ensures .1 .located) (omega (arith, m .kept .1 .1 .1 .0)), g .table-length)
 
 returns : tie.Need-returns
-returns c = let a = c .before .before .before .before .before .before .before .before .before .before .before .before .args in let m = c .before .before .before .before .before .before .measure in let w = c .before .before .number .given in opened-refused (a .filled) (a .sheet .now) (a .index .now) (a .table .now) (w .0 .0) (w .0 .1 .0) (sym (w .1) ∙ m .ensures .0) (c .give .result) (c .give .ensures .0) (c .give .ensures .1)
-
-same-length : tie.Need-same-length
-same-length c = search needs
-
-same-length-2 : tie.Need-same-length-2
-same-length-2 c = search needs
+returns c =
+    let a = c .before .before .before .before .before .before .before .before .before .before .before .before .args in
+    let m = c .before .before .before .before .before .before .measure in
+    let w = c .before .before .number .given in
+    opened-refused (a .filled) (a .sheet .now) (a .index .now) (a .table .now) (w .0 .0) (w .0 .1 .0) (sym (w .1) ∙ m .ensures .0) (c .give .result) (c .give .ensures .0) (c .give .ensures .1)
 
 returns-2 : tie.Need-returns-2
-returns-2 c = let a = c .before .before .before .before .before .before .before .before .before .before .before .before .before .before .before .before .before .before .before .before .before .before .args in let m = c .before .before .before .before .before .before .before .before .before .before .before .before .before .before .before .before .measure in let w = c .before .before .before .before .before .before .before .before .before .before .before .before .n .given in let e = sym (w .1) ∙ m .ensures .0 in opened-written (a .filled) (a .sheet .now) (a .index .now) (a .table .now) _ _ _ (w .0 .0) e (m .ensures .1 .located) (c .before .before .before .before .before .before .before .before .write-index .ensures) (c .before .before .before .write-table .ensures) (c .give2 .result) (c .give2 .ensures .0) (c .give2 .ensures .1)
+returns-2 c =
+    let a = c .before .before .before .before .before .before .before .before .before .before .before .before .before .before .before .before .before .before .before .before .before .before .args in
+    let m = c .before .before .before .before .before .before .before .before .before .before .before .before .before .before .before .before .measure in
+    let w = c .before .before .before .before .before .before .before .before .before .before .before .before .n .given in
+    let e = sym (w .1) ∙ m .ensures .0 in
+    opened-written (a .filled) (a .sheet .now) (a .index .now) (a .table .now) _ _ _ (w .0 .0) e (m .ensures .1 .located) (c .before .before .before .before .before .before .before .before .write-index .ensures) (c .before .before .before .write-table .ensures) (c .give2 .result) (c .give2 .ensures .0) (c .give2 .ensures .1)
 
 pub open-by-spec : {M : Type 1} → statement M
+unfolding mostItems itemLimit
 open-by-spec =
     tie.close
     (tie.spec
-    slice-aggregate-measure
-    slice-aggregate-measure-2
-    measure-requires
-    enum-known-number
-    give-requires
-    enum-known-n
-    slice-aggregate-write-index
+    (λ c. search needs)
+    (λ c. search needs)
+    (λ c κs. search needs)
+    (λ c. search needs)
+    (λ c κs. search needs)
+    (λ c. search needs)
+    (λ c. search needs)
     write-index-requires
-    slice-aggregate-write-table
+    (λ c. search needs)
     write-table-requires
-    give-requires-2
+    (λ c κs. search needs)
     returns
-    same-length
-    same-length-2
+    (λ c. search needs)
+    (λ c. search needs)
     returns-2)

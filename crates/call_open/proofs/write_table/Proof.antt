@@ -25,7 +25,10 @@ shared-slice-read-is-figure : tie.Need-shared-slice-read-is-figure Inv-loop μ-l
 shared-slice-read-is-figure c = search needs
 
 is-figure-requires : tie.Need-is-figure-requires Inv-loop μ-loop
-is-figure-requires c κs = let a = c .before .before .before .before .before .before .args in let p = c .before .before .before .before .before .before .pre .0 in located-field (a .sheet .now) (a .offsets .now) (p .located) (c .before .before .loop .k) (omega (arith, p .count-is, c .before .loop-test .taken))
+is-figure-requires c κs =
+    let a = c .before .before .before .before .before .before .args in
+    let p = c .before .before .before .before .before .before .pre .0 in
+    located-field (a .sheet .now) (a .offsets .now) (p .located) (c .before .before .loop .k) (omega (arith, p .count-is, c .before .loop-test .taken))
 
 first-cell-requires : tie.Need-first-cell-requires Inv-loop μ-loop
 first-cell-requires c κs = search needs
@@ -40,13 +43,22 @@ loop-less : tie.Need-loop-less Inv-loop μ-loop
 loop-less c = omega arith
 
 loop-again : tie.Need-loop-again Inv-loop μ-loop
-loop-again c = let a = c .before .before .before .before .before .before .before .before .before .before .before .before .args in let p = c .before .before .before .before .before .before .before .before .before .before .before .before .pre .0 in let l = c .before .before .before .before .before .before .before .before .loop in let low = c .before .before .before .before .before .before .before .loop-test .taken in (omega arith, omega (arith, l .inv .1, c .before .before .store-cell .kept .0), written-next (a .sheet .now) (a .offsets .now) (l .table) _ (p .located) (l .k) (omega (arith, p .count-is, low)) (a .filled) (c .before .before .before .before .before .is-figure .result) _ (c .before .before .before .before .before .is-figure .ensures) (c .before .before .before .first-cell .ensures) (c .before .before .store-cell .ensures) (omega (arith, l .inv .1, low)) (l .inv .2))
+loop-again c =
+    let a = c .before .before .before .before .before .before .before .before .before .before .before .before .args in
+    let p = c .before .before .before .before .before .before .before .before .before .before .before .before .pre .0 in
+    let l = c .before .before .before .before .before .before .before .before .loop in
+    let low = c .before .before .before .before .before .before .before .loop-test .taken in
+    (omega arith, omega (arith, l .inv .1, c .before .before .store-cell .kept .0), written-next (a .sheet .now) (a .offsets .now) (l .table) _ (p .located) (l .k) (omega (arith, p .count-is, low)) (a .filled) (c .before .before .before .before .before .is-figure .result) _ (c .before .before .before .before .before .is-figure .ensures) (c .before .before .before .first-cell .ensures) (c .before .before .store-cell .ensures) (omega (arith, l .inv .1, low)) (l .inv .2))
 
 same-length : tie.Need-same-length Inv-loop μ-loop
 same-length c = search needs
 
 returns : tie.Need-returns Inv-loop μ-loop
-returns c = let a = c .before .before .before .before .before .args in let p = c .before .before .before .before .before .pre .0 in let l = c .before .loop in written-done (a .sheet .now) (l .table) (a .filled) (a .n) (l .k) (p .count-is) (l .inv .1) (c .loop-test .left) (l .inv .2)
+returns c =
+    let a = c .before .before .before .before .before .args in
+    let p = c .before .before .before .before .before .pre .0 in
+    let l = c .before .loop in
+    written-done (a .sheet .now) (l .table) (a .filled) (a .n) (l .k) (p .count-is) (l .inv .1) (c .loop-test .left) (l .inv .2)
 
 pub write-table-spec : {M : Type 1} → statement M
 write-table-spec =

@@ -10,63 +10,62 @@ use borrow.Author.Needs.{needs}
 use Rattle.call_post.proofs.post_lent.Statement.{statement}
 use Rattle.call_post.proofs.post_lent.Tie as tie
 
-item-cause-requires : tie.Need-item-cause-requires
-item-cause-requires c κs = search needs
-
-give-requires : tie.Need-give-requires
-give-requires c κs = search needs
-
 returns : tie.Need-returns
-returns c = λ x. let a = c .before .before .before .before .before .before .args in let p = c .before .before .before .before .before .before .pre in let i = c .before .before .item-cause in let b = slice-bytes (a .table .now) (c .before .before .before .slice-known .given) in post-item (p .1) b x (a .item) (a .kind) (a .number) (i .result) (i .ensures) (c .give .result) (c .give .ensures .1) (c .before .if1 .taken) (c .give .ensures .0)
-
-posted-requires : tie.Need-posted-requires
-posted-requires c κs = search needs
-
-enum-told : tie.Need-enum-told
-enum-told c = search needs
-
-give-requires-2 : tie.Need-give-requires-2
-give-requires-2 c κs = search needs
-
-enum-known-value : tie.Need-enum-known-value
-enum-known-value c = search needs
+returns c =
+    λ x.
+    let a = c .before .before .before .before .before .before .args in
+    let p = c .before .before .before .before .before .before .pre in
+    let i = c .before .before .item-cause in
+    let b = slice-bytes (a .table .now) (c .before .before .before .slice-known .given) in
+    post-item (p .1) b x (a .item) (a .kind) (a .number) (i .result) (i .ensures) (c .give .result) (c .give .ensures .1) (c .before .if1 .taken) (c .give .ensures .0)
 
 read-cell-requires : tie.Need-read-cell-requires
-read-cell-requires c κs = let a = c .before .before .before .before .before .before .before .before .before .before .args in let p = c .before .before .before .before .before .before .before .before .before .before .pre in let i = c .before .before .before .before .before .before .item-cause in cause-fits (a .sheet .now) (a .table .now) (a .item) (i .result) false (p .1 .length-is) (i .ensures) (c .before .before .before .before .before .if1 .left)
-
-posted-cell-requires : tie.Need-posted-cell-requires
-posted-cell-requires c κs = search needs
+read-cell-requires c κs =
+    let a = c .before .before .before .before .before .before .before .before .before .before .args in
+    let p = c .before .before .before .before .before .before .before .before .before .before .pre in
+    let i = c .before .before .before .before .before .before .item-cause in
+    cause-fits (a .sheet .now) (a .table .now) (a .item) (i .result) false (p .1 .length-is) (i .ensures) (c .before .before .before .before .before .if1 .left)
 
 store-cell-requires : tie.Need-store-cell-requires
-store-cell-requires c κs = let a = c .before .before .before .before .before .before .before .before .before .before .before .before .before .args in let p = c .before .before .before .before .before .before .before .before .before .before .before .before .before .pre in let i = c .before .before .before .before .before .before .before .before .before .item-cause in cause-fits (a .sheet .now) (a .table .now) (a .item) (i .result) false (p .1 .length-is) (i .ensures) (c .before .before .before .before .before .before .before .before .if1 .left)
-
-give-requires-3 : tie.Need-give-requires-3
-give-requires-3 c κs = search needs
+store-cell-requires c κs =
+    let a = c .before .before .before .before .before .before .before .before .before .before .before .before .before .args in
+    let p = c .before .before .before .before .before .before .before .before .before .before .before .before .before .pre in
+    let i = c .before .before .before .before .before .before .before .before .before .item-cause in
+    cause-fits (a .sheet .now) (a .table .now) (a .item) (i .result) false (p .1 .length-is) (i .ensures) (c .before .before .before .before .before .before .before .before .if1 .left)
 
 returns-2 : tie.Need-returns-2
-returns-2 c = λ x. let a = c .before .before .before .before .before .before .before .before .before .args in let p = c .before .before .before .before .before .before .before .before .before .pre in let i = c .before .before .before .before .before .item-cause in let b = slice-bytes (a .table .now) (c .before .before .before .before .before .before .slice-known .given) in post-value (p .1) b x (a .item) (a .kind) (a .number) (i .result) (i .ensures) (c .give2 .result) (c .give2 .ensures .1) (c .before .before .before .before .if1 .left) (sym (ap partsMeaning (c .before .enum-told .given .1)) ∙ c .before .before .before .posted .ensures ∙ ap (postedValue (a .kind)) (back (a .number) (c .before .before .before .before .before .before .before .before .before .fits .number))) (c .give2 .ensures .0)
-
-same-length : tie.Need-same-length
-same-length c = search needs
+returns-2 c =
+    λ x.
+    let a = c .before .before .before .before .before .before .before .before .before .args in
+    let p = c .before .before .before .before .before .before .before .before .before .pre in
+    let i = c .before .before .before .before .before .item-cause in
+    let b = slice-bytes (a .table .now) (c .before .before .before .before .before .before .slice-known .given) in
+    post-value (p .1) b x (a .item) (a .kind) (a .number) (i .result) (i .ensures) (c .give2 .result) (c .give2 .ensures .1) (c .before .before .before .before .if1 .left) (sym (ap partsMeaning (c .before .enum-told .given .1)) ∙ c .before .before .before .posted .ensures ∙ ap (postedValue (a .kind)) (back (a .number) (c .before .before .before .before .before .before .before .before .before .fits .number))) (c .give2 .ensures .0)
 
 returns-3 : tie.Need-returns-3
-returns-3 c = λ x. let a = c .before .before .before .before .before .before .before .before .before .before .before .before .before .before .before .before .before .args in let p = c .before .before .before .before .before .before .before .before .before .before .before .before .before .before .before .before .before .pre in let i = c .before .before .before .before .before .before .before .before .before .before .before .before .before .item-cause in let b = slice-bytes (a .table .now) (c .before .before .before .before .before .before .before .before .before .before .before .before .before .before .slice-known .given) in post-stored (p .1) b x (a .item) (a .kind) (a .number) (i .result) (i .ensures) (c .give3 .result) (c .give3 .ensures .1) (c .before .before .before .before .before .before .before .before .before .before .before .before .if1 .left) _ (sym (ap partsMeaning (c .before .before .before .before .before .before .before .before .before .value .given .1)) ∙ c .before .before .before .before .before .before .before .before .before .before .before .posted .ensures ∙ ap (postedValue (a .kind)) (back (a .number) (c .before .before .before .before .before .before .before .before .before .before .before .before .before .before .before .before .before .fits .number))) _ _ (c .before .before .before .before .before .posted-cell .ensures ∙ ap (λ q. Rattle.circuit.specs.Machine.postCell q (meaning (c .before .before .before .before .before .before .before .before .before .value .given .0 .0))) (c .before .before .before .before .before .before .read-cell .ensures)) (c .before .before .before .store-cell .ensures) (c .give3 .ensures .0)
+returns-3 c =
+    λ x.
+    let a = c .before .before .before .before .before .before .before .before .before .before .before .before .before .before .before .before .before .args in
+    let p = c .before .before .before .before .before .before .before .before .before .before .before .before .before .before .before .before .before .pre in
+    let i = c .before .before .before .before .before .before .before .before .before .before .before .before .before .item-cause in
+    let b = slice-bytes (a .table .now) (c .before .before .before .before .before .before .before .before .before .before .before .before .before .before .slice-known .given) in
+    post-stored (p .1) b x (a .item) (a .kind) (a .number) (i .result) (i .ensures) (c .give3 .result) (c .give3 .ensures .1) (c .before .before .before .before .before .before .before .before .before .before .before .before .if1 .left) _ (sym (ap partsMeaning (c .before .before .before .before .before .before .before .before .before .value .given .1)) ∙ c .before .before .before .before .before .before .before .before .before .before .before .posted .ensures ∙ ap (postedValue (a .kind)) (back (a .number) (c .before .before .before .before .before .before .before .before .before .before .before .before .before .before .before .before .before .fits .number))) _ _ (c .before .before .before .before .before .posted-cell .ensures ∙ ap (λ q. Rattle.circuit.specs.Machine.postCell q (meaning (c .before .before .before .before .before .before .before .before .before .value .given .0 .0))) (c .before .before .before .before .before .before .read-cell .ensures)) (c .before .before .before .store-cell .ensures) (c .give3 .ensures .0)
 
 pub post-lent-spec : {M : Type 1} → statement M
 post-lent-spec =
     tie.close
     (tie.spec
-    item-cause-requires
-    give-requires
+    (λ c κs. search needs)
+    (λ c κs. search needs)
     returns
-    posted-requires
-    enum-told
-    give-requires-2
-    enum-known-value
+    (λ c κs. search needs)
+    (λ c. search needs)
+    (λ c κs. search needs)
+    (λ c. search needs)
     read-cell-requires
-    posted-cell-requires
+    (λ c κs. search needs)
     store-cell-requires
-    give-requires-3
+    (λ c κs. search needs)
     returns-2
-    same-length
+    (λ c. search needs)
     returns-3)

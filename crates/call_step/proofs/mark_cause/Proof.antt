@@ -10,9 +10,6 @@ returns c =
     let a = c .before .before .args in
     mark-beyond (decodeTable (a .table .now)) (a .n) (a .item) (c .if1 .taken)
 
-is-marked-requires : tie.Need-is-marked-requires
-is-marked-requires c κs = search needs
-
 returns-2 : tie.Need-returns-2
 returns-2 c =
     let a = c .before .before .before .before .args in
@@ -26,4 +23,4 @@ returns-3 c =
     mark-within (decodeTable (a .table .now)) (a .n) (a .item) (m .result) false (c .before .before .if1 .left) (m .ensures) (c .if2 .left)
 
 pub mark-cause-spec : {M : Type 1} → statement M
-mark-cause-spec = tie.close (tie.spec returns is-marked-requires returns-2 returns-3)
+mark-cause-spec = tie.close (tie.spec returns (λ c κs. search needs) returns-2 returns-3)

@@ -11,12 +11,6 @@ use borrow.Author.Needs.{needs}
 use Rattle.call_step.proofs.notice_once.Statement.{statement}
 use Rattle.call_step.proofs.notice_once.Tie as tie
 
-slice-aggregate-link : tie.Need-slice-aggregate-link
-slice-aggregate-link c = search needs
-
-slice-aggregate-link-2 : tie.Need-slice-aggregate-link-2
-slice-aggregate-link-2 c = search needs
-
 link-requires : tie.Need-link-requires
 unfolding mostItems itemLimit maxParents
 link-requires c κs =
@@ -25,18 +19,6 @@ link-requires c κs =
     let most = size-room (a .sheet .now) in
     (p .0 .located, (p .1 .0, (omega (arith, p .0 .room, p .1 .0), (omega (arith, most, p .1 .0), omega (arith, most, p .1 .0)))))
 
-slice-aggregate-tell-and-clear : tie.Need-slice-aggregate-tell-and-clear
-slice-aggregate-tell-and-clear c = search needs
-
-slice-aggregate-tell-and-clear-2 : tie.Need-slice-aggregate-tell-and-clear-2
-slice-aggregate-tell-and-clear-2 c = search needs
-
-slice-aggregate-tell-and-clear-3 : tie.Need-slice-aggregate-tell-and-clear-3
-slice-aggregate-tell-and-clear-3 c = search needs
-
-slice-aggregate-tell-and-clear-4 : tie.Need-slice-aggregate-tell-and-clear-4
-slice-aggregate-tell-and-clear-4 c = search needs
-
 tell-and-clear-requires : tie.Need-tell-and-clear-requires
 unfolding mostItems itemLimit maxParents
 tell-and-clear-requires c κs =
@@ -44,9 +26,6 @@ tell-and-clear-requires c κs =
     let p = c .before .before .before .before .before .before .before .before .before .before .before .before .before .pre in
     let l = c .before .before .before .before .before .before .before .link in
     (p .0, (fresh-ready (a .sheet .now) _ _ refl refl (same-all 0 mostItems), (lists-linked (p .0) (replicate mostItems 0) (replicate (maxParents * mostItems) 0) _ _ refl refl (same-all 0 mostItems) (l .ensures .0) (l .ensures .1), omega (arith, p .1 .0, p .1 .1))))
-
-same-length : tie.Need-same-length
-same-length c = search needs
 
 returns : tie.Need-returns
 returns c =
@@ -57,13 +36,13 @@ pub notice-once-spec : {M : Type 1} → statement M
 notice-once-spec =
     tie.close
     (tie.spec
-    slice-aggregate-link
-    slice-aggregate-link-2
+    (λ c. search needs)
+    (λ c. search needs)
     link-requires
-    slice-aggregate-tell-and-clear
-    slice-aggregate-tell-and-clear-2
-    slice-aggregate-tell-and-clear-3
-    slice-aggregate-tell-and-clear-4
+    (λ c. search needs)
+    (λ c. search needs)
+    (λ c. search needs)
+    (λ c. search needs)
     tell-and-clear-requires
-    same-length
+    (λ c. search needs)
     returns)

@@ -6,21 +6,12 @@ use borrow.Author.Needs.{needs}
 use Rattle.call_step.proofs.refresh_once.Statement.{statement}
 use Rattle.call_step.proofs.refresh_once.Tie as tie
 
-slice-aggregate-step-refresh : tie.Need-slice-aggregate-step-refresh
-slice-aggregate-step-refresh c = search needs
-
-slice-aggregate-step-refresh-2 : tie.Need-slice-aggregate-step-refresh-2
-slice-aggregate-step-refresh-2 c = search needs
-
 step-refresh-requires : tie.Need-step-refresh-requires
 unfolding mostItems itemLimit
 step-refresh-requires c κs =
     let a = c .before .before .before .before .before .before .args in
     let p = c .before .before .before .before .before .before .pre in
     (p .0, (fresh-ready (a .sheet .now) _ _ refl refl (same-all 0 mostItems), (p .1 .0, p .1 .1)))
-
-same-length : tie.Need-same-length
-same-length c = search needs
 
 returns : tie.Need-returns
 returns c =
@@ -31,8 +22,8 @@ pub refresh-once-spec : {M : Type 1} → statement M
 refresh-once-spec =
     tie.close
     (tie.spec
-    slice-aggregate-step-refresh
-    slice-aggregate-step-refresh-2
+    (λ c. search needs)
+    (λ c. search needs)
     step-refresh-requires
-    same-length
+    (λ c. search needs)
     returns)

@@ -4,39 +4,39 @@ use borrow.Author.Needs.{needs}
 use Rattle.call_step.proofs.step_lent.Statement.{statement}
 use Rattle.call_step.proofs.step_lent.Tie as tie
 
-mark-cause-requires : tie.Need-mark-cause-requires
-mark-cause-requires c κs = search needs
-
-give-requires : tie.Need-give-requires
-give-requires c κs = search needs
-
-same-length : tie.Need-same-length
-same-length c = search needs
-
 returns : tie.Need-returns
-returns c = λ x. let a = c .before .before .before .before .before .before .before .args in let p = c .before .before .before .before .before .before .before .pre in let m = c .before .before .mark-cause in step-refused (p .1) x (a .n) (a .item) (m .result) (p .0 .count-is) (m .ensures) (c .give .result) (c .give .ensures .1) (c .before .if1 .taken) (c .give .ensures .0)
+returns c =
+    λ x.
+    let a = c .before .before .before .before .before .before .before .args in
+    let p = c .before .before .before .before .before .before .before .pre in
+    let m = c .before .before .mark-cause in
+    step-refused (p .1) x (a .n) (a .item) (m .result) (p .0 .count-is) (m .ensures) (c .give .result) (c .give .ensures .1) (c .before .if1 .taken) (c .give .ensures .0)
 
 step-once-requires : tie.Need-step-once-requires
-step-once-requires c κs = let a = c .before .before .before .before .before .before .before .args in let p = c .before .before .before .before .before .before .before .pre in let m = c .before .before .mark-cause in (p .1, (p .0 .count-is, mark-low (decodeTable (a .table .now)) (a .n) (a .item) (m .result) (m .ensures) (c .before .if1 .left)))
-
-give-requires-2 : tie.Need-give-requires-2
-give-requires-2 c κs = search needs
-
-same-length-2 : tie.Need-same-length-2
-same-length-2 c = search needs
+step-once-requires c κs =
+    let a = c .before .before .before .before .before .before .before .args in
+    let p = c .before .before .before .before .before .before .before .pre in
+    let m = c .before .before .mark-cause in
+    (p .1, (p .0 .count-is, mark-low (decodeTable (a .table .now)) (a .n) (a .item) (m .result) (m .ensures) (c .before .if1 .left)))
 
 returns-2 : tie.Need-returns-2
-returns-2 c = λ x. let a = c .before .before .before .before .before .before .before .before .before .before .before .args in let p = c .before .before .before .before .before .before .before .before .before .before .before .pre in let m = c .before .before .before .before .before .before .mark-cause in let d = c .before .before .before .step-once in step-done (p .1) x (a .n) (a .item) (m .result) (p .0 .count-is) (m .ensures) (c .give2 .result) (c .give2 .ensures .1) (c .before .before .before .before .before .if1 .left) _ (λ j. c .before .slice-known2 .given j .fits) (d .kept .1 .1 .0) (d .ensures) (c .give2 .ensures .0)
+returns-2 c =
+    λ x.
+    let a = c .before .before .before .before .before .before .before .before .before .before .before .args in
+    let p = c .before .before .before .before .before .before .before .before .before .before .before .pre in
+    let m = c .before .before .before .before .before .before .mark-cause in
+    let d = c .before .before .before .step-once in
+    step-done (p .1) x (a .n) (a .item) (m .result) (p .0 .count-is) (m .ensures) (c .give2 .result) (c .give2 .ensures .1) (c .before .before .before .before .before .if1 .left) _ (λ j. c .before .slice-known2 .given j .fits) (d .kept .1 .1 .0) (d .ensures) (c .give2 .ensures .0)
 
 pub step-lent-spec : {M : Type 1} → statement M
 step-lent-spec =
     tie.close
     (tie.spec
-    mark-cause-requires
-    give-requires
-    same-length
+    (λ c κs. search needs)
+    (λ c κs. search needs)
+    (λ c. search needs)
     returns
     step-once-requires
-    give-requires-2
-    same-length-2
+    (λ c κs. search needs)
+    (λ c. search needs)
     returns-2)

@@ -6,27 +6,15 @@ use borrow.Author.Needs.{needs}
 use Rattle.call_step.proofs.step_once.Statement.{statement}
 use Rattle.call_step.proofs.step_once.Tie as tie
 
-is-noticed-requires : tie.Need-is-noticed-requires
-is-noticed-requires c κs = search needs
-
-notice-once-requires : tie.Need-notice-once-requires
-notice-once-requires c κs = search needs
-
 refresh-once-requires : tie.Need-refresh-once-requires
 refresh-once-requires c κs =
     let p = c .before .before .before .before .before .before .before .pre in
     (p .0, (omega (arith, p .1 .0, p .1 .1), sym (c .before .before .is-noticed .ensures) ∙ c .before .if1 .left))
 
-same-length : tie.Need-same-length
-same-length c = search needs
-
 returns : tie.Need-returns
 returns c =
     let a = c .before .before .before .before .before .before .before .before .before .before .args in
     left-noticed (a .sheet .now) (a .table .now) (a .i) _ (c .before .before .before .before .before .is-noticed .ensures) (c .before .before .before .before .if1 .taken) _ (c .before .before .notice-once .ensures)
-
-same-length-2 : tie.Need-same-length-2
-same-length-2 c = search needs
 
 returns-2 : tie.Need-returns-2
 returns-2 c =
@@ -36,10 +24,10 @@ pub step-once-spec : {M : Type 1} → statement M
 step-once-spec =
     tie.close
     (tie.spec
-    is-noticed-requires
-    notice-once-requires
+    (λ c κs. search needs)
+    (λ c κs. search needs)
     refresh-once-requires
-    same-length
+    (λ c. search needs)
     returns
-    same-length-2
+    (λ c. search needs)
     returns-2)

@@ -11,12 +11,6 @@ use borrow.Author.Needs.{needs}
 use Rattle.catching.proofs.catch_up_from.Statement.{statement}
 use Rattle.catching.proofs.catch_up_from.Tie as tie
 
-slice-aggregate-link : tie.Need-slice-aggregate-link
-slice-aggregate-link c = search needs
-
-slice-aggregate-link-2 : tie.Need-slice-aggregate-link-2
-slice-aggregate-link-2 c = search needs
-
 link-requires : tie.Need-link-requires
 unfolding mostItems itemLimit maxParents
 link-requires c κs =
@@ -24,12 +18,6 @@ link-requires c κs =
     let p = c .before .before .before .before .before .before .pre in
     let most = size-room (a .sheet .now) in
     (p .0 .located, (p .1 .1 .0, (omega (arith, p .0 .room, p .1 .1 .0), (omega (arith, most, p .1 .1 .0), omega (arith, most, p .1 .1 .0)))))
-
-slice-aggregate-catch-up : tie.Need-slice-aggregate-catch-up
-slice-aggregate-catch-up c = search needs
-
-slice-aggregate-catch-up-2 : tie.Need-slice-aggregate-catch-up-2
-slice-aggregate-catch-up-2 c = search needs
 
 catch-up-requires : tie.Need-catch-up-requires
 unfolding mostItems itemLimit maxParents
@@ -40,29 +28,17 @@ catch-up-requires c κs =
     let ready = ready-later (p .1 .0) (2 * a .first + 1) (omega arith) (omega (arith, size-most (a .sheet .now), p .1 .1 .0, p .1 .1 .1 .1)) in
     (p .0, (ready, (lists-linked (p .0) (replicate mostItems 0) (replicate (maxParents * mostItems) 0) _ _ refl refl (same-all 0 mostItems) (l .ensures .0) (l .ensures .1), (p .1 .1 .0, p .1 .1 .1 .0))))
 
-same-length : tie.Need-same-length
-same-length c = search needs
-
-same-length-2 : tie.Need-same-length-2
-same-length-2 c = search needs
-
-same-length-3 : tie.Need-same-length-3
-same-length-3 c = search needs
-
-returns : tie.Need-returns
-returns c = search needs
-
 pub catch-up-from-spec : {M : Type 1} → statement M
 catch-up-from-spec =
     tie.close
     (tie.spec
-    slice-aggregate-link
-    slice-aggregate-link-2
+    (λ c. search needs)
+    (λ c. search needs)
     link-requires
-    slice-aggregate-catch-up
-    slice-aggregate-catch-up-2
+    (λ c. search needs)
+    (λ c. search needs)
     catch-up-requires
-    same-length
-    same-length-2
-    same-length-3
-    returns)
+    (λ c. search needs)
+    (λ c. search needs)
+    (λ c. search needs)
+    (λ c. search needs))

@@ -2,7 +2,7 @@
 use mathlib.Core.Path.{refl, sym, ap, _∙_}
 use mir.Syntax.{w64}
 use mir.ValLaws.{toZ-ofZ}
-use Rattle.circuit.specs.Calls.{post}
+use Rattle.circuit.specs.Call.{post}
 use Rattle.day_order.specs.Orders.{orderMeaning}
 use Rattle.day_meaning.proofs.Playing.{carry-answer, carry-reading}
 use borrow.Author.Needs.{needs}

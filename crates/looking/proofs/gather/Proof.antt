@@ -1,5 +1,6 @@
 use lib.ListN.{set}
 use mathlib.Core.Path.{ap, _∙_}
+use Rattle.circuit.specs.Rules.{maxParents}
 use Rattle.value.proofs.Signed.{back}
 use borrow.Author.Needs.{needs}
 use Rattle.looking.proofs.gather.Statement.{statement}
@@ -10,37 +11,22 @@ use Rattle.looking.proofs.either.Reads as either-reads
 use Rattle.value.proofs.Value.kind.Reads as kind-reads
 use Rattle.value.proofs.Value.number_or_zero.Reads as number-or-zero-reads
 
-kind-requires : tie.Need-kind-requires
-kind-requires c κs = search needs
-
-element-write-kinds : tie.Need-element-write-kinds
-element-write-kinds c = search needs
-
-number-or-zero-requires : tie.Need-number-or-zero-requires
-number-or-zero-requires c κs = search needs
-
-mul-t11 : tie.Need-mul-t11
-mul-t11 c = search needs
-
-element-set-from-amounts : tie.Need-element-set-from-amounts
-element-set-from-amounts c = search needs
-
-either-requires : tie.Need-either-requires
-either-requires c κs = search needs
-
 returns : tie.Need-returns
 returns c =
     let a = c .before .before .before .before .args in
-    (c .either .ensures, (ap (set (a .kinds .now) (a .k)) (c .before .before .kind .ensures), ap (set (a .amounts .now) (a .k)) (back _ (search needs) ∙ c .before .number-or-zero .ensures)))
+    let kind = ap (set (a .kinds .now) (a .k)) (c .before .before .kind .ensures) in
+    let amount = ap (set (a .amounts .now) (a .k)) (back _ (search needs) ∙ c .before .number-or-zero .ensures) in
+    (c .either .ensures, (kind, amount))
 
 pub gather-spec : {M : Type 1} → statement M
+unfolding maxParents
 gather-spec =
     tie.close
     (tie.spec
-    kind-requires
-    element-write-kinds
-    number-or-zero-requires
-    mul-t11
-    element-set-from-amounts
-    either-requires
+    (λ c κs. search needs)
+    (λ c. search needs)
+    (λ c κs. search needs)
+    (λ c. search needs)
+    (λ c. search needs)
+    (λ c κs. search needs)
     returns)

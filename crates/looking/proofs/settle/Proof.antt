@@ -1,4 +1,3 @@
-use Rattle.memo.specs.Memo.{seenMeaning}
 use Rattle.looking.proofs.Settling.{settled-kept, settled-remembered}
 use borrow.Author.Needs.{needs}
 use Rattle.looking.proofs.settle.Statement.{statement}
@@ -10,47 +9,28 @@ use Rattle.looking.proofs.notice_if.Reads as notice-if-reads
 use Rattle.memo.proofs.remember.Reads as remember-reads
 use Rattle.table.proofs.store_cell.Reads as store-cell-reads
 
-either-requires : tie.Need-either-requires
-either-requires c κs = search needs
-
-notice-if-requires : tie.Need-notice-if-requires
-notice-if-requires c κs = search needs
-
-store-cell-requires : tie.Need-store-cell-requires
-store-cell-requires c κs = search needs
-
-remember-requires : tie.Need-remember-requires
-remember-requires c κs = search needs
-
-same-length : tie.Need-same-length
-same-length c = search needs
-
 returns : tie.Need-returns
 returns c =
-    let a = c .before .before .before .before .before .before .before .before .before .before .args in
-    settled-kept (a .i) (a .generation) (a .kept) (a .noticed) (seenMeaning (a .worked)) (a .table .now) (a .tags .now) (a .numbers .now) _ (c .before .before .before .before .before .before .either .ensures) (c .before .before .before .before .before .if1 .taken) _ (c .before .before .before .notice-if .ensures) _ (c .before .before .store-cell .ensures)
-
-same-length-2 : tie.Need-same-length-2
-same-length-2 c = search needs
-
-same-length-3 : tie.Need-same-length-3
-same-length-3 c = search needs
+    let n = c .before .before .before in
+    let b = n .before .before in
+    settled-kept (b .before .either .ensures) (b .if1 .taken) _ (n .notice-if .ensures) _ (c .before .before .store-cell .ensures)
 
 returns-2 : tie.Need-returns-2
 returns-2 c =
-    let a = c .before .before .before .before .before .before .before .before .before .before .before .args in
-    settled-remembered (a .i) (a .generation) (a .kept) (a .noticed) (seenMeaning (a .worked)) (a .table .now) (a .tags .now) (a .numbers .now) _ (c .before .before .before .before .before .before .before .either .ensures) (c .before .before .before .before .before .before .if1 .left) _ _ (c .before .before .before .remember .ensures .0) (c .before .before .before .remember .ensures .1)
+    let m = c .before .before .before in
+    let b = m .before .before .before in
+    settled-remembered (b .before .either .ensures) (b .if1 .left) _ _ (m .remember .ensures .0) (m .remember .ensures .1)
 
 pub settle-spec : {M : Type 1} → statement M
 settle-spec =
     tie.close
     (tie.spec
-    either-requires
-    notice-if-requires
-    store-cell-requires
-    remember-requires
-    same-length
+    (λ c κs. search needs)
+    (λ c κs. search needs)
+    (λ c κs. search needs)
+    (λ c κs. search needs)
+    (λ c. search needs)
     returns
-    same-length-2
-    same-length-3
+    (λ c. search needs)
+    (λ c. search needs)
     returns-2)

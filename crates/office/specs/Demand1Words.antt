@@ -1,38 +1,39 @@
--- The refusals of the openings and the five calls: each cause in the words of its row, the order in which a request's causes
--- count, and what is demanded of the number given. The causes 1 to 7 are those of the sheet. Assumes nothing.
-use Prim.Native.Nat.{ℕ, _*_, _<_, _≤_}
+-- Demand 1, its words: each row of "Turned back" from 8 to 14 as a statement about what is lent, and the order in which the causes
+-- of a request count. The rows 1 to 7 are those of the sheet (layout, Causes). Assumes nothing.
+use Prim.Native.Nat.{ℕ, _*_, _^_, _<_, _≤_}
 use mathlib.Core.Path.{_≡_}
 use mathlib.Core.Bool.{Bool, true, false}
 use mathlib.Core.List.{List, [], _∷_, _++_}
 use mathlib.Core.Logic.{_⊎_, _↔_}
 use lib.IntN.{ℤ, pos, natAbs}
 use lib.ListN.{length}
+use mir.Syntax.{w64}
+use mir.Val.{SFits}
 use Rattle.circuit.specs.Value.{limit}
 use Rattle.circuit.specs.Sheet.{Sheet, size, itemAt, isFigure}
-use Rattle.circuit.specs.Calls.{Call, post, keep, drop, step, ask}
-use Rattle.circuit.specs.Offices.{Opening}
+use Rattle.circuit.specs.Call.{Call, post, keep, drop, step, ask, Opening}
+use Rattle.field.specs.Field.{Bytes}
 use Rattle.layout.specs.Read.{Placed}
 use Rattle.layout.specs.Opened.{sheetOf, itemsOf}
-use Rattle.layout.specs.Index.{indexBytes, le32At}
+use Rattle.layout.specs.Index.{indexWidth, indexBytes, le32At}
 use Rattle.layout.specs.Causes.{FirstFault, Faultless, item, itemCount, tagOf, offsetOf}
 use Rattle.table.specs.Rows.{row}
 use Rattle.table.specs.Record.{width, kindIn, markIn, numberIn}
-use Rattle.office.specs.Office.{Given, openOn, callOn}
-use Rattle.office.specs.Demands.{tableAfter}
+use Rattle.office.specs.Office.{Office, Given, openOn, callOn}
 
 -- an opening, or one of the five calls with its arguments
 pub data Request : Type 0 where
   opening : Opening → Request
   calling : Call → Request
 
--- the request on a sheet, an index and a table
-abbrev pub serve : Request → List ℕ → List ℕ → List ℕ → Given
-serve (opening o) s x t = openOn o s x t
-serve (calling c) s x t = callOn s x t c
+-- the request on a sheet, lent with what the office keeps
+abbrev pub serve : Request → List ℕ → Office → Given
+serve (opening how) s o = openOn how s o
+serve (calling c) s o = callOn s o c
 
 -- 8: index not 4n bytes, or table not 10n
-abbrev pub LengthsWrong : ℕ → List ℕ → List ℕ → Type 0
-LengthsWrong n x t = (¬ (length x ≡ 4 * n)) ⊎ (¬ (length t ≡ 10 * n))
+abbrev pub LengthsWrong : ℕ → Office → Type 0
+LengthsWrong n o = (¬ (length (o .index) ≡ indexWidth * n)) ⊎ (¬ (length (o .table) ≡ width * n))
 
 -- 9: index not as opening writes it
 abbrev pub IndexNotAsOpened : List Placed → List ℕ → Type 0
@@ -94,11 +95,11 @@ abbrev pub cause : ℕ → Type 0 → Row
 cause k P = record { number = k; cause = P }
 
 -- The causes of what is lent, which count before a call's own.
-abbrev pub lentCauses : Sheet → List Placed → List ℕ → List ℕ → List Row
-lentCauses S ps x t =
-    cause 8 (LengthsWrong (size S) x t)
-    ∷ cause 9 (IndexNotAsOpened ps x)
-    ∷ cause 10 (TableBroken S t)
+abbrev pub lentCauses : Sheet → List Placed → Office → List Row
+lentCauses S ps o =
+    cause 8 (LengthsWrong (size S) o)
+    ∷ cause 9 (IndexNotAsOpened ps (o .index))
+    ∷ cause 10 (TableBroken S (o .table))
     ∷ []
 
 -- the causes of a call's own
@@ -109,13 +110,14 @@ ownCauses S t (drop i) = cause 11 (NoSuchItem S i) ∷ cause 12 (OfEntry S i) �
 ownCauses S t (step i) = cause 11 (NoSuchItem S i) ∷ cause 14 (NoMark t i) ∷ []
 ownCauses S t (ask i) = cause 11 (NoSuchItem S i) ∷ []
 
--- The causes of a request in the order in which they count, after the sheet has been read. Openings use 8 alone.
-abbrev pub causesIn : Sheet → List Placed → List ℕ → List ℕ → Request → List Row
-causesIn S ps x t (opening o) = cause 8 (LengthsWrong (size S) x t) ∷ []
-causesIn S ps x t (calling c) = lentCauses S ps x t ++ ownCauses S t c
+-- The causes of a request in the order in which they count, after the sheet has been read. Openings use 8 alone. (A later request's
+-- call has its own order, and may have a number twice.)
+abbrev pub causesIn : Sheet → List Placed → Office → Request → List Row
+causesIn S ps o (opening how) = cause 8 (LengthsWrong (size S) o) ∷ []
+causesIn S ps o (calling c) = lentCauses S ps o ++ ownCauses S (o .table) c
 
-abbrev pub causesOf : List ℕ → List ℕ → List ℕ → Request → List Row
-causesOf s x t r = causesIn (sheetOf s) (itemsOf s) x t r
+abbrev pub causesOf : List ℕ → Office → Request → List Row
+causesOf s o r = causesIn (sheetOf s) (itemsOf s) o r
 
 -- k is the number of the first cause that holds
 abbrev pub First : List Row → ℕ → Type 0
@@ -139,54 +141,47 @@ pub record Lowest (rs : List Row) (k : ℕ) : Type 0 where
 
 -- A request is to be refused with number k and an offset: for the first fault of the sheet, with its offset; else for the first
 -- of the request's causes, with offset 0.
-pub data Refused (s x t : List ℕ) (r : Request) (k offset : ℕ) : Type 0 where
-  bySheet : FirstFault s k offset → Refused s x t r k offset
-  byLent : Faultless s → First (causesOf s x t r) k → offset ≡ 0 → Refused s x t r k offset
+pub data Refused (s : List ℕ) (o : Office) (r : Request) (k offset : ℕ) : Type 0 where
+  bySheet : FirstFault s k offset → Refused s o r k offset
+  byLent : Faultless s → First (causesOf s o r) k → offset ≡ 0 → Refused s o r k offset
 
 -- no cause at all
-pub record NoCause (s x t : List ℕ) (r : Request) : Type 0 where
+pub record NoCause (s : List ℕ) (o : Office) (r : Request) : Type 0 where
   pub sheet : Faultless s
-  pub lent : NoneHolds (causesOf s x t r)
+  pub lent : NoneHolds (causesOf s o r)
 
--- Demand 1, of a request on a sheet s, an index x and a table t.
-pub record TurnedBack (r : Request) (s x t : List ℕ) : Type 0 where
-  -- a number is given, with an offset, exactly if its cause is the first
-  pub given : (k offset : ℕ) → ¬ (k ≡ 0) → ((serve r s x t .number ≡ k) × (serve r s x t .offset ≡ offset)) ↔ Refused s x t r k offset
-  pub numbered : (k : ℕ) → ¬ (k ≡ 0) → (serve r s x t .number ≡ k) ↔ ((offset : ℕ) × Refused s x t r k offset)
-  -- after the sheet the lowest number wins
-  pub lowest : (k : ℕ) → First (causesOf s x t r) k ↔ Lowest (causesOf s x t r) k
-  -- number 0 exactly if no cause holds
-  pub accepted : (serve r s x t .number ≡ 0) ↔ NoCause s x t r
-  -- and then the offset is 0
-  pub offset-0 : serve r s x t .number ≡ 0 → serve r s x t .offset ≡ 0
-  -- a number that is not 0 leaves every lent byte as it was
-  pub left : ¬ (serve r s x t .number ≡ 0) → (serve r s x t .index ≡ x) × (serve r s x t .table ≡ t)
-  -- and gives no value
-  pub no-value : ¬ (serve r s x t .number ≡ 0) → (serve r s x t .kind ≡ 0) × (serve r s x t .value ≡ pos 0)
+-- What can be lent and given: slices of bytes, arguments of 64 bits, posted numbers signed.
+abbrev pub FitsArguments : Request → Type 0
+FitsArguments (opening how) = Unit {0}
+FitsArguments (calling (post i kind z)) = (i < 2 ^ 64) × (kind < 2 ^ 64) × SFits w64 z
+FitsArguments (calling (keep i)) = i < 2 ^ 64
+FitsArguments (calling (drop i)) = i < 2 ^ 64
+FitsArguments (calling (step i)) = i < 2 ^ 64
+FitsArguments (calling (ask i)) = i < 2 ^ 64
 
--- an input that is given number k
-abbrev pub Gets : ℕ → Type 0
-Gets k = (r : Request) × (s : List ℕ) × (x : List ℕ) × (t : List ℕ) × (serve r s x t .number ≡ k)
+pub record Lendable (r : Request) (s : List ℕ) (o : Office) : Type 0 where
+  pub sheet : Bytes s
+  pub index : Bytes (o .index)
+  pub table : Bytes (o .table)
+  pub arguments : FitsArguments r
 
--- each of the numbers 1 to 14 is given (15 and 16 are the printer's and the day program's)
-abbrev pub EachGiven : Type 0
-EachGiven =
-    Gets 1 × Gets 2 × Gets 3 × Gets 4 × Gets 5 × Gets 6 × Gets 7 × Gets 8 × Gets 9 × Gets 10 × Gets 11 × Gets 12 × Gets 13 × Gets 14
+-- something that can be lent is given number k
+pub record Gets (k : ℕ) : Type 0 where
+  pub request : Request
+  pub sheet : List ℕ
+  pub office : Office
+  pub lendable : Lendable request sheet office
+  pub given : serve request sheet office .number ≡ k
 
 -- What is lent with a sheet is accepted: the sheet has no fault, and none of the causes of index and table holds.
-pub record AcceptedLent (s x t : List ℕ) : Type 0 where
+pub record AcceptedLent (s : List ℕ) (o : Office) : Type 0 where
   pub sheet : Faultless s
-  pub lent : NoneHolds (lentCauses (sheetOf s) (itemsOf s) x t)
-
--- At an office, whatever was called before, index and table are accepted, and a call is given 0, or 11 or more.
-pub record OfficeAccepted (s : List ℕ) (office : Given) (cs : List Call) : Type 0 where
-  pub accepted : AcceptedLent s (office .index) (tableAfter s office cs)
-  pub numbers : (c : Call) → let g : Given = callOn s (office .index) (tableAfter s office cs) c in (g .number ≡ 0) ⊎ (11 ≤ g .number)
+  pub lent : NoneHolds (lentCauses (sheetOf s) (itemsOf s) o)
 
 -- What the words above come to on the bytes of a sheet without a fault: n by the first field, figures by their tags, and the
 -- offsets in the index.
 pub record SheetWords (s : List ℕ) : Type 0 where
   pub count-is : size (sheetOf s) ≡ itemCount s
   pub figure-is : (i : ℕ) → i < itemCount s → (isFigure (itemAt (sheetOf s) i) ≡ true) ↔ (tagOf s (item i) ≡ 3)
-  pub index-long : length (indexBytes (itemsOf s)) ≡ 4 * itemCount s
-  pub offset-is : (i : ℕ) → i < itemCount s → le32At (indexBytes (itemsOf s)) (4 * i) ≡ offsetOf s (item i)
+  pub index-long : length (indexBytes (itemsOf s)) ≡ indexWidth * itemCount s
+  pub offset-is : (i : ℕ) → i < itemCount s → le32At (indexBytes (itemsOf s)) (indexWidth * i) ≡ offsetOf s (item i)

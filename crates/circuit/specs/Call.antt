@@ -1,0 +1,19 @@
+-- A call with its arguments as given, a posting, and an opening: what is handed in. What a call tests and does stands in
+-- Calls. Assumes nothing.
+use Prim.Native.Nat.{ℕ}
+use lib.IntN.{ℤ}
+use Rattle.circuit.specs.Value.{Value}
+
+-- 01's five calls: the item, and of a post the kind and the number
+pub data Call : Type 0 where
+  post : ℕ → ℕ → ℤ → Call
+  keep drop step ask : ℕ → Call
+
+-- a posting: an entry, and the value that it is set to
+pub record Posting : Type 0 where
+  pub entry : ℕ
+  pub value : Value
+
+-- 01's two openings
+pub data Opening : Type 0 where
+  bare full : Opening

@@ -1,0 +1,82 @@
+-- Looking up, working out, catching up and the fresh office recurse with a bound on the depth or on the number of steps,
+-- which 01 does not have. Here are their equations without a bound, in 01's words, for every sheet whose parents have
+-- lower numbers, every table and every item. Proved in proofs/Equations. Assumes nothing.
+use Prim.Native.Nat.{ℕ, _<_, _≤_}
+use mathlib.Core.Path.{_≡_}
+use mathlib.Core.Logic.{_↔_}
+use mathlib.Core.Bool.{Bool, true, false, _||_}
+use mathlib.Core.List.{List, [], _∷_, map}
+use mathlib.Core.Option.{none, some}
+use Rattle.circuit.specs.Value.{Value}
+use Rattle.circuit.specs.Rules.{Operation, apply}
+use Rattle.circuit.specs.Sheet.{Sheet, Spread, entry, figure, size, itemAt, Ordered, Entries}
+use Rattle.circuit.specs.Table.{Table, Mark, unk, held, upd, isNotice, noticeIf, isMarked}
+use Rattle.circuit.specs.Machine.{Looked, looked, Gathered, gathered, gather, lookUp, work, lowestMarked, catchUp}
+use Rattle.circuit.specs.Fresh.{give, freshAsk}
+use Rattle.circuit.specs.Words.{Quiet, CaughtUp}
+
+-- 01's "looking up" and "working out". `gather (lookUp S) T ps` looks the items ps up, one after the other.
+pub record LookingUp (S : Sheet) (T : Table) : Type 0 where
+  -- Looking up a stored item gives its value, flagged if its mark is notice. The table is left.
+  pub stored : (i : ℕ) (v : Value) (m : Mark) → T i ≡ held v m → lookUp S T i ≡ looked T v (isNotice m)
+  -- Looking up an UNK figure looks up its parents in their listed order and applies the rule. It is flagged if any parent
+  -- was, or if its own mark is notice. With keep 0 nothing more is stored.
+  pub passed : (i : ℕ) (own : Bool) (op : Operation) (spread : Spread) (ps : List ℕ)
+      → itemAt S i ≡ figure op false spread ps → T i ≡ unk own
+      → let g : Gathered = gather (lookUp S) T ps in
+      lookUp S T i ≡ looked (g .table) (apply op (g .values)) (g .flag || own)
+  -- With keep 1 the result is stored, and if flagged the mark becomes notice.
+  pub kept : (i : ℕ) (own : Bool) (op : Operation) (spread : Spread) (ps : List ℕ)
+      → itemAt S i ≡ figure op true spread ps → T i ≡ unk own
+      → let g : Gathered = gather (lookUp S) T ps in
+      let value : Value = apply op (g .values) in
+      let flag : Bool = g .flag || own in
+      lookUp S T i ≡ looked (upd (g .table) i (held value (noticeIf flag))) value flag
+  -- Working out a figure looks up its parents in their listed order and applies the rule. It is flagged if any parent was.
+  pub worked : (i : ℕ) (op : Operation) (keep : Bool) (spread : Spread) (ps : List ℕ)
+      → itemAt S i ≡ figure op keep spread ps
+      → let g : Gathered = gather (lookUp S) T ps in
+      work S T i ≡ looked (g .table) (apply op (g .values)) (g .flag)
+  -- of no parents
+  pub none-gathered : gather (lookUp S) T [] ≡ gathered T [] false
+  -- of a parent and the rest, which are looked up on the table that the first left
+  pub next-gathered : (p : ℕ) (ps : List ℕ)
+      → let r : Looked = lookUp S T p in
+      let g : Gathered = gather (lookUp S) (r .table) ps in
+      gather (lookUp S) T (p ∷ ps) ≡ gathered (g .table) (r .value ∷ g .values) (r .flag || g .flag)
+
+-- What the fresh office gives, with the entries E as its state.
+pub record FreshGives (S : Sheet) (E : Entries) : Type 0 where
+  -- asked for an item of the sheet it gives a value
+  pub given : (i : ℕ) → i < size S → freshAsk S E i ≡ some (give S E i)
+  -- for an entry the value held
+  pub ofEntry : (i : ℕ) → itemAt S i ≡ entry → give S E i ≡ E i
+  -- for a figure, the figure's rule applied to what it gives for the parents, in their listed order
+  pub ofFigure : (i : ℕ) (op : Operation) (keep : Bool) (spread : Spread) (ps : List ℕ)
+      → itemAt S i ≡ figure op keep spread ps → give S E i ≡ apply op (map (give S E) ps)
+  -- for item n or more, no value
+  pub ofNone : (i : ℕ) → size S ≤ i → freshAsk S E i ≡ none
+
+-- item i is below n and marked, and no item below it is
+pub record MarkedFirst (T : Table) (n i : ℕ) : Type 0 where
+  pub below : i < n
+  pub marked : isMarked (T i) ≡ true
+  pub first : (j : ℕ) → j < i → isMarked (T j) ≡ false
+
+-- The lowest marked item is what it is called: there is none exactly if no item below n is marked.
+pub record Lowest (T : Table) (n : ℕ) : Type 0 where
+  pub no-item : (lowestMarked T n ≡ none) ↔ ((i : ℕ) → i < n → isMarked (T i) ≡ false)
+  pub item : (i : ℕ) → (lowestMarked T n ≡ some i) ↔ MarkedFirst T n i
+
+-- Catching up: "step the lowest marked item until none is marked" (`CaughtUp`) leads to this table and to no other, and no
+-- mark stands on it.
+pub record CatchingUp (S : Sheet) (T : Table) : Type 0 where
+  pub reached : CaughtUp S T (catchUp S T)
+  pub only : (U : Table) → CaughtUp S T U → U ≡ catchUp S T
+  pub quiet : Quiet S (catchUp S T)
+
+pub record Equations : Type 0 where
+  pub looking : (S : Sheet) → Ordered S → (T : Table) → LookingUp S T
+  pub fresh : (S : Sheet) → Ordered S → (E : Entries) → FreshGives S E
+  pub lowest : (T : Table) (n : ℕ) → Lowest T n
+  pub catching : (S : Sheet) → Ordered S → (T : Table) → CatchingUp S T

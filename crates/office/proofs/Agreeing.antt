@@ -1,0 +1,476 @@
+-- Two offices agree, and what stays stored, for the calls on lent bytes. Assumes nothing.
+use Prim.Native.Nat.{ℕ, zero, suc, _<_}
+use native.Mathlib.Omega.{arith}
+use mathlib.Core.Path.{_≡_, refl, sym, ap, _∙_, subst, subst₂}
+use mathlib.Core.Bool.{Bool, true, false, cond, not}
+use mathlib.Core.List.{List, [], _∷_, _++_, append-assoc}
+use mathlib.Core.Option.{Option, none, some}
+use lib.Dec.{eqb, ltb}
+use lib.IntN.{ℤ}
+use lib.ListN.{length, length-map}
+use borrow.Author.Tests.{lt-ltb, le-ltb}
+use Rattle.circuit.specs.Value.{Value, null, out, num, kindOf, numberOf}
+use Rattle.circuit.specs.Circuit.{LeadsTo}
+use Rattle.circuit.specs.Sheet.{Sheet, Ordered, Entries, size, itemAt, isFigure, circuitOf}
+use Rattle.circuit.specs.Table.{Table, Cell, Mark, unmarked, refresh, notice, unk, held, isStored, isMark, markOf, valueIn, opened}
+use Rattle.circuit.specs.Call.{Call, post, keep, drop, step, ask, Posting, Opening, bare, full}
+use Rattle.circuit.specs.Calls.{Outcome, firstCause, perform, run, made, madeBy, postings, postingOf, postedValue, ifAccepted as ifMade}
+use Rattle.circuit.specs.Fresh.{blank, freshAsk, freshRun}
+use Rattle.circuit.specs.Words.{Quiet}
+use Rattle.circuit.proofs.Offices.{Agree, Answers, two-offices, opened-sound}
+use Rattle.circuit.proofs.Retention.{Retained, retention}
+use Rattle.circuit.proofs.View.{result-below}
+use Rattle.circuit.proofs.Invariant.{Justified, exact, due, awaits}
+use Rattle.circuit.proofs.Sound.{Sound, run-sound}
+use Rattle.circuit.proofs.Accepted.{number-cause, post-passed}
+use Rattle.layout.specs.Read.{Placed, Scan, going, stopped, placeField, goOn, judge, itemTests, lastTests, headTests, scanItem, scan, scanEnd, afterLast, scanLast, scanSheet, conclude, editionIn, countIn, headContent, SheetRead, opens, refused, readSheet, layoutOf}
+use Rattle.layout.specs.Opened.{sheetFrom, sheetOf, sheetRead}
+use Rattle.layout.specs.Index.{indexBytes}
+use Rattle.layout.proofs.Scan.{opened-ordered}
+use Rattle.layout.proofs.IndexLaws.{index-length}
+use Rattle.field.specs.Field.{cutAt}
+use Rattle.field.specs.declared.Cut.{Cut}
+use Rattle.field.specs.declared.Cut.the-variants.{Field, Short, Absent}
+use Rattle.word.specs.Word.{le64At, bytes64}
+use Rattle.word.proofs.Bytes.{leAt-drop}
+use mir.Syntax.{w64}
+use mir.Val.{toZ}
+use Rattle.table.specs.Rows.{row}
+use Rattle.table.specs.Record.{width, kindIn, markIn, numberIn, recordOf, markCode, encodeCell}
+use Rattle.table.specs.Bytes.{encodeTable, Holdable}
+use Rattle.table.proofs.Tables.{encoded-record, encodeTable-ext, bare-holdable, full-holdable}
+use Rattle.office.specs.Office.{Office, keeping, Given, accepted, openingTests, unlessRefused, callOn, openRead, openOn, runOn, kindRead, numberRead}
+use Rattle.office.specs.Demand2Words.{answerOf}
+use Rattle.office.specs.Demand3Words.{Posted, postOf, ifAccepted, acceptedPosts, freshAnswer, SameReading, storedIn, StaysStored, Retains}
+use Rattle.office.proofs.Holdable.{run-holdable, perform-holdable}
+use Rattle.office.proofs.Bridge.{Within, perform-within, givenBy, call-performs, run-runs}
+
+-- a reading that stops does so by a number that is not 0
+abbrev Positive : Scan → Type 0
+Positive (going at ps) = Unit {0}
+Positive (stopped k at) = k ≡ 0 → ⊥
+
+go-on-positive : (k at : ℕ) (next : Scan) → Positive next → Positive (goOn k at next)
+go-on-positive zero at next h = h
+go-on-positive (suc k) at next h = λ e. omega arith
+
+place-positive : (s : List ℕ) (at : ℕ) (ps : List Placed) (c : Cut) → Positive (placeField s at ps c)
+place-positive s at ps Absent = λ e. omega arith
+place-positive s at ps Short = λ e. omega arith
+place-positive s at ps (Field tag start len next) = tt
+
+item-positive : (s : List ℕ) (edition : ℕ) (x : Scan) → Positive x → Positive (scanItem s edition x)
+item-positive s edition (stopped k at) h = h
+item-positive s edition (going at ps) h =
+    go-on-positive (judge (itemTests edition ps) s (cutAt s at)) at (placeField s at ps (cutAt s at)) (place-positive s at ps (cutAt s at))
+
+scan-positive : (s : List ℕ) (edition k : ℕ) → Positive (scan s edition k)
+unfolding scan
+scan-positive s edition zero = tt
+scan-positive s edition (suc k) = item-positive s edition (scan s edition k) (scan-positive s edition k)
+
+end-positive : (b : Bool) (at : ℕ) (ps : List Placed) → Positive (cond b (stopped 2 at) (going at ps))
+end-positive true at ps = λ e. omega arith
+end-positive false at ps = tt
+
+last-positive : (s : List ℕ) (x : Scan) → Positive x → Positive (scanLast s x)
+last-positive s (stopped k at) h = h
+last-positive s (going at ps) h =
+    go-on-positive (judge lastTests s (cutAt s at)) at (scanEnd s (afterLast s (cutAt s at)) ps)
+    (end-positive (ltb (afterLast s (cutAt s at)) (length s)) (afterLast s (cutAt s at)) ps)
+
+-- a refused sheet has a number that is not 0
+pub refused-positive : (s : List ℕ) (k at : ℕ) → readSheet s ≡ refused k at → k ≡ 0 → ⊥
+unfolding readSheet scanSheet
+refused-positive s k at e = go (scanSheet s) (sheet-positive (editionIn (headContent s)) (countIn (headContent s))) e
+  where
+    sheet-positive : (edition n : ℕ) → Positive (goOn (judge headTests s (cutAt s 0)) 0 (scanLast s (scan s edition n)))
+    sheet-positive edition n =
+        go-on-positive (judge headTests s (cutAt s 0)) 0 (scanLast s (scan s edition n)) (last-positive s (scan s edition n) (scan-positive s edition n))
+
+    go : (x : Scan) → Positive x → conclude (editionIn (headContent s)) x ≡ refused k at → k ≡ 0 → ⊥
+    go (going a ps) h q = let bad : _≡_ {A = ℕ} 0 1 = cc in absurd (omega arith)
+    go (stopped n a) h q = let same : n ≡ k = cc in λ z. h (same ∙ z)
+
+-- what an accepted opening left
+pub record Opens (s : List ℕ) (kept : Office) (o : Opening) : Type 0 where
+  pub edition : ℕ
+  pub placed : List Placed
+  pub reads : readSheet s ≡ opens edition placed
+  pub gives : openOn o s kept ≡ accepted none (keeping (indexBytes placed) (encodeTable (sheetRead edition placed) (opened o (sheetRead edition placed))))
+
+pub opening-opens : (s : List ℕ) (kept : Office) (o : Opening) → openOn o s kept .number ≡ 0 → Opens s kept o
+unfolding openOn
+opening-opens s kept o e = go (readSheet s) refl e
+  where
+    go : (r : SheetRead) → readSheet s ≡ r → openRead o r kept .number ≡ 0 → Opens s kept o
+    go (refused k at) q z = absurd (refused-positive s k at q z)
+    go (opens edition ps) q z = pick (firstCause (openingTests ps kept)) refl z
+      where
+        G : Given
+        G = accepted none (keeping (indexBytes ps) (encodeTable (sheetRead edition ps) (opened o (sheetRead edition ps))))
+
+        pick : (k : ℕ) → firstCause (openingTests ps kept) ≡ k → unlessRefused k kept G .number ≡ 0 → Opens s kept o
+        pick zero c w =
+            record { edition = edition; placed = ps; reads = q; gives = ap (λ r. openRead o r kept) q ∙ ap (λ k. unlessRefused k kept G) c }
+        pick (suc k) c w = absurd (omega arith)
+
+-- a table with nothing beyond the sheet
+abbrev pub cut : Sheet → Table → Table
+cut S T = λ i. cond (ltb i (size S)) (T i) (unk false)
+
+cut-below : (S : Sheet) (T : Table) (i : ℕ) → i < size S → cut S T i ≡ T i
+cut-below S T i low = rw (lt-ltb i (size S) low)
+
+cut-within : (S : Sheet) (T : Table) → Within S (cut S T)
+cut-within S T j beyond = rw (le-ltb j (size S) beyond)
+
+cut-holdable : (S : Sheet) (T : Table) → Holdable S T → Holdable S (cut S T)
+cut-holdable S T h i low = rw (cut-below S T i low) (h i low)
+
+-- a table that is equal below n is sound too
+pub figure-below : (S : Sheet) (k : ℕ) → isFigure (itemAt S k) ≡ true → k < size S
+figure-below S k f = go (ltb k (size S)) refl
+  where
+    go : (b : Bool) → ltb k (size S) ≡ b → k < size S
+    go true e = borrow.Author.Tests.ltb-true k (size S) e
+    go false e =
+        let d : itemAt S k ≡ Rattle.circuit.specs.Sheet.entry = lib.ListN.List·getD-eq-default S Rattle.circuit.specs.Sheet.entry {n = k} (borrow.Author.Tests.ltb-false k (size S) e) in
+        let z : _≡_ {A = Bool} false true = rw d at f in
+        let bad : _≡_ {A = ℕ} 0 1 = cc in absurd (omega arith)
+
+cut-sound : (S : Sheet) → Ordered S → (E : Entries) (T : Table) → Sound S E T → Sound S E (cut S T)
+cut-sound S ordered E T sound =
+    record {
+      invariant = λ k f v m e.
+          let low : k < size S = figure-below S k f in
+          justified k low v m (sound .invariant k f v m (sym (cut-below S T k low) ∙ e));
+      formed = λ i low. rw (cut-below S T i low) (sound .formed i low);
+      holds = λ i low f. ap valueIn (cut-below S T i low) ∙ sound .holds i low f;
+    }
+  where
+    justified : (k : ℕ) → k < size S → (v : Value) (m : Mark) → Justified S T k v m → Justified S (cut S T) k v m
+    justified k low v m (exact e) = exact (e ∙ ap (λ r. r .value) (sym (result-below S ordered (cut S T) T (size S) (λ j l. cut-below S T j l) k (omega arith))))
+    justified k low v m (due e) = due e
+    justified k low v m (awaits e) = awaits (ap (λ r. r .flag) (result-below S ordered (cut S T) T (size S) (λ j l. cut-below S T j l) k (omega arith)) ∙ e)
+
+opened-holdable : (o : Opening) (S : Sheet) → Holdable S (opened o S)
+opened-holdable bare S = bare-holdable S
+opened-holdable full S = full-holdable S
+
+-- the postings of posts by their arguments
+postingsOf : List Posted → List Posting
+postingsOf [] = []
+postingsOf (p ∷ ps) = postingOf (p .item) (postedValue (p .kind) (p .number)) ++ postingsOf ps
+
+postings-append : (ps qs : List Posted) → postingsOf (ps ++ qs) ≡ postingsOf ps ++ postingsOf qs
+unfolding postingsOf
+postings-append [] qs = refl
+postings-append (p ∷ ps) qs = ap (λ r. postingOf (p .item) (postedValue (p .kind) (p .number)) ++ r) (postings-append ps qs) ∙ sym (append-assoc (postingOf (p .item) (postedValue (p .kind) (p .number))) (postingsOf ps) (postingsOf qs))
+
+append-none : (ps : List Posting) → ps ++ [] ≡ ps
+append-none [] = refl
+append-none (p ∷ ps) = ap (λ r. p ∷ r) (append-none ps)
+
+post-made : (k : ℕ) (c : Call) → postingsOf (ifAccepted k (postOf c)) ≡ ifMade k (madeBy c)
+unfolding postingsOf
+post-made zero (post i kind z) = append-none (postingOf i (postedValue kind z))
+post-made zero (keep i) = refl
+post-made zero (drop i) = refl
+post-made zero (step i) = refl
+post-made zero (ask i) = refl
+post-made (suc k) c = refl
+
+-- a record's parts, of the encoding of a table
+kind-cell : (c : Cell) → not (eqb (kindIn (encodeCell c)) 0) ≡ isStored c
+unfolding encodeCell
+kind-cell (unk b) = refl
+kind-cell (held null m) = refl
+kind-cell (held out m) = refl
+kind-cell (held (num z) m) = refl
+
+-- a record's number stands in its own bytes
+number-alone : (k m : ℕ) (z : ℤ) → numberIn (recordOf k m z) ≡ le64At (bytes64 z) 0
+number-alone k m z = ap (λ (x : ℕ). toZ w64 x) (leAt-drop 8 (recordOf k m z) 2 0)
+
+-- cells that hold the same value have the same kind and number
+parts-same : (c d : Cell) → isStored c ≡ true → isStored d ≡ true → valueIn d ≡ valueIn c
+    → (kindIn (encodeCell d) ≡ kindIn (encodeCell c)) × (numberIn (encodeCell d) ≡ numberIn (encodeCell c))
+unfolding encodeCell
+parts-same (unk b) d e f q = let bad : _≡_ {A = ℕ} 0 1 = cc in absurd (omega arith)
+parts-same (held v m) (unk b) e f q = let bad : _≡_ {A = ℕ} 0 1 = cc in absurd (omega arith)
+parts-same (held v m) (held w l) e f q = (
+  ap kindOf q,
+  number-alone (kindOf w) (markCode l) (numberOf w) ∙ ap (λ u. le64At (bytes64 (numberOf u)) 0) q ∙ sym (number-alone (kindOf v) (markCode m) (numberOf v)),
+)
+
+pub mark-cell : (c : Cell) → markIn (encodeCell c) ≡ markCode (markOf c)
+unfolding encodeCell
+mark-cell (unk b) = refl
+mark-cell (held v m) = refl
+
+code-unmarked : (m : Mark) → markCode m ≡ 0 → isMark m ≡ false
+code-unmarked unmarked e = refl
+code-unmarked refresh e = absurd (omega arith)
+code-unmarked notice e = absurd (omega arith)
+
+pub unmarked-code : (m : Mark) → isMark m ≡ false → markCode m ≡ 0
+unmarked-code unmarked e = refl
+unmarked-code refresh e = let bad : _≡_ {A = ℕ} 0 1 = cc in absurd (omega arith)
+unmarked-code notice e = let bad : _≡_ {A = ℕ} 0 1 = cc in absurd (omega arith)
+
+answer-same : (S : Sheet) (x : List ℕ) (o : Outcome) (k : ℕ) (v : Option Value) → o .number ≡ k → o .reading ≡ v
+    → answerOf (givenBy S x o) ≡ record { number = k; offset = 0; kind = kindRead v; value = numberRead v }
+answer-same S x o k v n r = λ i. record { number = n i; offset = 0; kind = kindRead (r i); value = numberRead (r i) }
+
+answer-fresh : (S : Sheet) (x : List ℕ) (o : Outcome) (given : Option Value) → Answers given o → answerOf (givenBy S x o) ≡ freshAnswer given
+answer-fresh S x o none a = answer-same S x o 11 none (a .0) (a .1)
+answer-fresh S x o (some v) a = answer-same S x o 0 (some v) (a .0) (a .1)
+
+-- An opened sheet's offices: each call is the machine's, from a table that has the invariant.
+module _ (s : List ℕ) (edition : ℕ) (ps : List Placed) (reads : readSheet s ≡ opens edition ps) where
+  abbrev S : Sheet
+  S = sheetRead edition ps
+
+  -- an office that keeps the sheet's index and the encoding of a table
+  abbrev pub at : Table → Office
+  at T = keeping (indexBytes ps) (encodeTable (sheetRead edition ps) T)
+
+  ordered : Ordered (sheetRead edition ps)
+  ordered = opened-ordered s edition ps reads
+
+  pub sized : size (sheetRead edition ps) ≡ length ps
+  sized = length-map (layoutOf edition ps .items) _ ∙ length-map ps _
+
+  pub sheet-is : sheetOf s ≡ sheetRead edition ps
+  unfolding sheetOf
+  sheet-is = ap sheetFrom reads
+
+  unfoldable pub start : Opening → Table
+  start o = cut (sheetRead edition ps) (opened o (sheetRead edition ps))
+
+  pub start-holdable : (o : Opening) → Holdable (sheetRead edition ps) (start o)
+  unfolding start
+  start-holdable o = cut-holdable (sheetRead edition ps) _ (opened-holdable o (sheetRead edition ps))
+
+  pub start-within : (o : Opening) → Within (sheetRead edition ps) (start o)
+  unfolding start
+  start-within o = cut-within (sheetRead edition ps) (opened o (sheetRead edition ps))
+
+  start-sound : (o : Opening) → Sound (sheetRead edition ps) blank (start o)
+  unfolding start
+  start-sound o = cut-sound (sheetRead edition ps) ordered blank _ (opened-sound (sheetRead edition ps) ordered o)
+
+  start-encoded : (o : Opening) → encodeTable (sheetRead edition ps) (opened o (sheetRead edition ps)) ≡ encodeTable (sheetRead edition ps) (start o)
+  unfolding start
+  start-encoded o = encodeTable-ext (sheetRead edition ps) _ _ (λ i low. sym (cut-below (sheetRead edition ps) (opened o (sheetRead edition ps)) i low))
+
+  pub run-within : (cs : List Call) (T : Table) → Within (sheetRead edition ps) T → Within (sheetRead edition ps) (run (sheetRead edition ps) T cs)
+  unfolding run
+  run-within [] T w = w
+  run-within (c ∷ cs) T w = run-within cs (perform (sheetRead edition ps) T c .table) (perform-within (sheetRead edition ps) ordered T c w)
+
+  performs : (T : Table) (c : Call) → Holdable (sheetRead edition ps) T → Within (sheetRead edition ps) T
+      → callOn s (at T) c ≡ givenBy (sheetRead edition ps) (indexBytes ps) (perform (sheetRead edition ps) T c)
+  performs = call-performs s edition ps reads (index-length ps) sized ordered
+
+  -- the accepted posts of a list are the postings that it makes
+  posts-made : (cs : List Call) (T : Table) → Holdable (sheetRead edition ps) T → Within (sheetRead edition ps) T
+      → postingsOf (acceptedPosts s (at T) cs) ≡ postings (sheetRead edition ps) T cs
+  unfolding acceptedPosts postings made postingsOf
+  posts-made [] T h w = refl
+  posts-made (c ∷ cs) T h w =
+      let U : Table = perform (sheetRead edition ps) T c .table in
+      let one = performs T c h w in
+      let rest = posts-made cs U (perform-holdable (sheetRead edition ps) ordered T c h) (perform-within (sheetRead edition ps) ordered T c w) in
+      ap (λ g. postingsOf (ifAccepted (g .number) (postOf c) ++ acceptedPosts s (g .after) cs)) one
+      ∙ postings-append (ifAccepted (perform (sheetRead edition ps) T c .number) (postOf c)) _
+      ∙ ap (λ qs. postingsOf (ifAccepted (perform (sheetRead edition ps) T c .number) (postOf c)) ++ qs) rest
+      ∙ ap (λ qs. qs ++ postings (sheetRead edition ps) U cs) (post-made (perform (sheetRead edition ps) T c .number) c)
+
+  pub runs : (cs : List Call) (T : Table) → Holdable (sheetRead edition ps) T → Within (sheetRead edition ps) T
+      → runOn s (at T) cs ≡ at (run (sheetRead edition ps) T cs)
+  runs = run-runs s edition ps reads (index-length ps) sized ordered
+
+  -- an ask after a list of calls
+  asks : (cs : List Call) (T : Table) (i : ℕ) → Holdable (sheetRead edition ps) T → Within (sheetRead edition ps) T
+      → callOn s (runOn s (at T) cs) (ask i)
+      ≡ givenBy (sheetRead edition ps) (indexBytes ps) (perform (sheetRead edition ps) (run (sheetRead edition ps) T cs) (ask i))
+  asks cs T i h w =
+      ap (λ k. callOn s k (ask i)) (runs cs T h w)
+      ∙ performs (run (sheetRead edition ps) T cs) (ask i) (run-holdable (sheetRead edition ps) ordered cs T h) (run-within cs T w)
+
+  -- the office that an accepted opening leaves
+  unfoldable pub office : Opening → Given
+  office o = accepted none (at (start o))
+
+  pub opening-gives : (kept : Office) (o : Opening) → openOn o s kept .number ≡ 0 → openOn o s kept ≡ office o
+  unfolding openOn office
+  opening-gives kept o e =
+      ap (λ r. openRead o r kept) reads ∙ pick (firstCause (openingTests ps kept)) (ap (λ r. openRead o r kept .number) (sym reads) ∙ e)
+      ∙ ap (λ u. accepted none (keeping (indexBytes ps) u)) (start-encoded o)
+    where
+      G : Given
+      G = accepted none (at (opened o (sheetRead edition ps)))
+
+      pick : (k : ℕ) → unlessRefused k kept G .number ≡ 0 → unlessRefused k kept G ≡ G
+      pick zero w = refl
+      pick (suc k) w = absurd (omega arith)
+
+  -- every ask at two offices
+  offices-same : (o p : Opening) (cs ds : List Call)
+      → acceptedPosts s (at (start o)) cs ≡ acceptedPosts s (at (start p)) ds
+      → (i : ℕ) → SameReading s (at (start o)) cs (at (start p)) ds i
+  offices-same o p cs ds equal i =
+      record {
+        same = first ∙ alike ∙ sym second;
+        fresh = first ∙ answer-fresh X x one (freshAsk X (freshRun X blank cs) i) (both .first i) ∙ ap (λ Y. freshAnswer (freshAsk Y (freshRun Y blank cs) i)) (sym sheet-is);
+        fresh-other = second ∙ sym alike ∙ answer-fresh X x one (freshAsk X (freshRun X blank ds) i) (both .second i) ∙ ap (λ Y. freshAnswer (freshAsk Y (freshRun Y blank ds) i)) (sym sheet-is);
+      }
+    where
+      X : Sheet
+      X = sheetRead edition ps
+
+      x : List ℕ
+      x = indexBytes ps
+
+      made-same : postings X (start o) cs ≡ postings X (start p) ds
+      made-same =
+          sym (posts-made cs (start o) (start-holdable o) (start-within o))
+          ∙ ap postingsOf equal
+          ∙ posts-made ds (start p) (start-holdable p) (start-within p)
+
+      both : Agree X blank (start o) cs (start p) ds
+      both = two-offices X ordered blank (start o) cs (start p) ds (start-sound o) (start-sound p) made-same
+
+      one : Outcome
+      one = perform X (run X (start o) cs) (ask i)
+
+      two : Outcome
+      two = perform X (run X (start p) ds) (ask i)
+
+      alike : answerOf (givenBy X x one) ≡ answerOf (givenBy X x two)
+      alike = answer-same X x one (two .number) (two .reading) (both .numbers i) (both .readings i)
+
+      first : answerOf (callOn s (runOn s (at (start o)) cs) (ask i)) ≡ answerOf (givenBy X x (perform X (run X (start o) cs) (ask i)))
+      first = ap answerOf (asks cs (start o) i (start-holdable o) (start-within o))
+
+      second : answerOf (callOn s (runOn s (at (start p)) ds) (ask i)) ≡ answerOf (givenBy X x (perform X (run X (start p) ds) (ask i)))
+      second = ap answerOf (asks ds (start p) i (start-holdable p) (start-within p))
+
+  -- the words of what stays stored, on the encoding of a table
+  stored-is : (T : Table) (k : ℕ) → k < size (sheetRead edition ps) → not (eqb (kindIn (row width (encodeTable (sheetRead edition ps) T) k)) 0) ≡ isStored (T k)
+  stored-is T k low = ap (λ r. not (eqb (kindIn r) 0)) (encoded-record (sheetRead edition ps) T k low) ∙ kind-cell (T k)
+
+  mark-is : (T : Table) (k : ℕ) → k < size (sheetRead edition ps) → markIn (row width (encodeTable (sheetRead edition ps) T) k) ≡ markCode (markOf (T k))
+  mark-is T k low = ap markIn (encoded-record (sheetRead edition ps) T k low) ∙ mark-cell (T k)
+
+  quiet-is : (T : Table) → ((k : ℕ) → k < size (sheetRead edition ps) → markIn (row width (encodeTable (sheetRead edition ps) T) k) ≡ 0) → Quiet (sheetRead edition ps) T
+  quiet-is T h k low = code-unmarked (markOf (T k)) (sym (mark-is T k low) ∙ h k low)
+
+  -- kind and number of a stored record, by the value that its cell holds
+  held-same : (T U : Table) (k : ℕ) → k < size (sheetRead edition ps) → isStored (T k) ≡ true → isStored (U k) ≡ true → valueIn (U k) ≡ valueIn (T k)
+      → (kindIn (row width (at U .table) k) ≡ kindIn (row width (at T .table) k)) × (numberIn (row width (at U .table) k) ≡ numberIn (row width (at T .table) k))
+  held-same T U k low a b same =
+      let p = parts-same (T k) (U k) a b same in (
+        ap kindIn (encoded-record (sheetRead edition ps) U k low) ∙ p .0 ∙ ap kindIn (sym (encoded-record (sheetRead edition ps) T k low)),
+        ap numberIn (encoded-record (sheetRead edition ps) U k low) ∙ p .1 ∙ ap numberIn (sym (encoded-record (sheetRead edition ps) T k low)),
+      )
+
+  stays : (T : Table) (ds : List Call) (U : Table) (k : ℕ) → k < size (sheetRead edition ps) → Retained (sheetRead edition ps) T ds U k
+      → storedIn (at T .table) k ≡ true → StaysStored (at T .table) ds (at U .table) k
+  stays T ds U k low r h =
+      let was : isStored (T k) ≡ true = sym (stored-is T k low) ∙ h in
+      record {
+        stored = λ d. stored-is U k low ∙ r .stored was d;
+        value = λ g. let now : isStored (U k) ≡ true = sym (stored-is U k low) ∙ g in held-same T U k low was now (r .unchanged was now);
+      }
+
+  -- an entry is not led to, nor is it a figure: what is retained is no entry
+  outside : (e k : ℕ) → isFigure (itemAt (sheetRead edition ps) e) ≡ false → isFigure (itemAt (sheetRead edition ps) k) ≡ true → k ≡ e → ⊥
+  outside e k a b same =
+      let z : _≡_ {A = Bool} false true = sym a ∙ ap (λ j. isFigure (itemAt (sheetRead edition ps) j)) (sym same) ∙ b in
+      let bad : _≡_ {A = ℕ} 0 1 = cc in omega arith
+
+  table-stays : (E : Entries) (T : Table) → Sound (sheetRead edition ps) E T → Holdable (sheetRead edition ps) T → Within (sheetRead edition ps) T
+      → (p : Office) → p ≡ at T → ((k : ℕ) → k < size (sheetRead edition ps) → markIn (row width (p .table) k) ≡ 0)
+      → (e kind : ℕ) (z : ℤ) → callOn s p (post e kind z) .number ≡ 0
+      → (ds : List Call) → acceptedPosts s (callOn s p (post e kind z) .after) ds ≡ []
+      → (k : ℕ) → k < size (sheetRead edition ps) → isFigure (itemAt (sheetRead edition ps) k) ≡ true → (LeadsTo (circuitOf (sheetRead edition ps)) e k → ⊥)
+      → storedIn (p .table) k ≡ true → StaysStored (p .table) ds (runOn s (callOn s p (post e kind z) .after) ds .table) k
+  unfolding postingsOf
+  table-stays E T sound h w p is marks e kind z accepts ds none-made k low fig away was =
+      subst₂ (λ a b. StaysStored (a .table) ds (b .table) k) (sym is) (sym ran)
+      (stays T ds (run X U ds) k low
+      (retention X ordered T (sound .invariant) (sound .formed) (quiet-is T (λ j l. ap (λ b. markIn (row width (b .table) j)) (sym is) ∙ marks j l)) e kind z ds none k low (outside e k entry-e fig, away))
+      (ap (λ b. storedIn (b .table) k) (sym is) ∙ was))
+    where
+      X : Sheet
+      X = sheetRead edition ps
+
+      U : Table
+      U = perform X T (post e kind z) .table
+
+      hU : Holdable X U
+      hU = perform-holdable X ordered T (post e kind z) h
+
+      wU : Within X U
+      wU = perform-within X ordered T (post e kind z) w
+
+      called : callOn s p (post e kind z) ≡ givenBy X (indexBytes ps) (perform X T (post e kind z))
+      called = ap (λ b. callOn s b (post e kind z)) is ∙ performs T (post e kind z) h w
+
+      ran : runOn s (callOn s p (post e kind z) .after) ds ≡ at (run X U ds)
+      ran = ap (λ g. runOn s (g .after) ds) called ∙ runs ds U hU wU
+
+      none : postings X U ds ≡ []
+      none =
+          sym (posts-made ds U hU wU)
+          ∙ ap postingsOf (ap (λ g. acceptedPosts s (g .after) ds) (sym called) ∙ none-made)
+
+      entry-e : isFigure (itemAt X e) ≡ false
+      entry-e = post-passed X T e kind z (number-cause X T (post e kind z) (ap (λ g. g .number) (sym called) ∙ accepts)) .1
+
+  -- the two parts, for openings of this sheet
+  agree-at : (kept other : Office) (o p : Opening) → openOn o s kept .number ≡ 0 → openOn p s other .number ≡ 0
+      → (cs ds : List Call) → acceptedPosts s (openOn o s kept .after) cs ≡ acceptedPosts s (openOn p s other .after) ds
+      → (i : ℕ) → SameReading s (openOn o s kept .after) cs (openOn p s other .after) ds i
+  unfolding office
+  agree-at kept other o p a b cs ds equal i =
+      subst₂ (λ u v. SameReading s (u .after) cs (v .after) ds i) (sym g) (sym h)
+      (offices-same o p cs ds (ap (λ u. acceptedPosts s (u .after) cs) (sym g) ∙ equal ∙ ap (λ v. acceptedPosts s (v .after) ds) h) i)
+    where
+      g : openOn o s kept ≡ office o
+      g = opening-gives kept o a
+
+      h : openOn p s other ≡ office p
+      h = opening-gives other p b
+
+  retained-at : (kept : Office) (o : Opening) → openOn o s kept .number ≡ 0 → Retains s (openOn o s kept .after)
+  unfolding office
+  retained-at kept o a =
+      subst (λ g. Retains s (g .after)) (sym (opening-gives kept o a))
+      (λ cs marks e kind z accepts ds none-made k low fig away was.
+      table-stays (freshRun X blank cs) (run X (start o) cs) (run-sound X ordered cs blank (start o) (start-sound o))
+      (run-holdable X ordered cs (start o) (start-holdable o)) (run-within cs (start o) (start-within o))
+      (runOn s (at (start o)) cs) (runs cs (start o) (start-holdable o) (start-within o))
+      (λ j l. marks j (subst (λ Y. j < size Y) (sym sheet-is) l)) e kind z accepts ds none-made k
+      (subst (λ Y. k < size Y) sheet-is low) (subst (λ Y. isFigure (itemAt Y k) ≡ true) sheet-is fig)
+      (λ l. away (subst (λ Y. LeadsTo (circuitOf Y) e k) (sym sheet-is) l)) was)
+    where
+      X : Sheet
+      X = sheetRead edition ps
+
+-- Demand 3: two offices
+pub offices-agree : (s : List ℕ) (kept other : Office) (o p : Opening) → openOn o s kept .number ≡ 0 → openOn p s other .number ≡ 0
+    → (cs ds : List Call) → acceptedPosts s (openOn o s kept .after) cs ≡ acceptedPosts s (openOn p s other .after) ds
+    → (i : ℕ) → SameReading s (openOn o s kept .after) cs (openOn p s other .after) ds i
+offices-agree s kept other o p a b cs ds equal i =
+    let first : Opens s kept o = opening-opens s kept o a in
+    agree-at s (first .edition) (first .placed) (first .reads) kept other o p a b cs ds equal i
+
+-- and what stays stored
+pub offices-retain : (s : List ℕ) (kept : Office) (o : Opening) → openOn o s kept .number ≡ 0 → Retains s (openOn o s kept .after)
+offices-retain s kept o a =
+    let first : Opens s kept o = opening-opens s kept o a in
+    retained-at s (first .edition) (first .placed) (first .reads) kept o a

@@ -1,0 +1,174 @@
+-- Demand 2, its words: the layout that a sheet follows, what the openings write, the solution, and the sentences of 01 on what
+-- each call leaves of the table. Looking up, working out and telling are the machine's (circuit, Machine), with their equations in
+-- circuit, Equations. Assumes nothing.
+use Prim.Native.Nat.{ℕ, _*_, _<_}
+use mathlib.Core.Path.{_≡_}
+use mathlib.Core.Bool.{true}
+use mathlib.Core.List.{List, [], _∷_}
+use lib.IntN.{ℤ, pos}
+use lib.ListN.{length, getD}
+use Rattle.circuit.specs.Value.{Value, kindOf, numberOf}
+use Rattle.circuit.specs.Circuit.{IsSolution}
+use Rattle.circuit.specs.Sheet.{Sheet, Ordered, Entries, size, itemAt, isFigure, circuitOf}
+use Rattle.circuit.specs.Table.{Table, unmarked, notice, held, upd, noticeIf, valueIn}
+use Rattle.circuit.specs.Machine.{Looked, lookUp, work, tell, clearMark}
+use Rattle.circuit.specs.Call.{Call, post, keep, drop, step, ask, Opening, bare, full}
+use Rattle.circuit.specs.Words.{CaughtUp}
+use Rattle.field.specs.Field.{Bytes}
+use Rattle.layout.specs.Layout.{Layout, LayoutItem, entryField, figureField}
+use Rattle.layout.specs.Write.{within, writeSheet}
+use Rattle.layout.specs.Places.{offsetWritten}
+use Rattle.layout.specs.Opened.{sheetOf}
+use Rattle.layout.specs.Index.{indexWidth, le32At}
+use Rattle.table.specs.Rows.{row}
+use Rattle.table.specs.Record.{width, kindIn, markIn, numberIn}
+use Rattle.table.specs.Bytes.{encodeTable, decodeTable}
+use Rattle.office.specs.Office.{Office, Given, callOn}
+use Rattle.office.specs.Demand1Words.{AcceptedLent}
+
+-- ---- what a call answers
+
+-- what a call answers, beside what it leaves in the lent bytes
+pub record Answer : Type 0 where
+  pub number : ℕ
+  pub offset : ℕ
+  pub kind : ℕ
+  pub value : ℤ
+
+abbrev pub answerOf : Given → Answer
+answerOf g = record { number = g .number; offset = g .offset; kind = g .kind; value = g .value }
+
+-- an accepted ask's answer
+abbrev pub reading : Value → Answer
+reading v = record { number = 0; offset = 0; kind = kindOf v; value = numberOf v }
+
+-- ---- the openings
+
+-- The sheet follows the layout: it is the written form of a layout within the limits; and index and table have 4 and 10 bytes for
+-- each of its items.
+pub record FollowsLayout (s : List ℕ) (o : Office) : Type 0 where
+  pub layout : Layout
+  pub limits : within layout ≡ true
+  pub written : s ≡ writeSheet layout
+  pub index-long : length (o .index) ≡ indexWidth * length (layout .items)
+  pub table-long : length (o .table) ≡ width * length (layout .items)
+
+-- a record of a kind, without a mark, with the number 0
+abbrev pub blankRecord : ℕ → List ℕ
+blankRecord kind = kind ∷ 0 ∷ 0 ∷ 0 ∷ 0 ∷ 0 ∷ 0 ∷ 0 ∷ 0 ∷ 0 ∷ []
+
+-- entries NULL, no marks, figures UNK (bare) or NULL (full)
+abbrev pub openedRecord : Opening → LayoutItem → List ℕ
+openedRecord how (entryField name) = blankRecord 1
+openedRecord bare (figureField rule kept spread parents name) = blankRecord 0
+openedRecord full (figureField rule kept spread parents name) = blankRecord 1
+
+-- What an opening of a layout's sheet gives: number 0; for each item the offset of its field, in 4 bytes; for each item its record.
+pub record Writes (how : Opening) (l : Layout) (g : Given) : Type 0 where
+  pub number-0 : g .number ≡ 0
+  pub offset-0 : g .offset ≡ 0
+  pub index-long : length (g .after .index) ≡ indexWidth * length (l .items)
+  pub index-bytes : Bytes (g .after .index)
+  pub offsets : (j : ℕ) → j < length (l .items) → le32At (g .after .index) (indexWidth * j) ≡ offsetWritten l j
+  pub table-long : length (g .after .table) ≡ width * length (l .items)
+  pub records : (j : ℕ) → j < length (l .items) → row width (g .after .table) j ≡ openedRecord how (getD (l .items) j (entryField []))
+
+-- ---- the solution
+
+-- no figure is stored: every figure's kind is 0, whatever its mark
+abbrev pub NoneStored : List ℕ → List ℕ → Type 0
+NoneStored s t =
+    (k : ℕ) → k < size (sheetOf s) → isFigure (itemAt (sheetOf s) k) ≡ true → kindIn (row width t k) ≡ 0
+
+-- the value in the record of item k
+abbrev pub valueOf : List ℕ → ℕ → Value
+valueOf t k = valueIn (decodeTable t k)
+
+-- the values of the table's entries
+abbrev pub entriesIn : List ℕ → Entries
+entriesIn t = λ i. valueOf t i
+
+-- the only solution of the sheet's circuit under the entries E
+pub record OnlySolution (S : Sheet) (E : Entries) (values : ℕ → Value) : Type 0 where
+  pub ordered : Ordered S
+  pub solves : IsSolution (circuitOf S) E values
+  pub only : (other : ℕ → Value) → IsSolution (circuitOf S) E other → (i : ℕ) → i < size S → other i ≡ values i
+
+-- the record of item i holds the value v
+abbrev pub Stores : List ℕ → ℕ → Value → Type 0
+Stores t i v = (kindIn (row width t i) ≡ kindOf v) × (numberIn (row width t i) ≡ numberOf v)
+
+-- every figure that is stored in the table holds these values
+abbrev pub StoredRight : List ℕ → List ℕ → (ℕ → Value) → Type 0
+StoredRight s t values =
+    (k : ℕ) → k < size (sheetOf s) → isFigure (itemAt (sheetOf s) k) ≡ true → ¬ (kindIn (row width t k) ≡ 0) → Stores t k (values k)
+
+-- Ask answers, and keep stores, these values; and so does every figure that is stored on the way.
+pub record Gives (s : List ℕ) (o : Office) (values : ℕ → Value) : Type 0 where
+  pub asked : (i : ℕ) → i < size (sheetOf s) → answerOf (callOn s o (ask i)) ≡ reading (values i)
+  pub asked-stored : (i : ℕ) → i < size (sheetOf s) → StoredRight s (callOn s o (ask i) .after .table) values
+  pub kept : (i : ℕ) → i < size (sheetOf s) → isFigure (itemAt (sheetOf s) i) ≡ true
+      → let g : Given = callOn s o (keep i) in (g .number ≡ 0) × Stores (g .after .table) i (values i)
+  pub kept-stored : (i : ℕ) → i < size (sheetOf s) → isFigure (itemAt (sheetOf s) i) ≡ true
+      → StoredRight s (callOn s o (keep i) .after .table) values
+
+-- ---- the table
+
+-- the table's bytes are those of the cells T
+abbrev pub Holds : Sheet → List ℕ → Table → Type 0
+Holds S t T = t ≡ encodeTable S T
+
+-- "An equal value changes nothing. Otherwise it is stored with mark notice." The other records are as they were.
+pub record Posts (n : ℕ) (t : List ℕ) (i kind : ℕ) (z : ℤ) (u : List ℕ) : Type 0 where
+  pub kind-is : kindIn (row width u i) ≡ kind
+  pub number-is : numberIn (row width u i) ≡ z
+  pub equal : kindIn (row width t i) ≡ kind → numberIn (row width t i) ≡ z → u ≡ t
+  pub noticed : ¬ ((kindIn (row width t i) ≡ kind) × (numberIn (row width t i) ≡ z)) → markIn (row width u i) ≡ 2
+  pub others : (j : ℕ) → j < n → ¬ (j ≡ i) → row width u j ≡ row width t j
+
+-- "Look it up and store it whatever its keep byte, with the same rule on flags. A stored figure is untouched."
+pub record Keeps (S : Sheet) (t : List ℕ) (i : ℕ) (u : List ℕ) : Type 0 where
+  pub untouched : ¬ (kindIn (row width t i) ≡ 0) → u ≡ t
+  pub stored : kindIn (row width t i) ≡ 0
+      → let r : Looked = lookUp S (decodeTable t) i in Holds S u (upd (r .table) i (held (r .value) (noticeIf (r .flag))))
+
+-- "UNK; mark refresh becomes notice, other marks remain." The other records are as they were.
+pub record Drops (n : ℕ) (t : List ℕ) (i : ℕ) (u : List ℕ) : Type 0 where
+  pub kind-0 : kindIn (row width u i) ≡ 0
+  pub number-0 : numberIn (row width u i) ≡ pos 0
+  pub refresh-noticed : markIn (row width t i) ≡ 1 → markIn (row width u i) ≡ 2
+  pub other-marks : ¬ (markIn (row width t i) ≡ 1) → markIn (row width u i) ≡ markIn (row width t i)
+  pub others : (j : ℕ) → j < n → ¬ (j ≡ i) → row width u j ≡ row width t j
+
+-- "For refresh, work it out anew from its parents; if equal, clear the mark and finish, else store it and set notice. For notice,
+-- tell the children, then clear the mark."
+pub record Steps (S : Sheet) (t : List ℕ) (i : ℕ) (u : List ℕ) : Type 0 where
+  pub equal : markIn (row width t i) ≡ 1 → let r : Looked = work S (decodeTable t) i in r .value ≡ valueOf t i
+      → Holds S u (upd (r .table) i (held (valueOf t i) unmarked))
+  pub different : markIn (row width t i) ≡ 1 → let r : Looked = work S (decodeTable t) i in ¬ (r .value ≡ valueOf t i)
+      → Holds S u (upd (r .table) i (held (r .value) notice))
+  pub tells : markIn (row width t i) ≡ 2 → Holds S u (clearMark (tell S (decodeTable t) i) i)
+
+-- "Step the lowest marked item until none is marked, then look the item up and give its value."
+pub record Asks (S : Sheet) (t : List ℕ) (i : ℕ) (g : Given) : Type 0 where
+  pub caught-up : Table
+  pub catches : CaughtUp S (decodeTable t) caught-up
+  pub value-is : answerOf g ≡ reading (lookUp S caught-up i .value)
+  pub table-is : Holds S (g .after .table) (lookUp S caught-up i .table)
+
+-- 01's "no mark stands": every mark byte is 0
+abbrev pub NoMarkStands : Sheet → List ℕ → Type 0
+NoMarkStands S t = (k : ℕ) → k < size S → markIn (row width t k) ≡ 0
+
+-- What the calls leave of what an office keeps, where it is accepted: the index as it was, an accepted table, and of an accepted
+-- call the table of its sentence.
+pub record CallsLeave (s : List ℕ) (o : Office) : Type 0 where
+  pub index-kept : (c : Call) → callOn s o c .after .index ≡ o .index
+  pub accepted : (c : Call) → AcceptedLent s (callOn s o c .after)
+  pub posts : (i kind : ℕ) (z : ℤ) → let g : Given = callOn s o (post i kind z) in
+      g .number ≡ 0 → Posts (size (sheetOf s)) (o .table) i kind z (g .after .table)
+  pub keeps : (i : ℕ) → let g : Given = callOn s o (keep i) in g .number ≡ 0 → Keeps (sheetOf s) (o .table) i (g .after .table)
+  pub drops : (i : ℕ) → let g : Given = callOn s o (drop i) in g .number ≡ 0 → Drops (size (sheetOf s)) (o .table) i (g .after .table)
+  pub steps : (i : ℕ) → let g : Given = callOn s o (step i) in g .number ≡ 0 → Steps (sheetOf s) (o .table) i (g .after .table)
+  pub asks : (i : ℕ) → let g : Given = callOn s o (ask i) in g .number ≡ 0 → Asks (sheetOf s) (o .table) i g
+  pub quiet : (i : ℕ) → let g : Given = callOn s o (ask i) in g .number ≡ 0 → NoMarkStands (sheetOf s) (g .after .table)

@@ -1,0 +1,92 @@
+-- Demand 3, its words: lists of calls at an office, their accepted posts, what the fresh office answers, and what stays stored.
+-- Assumes nothing.
+use Prim.Native.Nat.{ℕ, zero, suc, _<_, _≤_}
+use mathlib.Core.Path.{_≡_}
+use mathlib.Core.Bool.{Bool, true, false, not}
+use mathlib.Core.List.{List, [], _∷_, _++_}
+use mathlib.Core.Logic.{_⊎_}
+use mathlib.Core.Option.{Option, none, some}
+use lib.Dec.{eqb}
+use lib.IntN.{ℤ}
+use Rattle.circuit.specs.Value.{Value}
+use Rattle.circuit.specs.Circuit.{LeadsTo}
+use Rattle.circuit.specs.Sheet.{size, itemAt, isFigure, circuitOf}
+use Rattle.circuit.specs.Call.{Call, post, keep, drop, step, ask}
+use Rattle.circuit.specs.Fresh.{blank, freshRun, freshAsk}
+use Rattle.circuit.specs.Words.{droppedIn}
+use Rattle.layout.specs.Opened.{sheetOf}
+use Rattle.table.specs.Rows.{row}
+use Rattle.table.specs.Record.{width, kindIn, numberIn}
+use Rattle.office.specs.Office.{Office, Given, callOn, runOn, kindRead, numberRead}
+use Rattle.office.specs.Demand1Words.{AcceptedLent}
+use Rattle.office.specs.Demand2Words.{Answer, answerOf, NoMarkStands}
+
+-- a post's arguments
+pub record Posted : Type 0 where
+  pub item : ℕ
+  pub kind : ℕ
+  pub number : ℤ
+
+abbrev pub postOf : Call → List Posted
+postOf (post i kind z) = record { item = i; kind = kind; number = z } ∷ []
+postOf (keep i) = []
+postOf (drop i) = []
+postOf (step i) = []
+postOf (ask i) = []
+
+-- 01's "accepted": the call gives number 0
+abbrev pub ifAccepted : ℕ → List Posted → List Posted
+ifAccepted zero ps = ps
+ifAccepted (suc k) ps = []
+
+-- the arguments of the accepted posts of a list, in order
+unfoldable pub acceptedPosts : List ℕ → Office → List Call → List Posted
+acceptedPosts s o [] = []
+acceptedPosts s o (c ∷ cs) = ifAccepted (callOn s o c .number) (postOf c) ++ acceptedPosts s (callOn s o c .after) cs
+
+-- the answer to an ask for i after a list of calls
+abbrev pub askAfter : List ℕ → Office → List Call → ℕ → Answer
+askAfter s o cs i = answerOf (callOn s (runOn s o cs) (ask i))
+
+-- What the fresh office gives as an ask's answer: number 0 with the value, or number 11 where it gives none.
+abbrev pub numberFor : Option Value → ℕ
+numberFor none = 11
+numberFor (some v) = 0
+
+abbrev pub freshAnswer : Option Value → Answer
+freshAnswer v = record { number = numberFor v; offset = 0; kind = kindRead v; value = numberRead v }
+
+-- the fresh office, fed the sheet and a list of calls since an opening
+abbrev pub freshAfter : List ℕ → List Call → ℕ → Answer
+freshAfter s cs i = freshAnswer (freshAsk (sheetOf s) (freshRun (sheetOf s) blank cs) i)
+
+-- an ask for i at the offices o and p, after the lists cs and ds
+pub record SameReading (s : List ℕ) (o : Office) (cs : List Call) (p : Office) (ds : List Call) (i : ℕ) : Type 0 where
+  pub same : askAfter s o cs i ≡ askAfter s p ds i
+  pub fresh : askAfter s o cs i ≡ freshAfter s cs i
+  pub fresh-other : askAfter s p ds i ≡ freshAfter s ds i
+
+-- 01's "stored": the kind is not 0
+abbrev pub storedIn : List ℕ → ℕ → Bool
+storedIn t k = not (eqb (kindIn (row width t k)) 0)
+
+-- Figure k, stored in the table t, stays stored with its value in the table u, which the list ds left: unless a drop of the list
+-- names it, it is stored; and where it is stored, its kind and number are those it had.
+pub record StaysStored (t : List ℕ) (ds : List Call) (u : List ℕ) (k : ℕ) : Type 0 where
+  pub stored : droppedIn ds k ≡ false → storedIn u k ≡ true
+  pub value : storedIn u k ≡ true → (kindIn (row width u k) ≡ kindIn (row width t k)) × (numberIn (row width u k) ≡ numberIn (row width t k))
+
+-- At an office: after a list of calls no mark stands, a post to e is accepted, and a list without an accepted post follows, which
+-- catches up in whole, in part or not at all. Then every stored figure that e does not lead to stays stored with its value.
+abbrev pub Retains : List ℕ → Office → Type 0
+Retains s o =
+    (cs : List Call) → let p : Office = runOn s o cs in NoMarkStands (sheetOf s) (p .table)
+    → (e kind : ℕ) (z : ℤ) → let g : Given = callOn s p (post e kind z) in g .number ≡ 0
+    → (ds : List Call) → acceptedPosts s (g .after) ds ≡ []
+    → (k : ℕ) → k < size (sheetOf s) → isFigure (itemAt (sheetOf s) k) ≡ true → (LeadsTo (circuitOf (sheetOf s)) e k → ⊥)
+    → storedIn (p .table) k ≡ true → StaysStored (p .table) ds (runOn s (g .after) ds .table) k
+
+-- At an office, whatever was called before, index and table are accepted, and a call is given 0, or 11 or more.
+pub record OfficeAccepted (s : List ℕ) (o : Office) (cs : List Call) : Type 0 where
+  pub accepted : AcceptedLent s (runOn s o cs)
+  pub numbers : (c : Call) → let g : Given = callOn s (runOn s o cs) c in (g .number ≡ 0) ⊎ (11 ≤ g .number)
