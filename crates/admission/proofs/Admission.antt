@@ -9,6 +9,7 @@ use mathlib.Core.Option.{none}
 use lib.Dec.{eqb}
 use lib.ListN.{length}
 use borrow.Author.Tests.{eqb-true, not-false}
+use Rattle.layout.specs.Layout.{indexWidth, mostItems}
 use Rattle.circuit.specs.Sheet.{size}
 use Rattle.circuit.specs.Call.{Call, Opening}
 use Rattle.circuit.specs.Calls.{Test, test, firstCause, tests, effect}
@@ -16,8 +17,8 @@ use Rattle.circuit.specs.Table.{opened}
 use Rattle.circuit.proofs.RuleLaws.{and-left, and-right}
 use Rattle.layout.specs.Read.{SheetRead, opens, refused, readSheet}
 use Rattle.layout.specs.Opened.{itemsOf, sheetRead, sheetFrom, placedFrom, sheetOf, Located}
-use Rattle.layout.specs.Index.{indexWidth, indexBytes}
-use Rattle.item.proofs.Located.{sheet-size, size-most}
+use Rattle.layout.specs.Index.{indexBytes}
+use Rattle.item.proofs.Located.{sheet-size, size-room}
 use Rattle.table.specs.Record.{width}
 use Rattle.table.specs.Bytes.{encodeTable, decodeTable, tableForm, tableLength}
 use Rattle.office.specs.Office.{Given, refusal, accepted, lengthsOff, indexWrong, tableWrong, unlessRefused, effectOn, callOn, openOn, keeping}
@@ -26,11 +27,10 @@ use Rattle.admission.specs.Admission.{itemsUnless, measuredBy, measuredO
 use Rattle.admission.specs.declared.Admitted.the-variants.{Items, Refused}
 
 -- the lengths, where they are right
-lengths-right : (n a b : ℕ) → lengthsOff n a b ≡ false → (a ≡ 4 * n) × (b ≡ width * n)
-unfolding indexWidth
+lengths-right : (n a b : ℕ) → lengthsOff n a b ≡ false → (a ≡ indexWidth * n) × (b ≡ width * n)
 lengths-right n a b e =
     let h = not-false _ e in
-    (eqb-true a (4 * n) (and-left (eqb a (4 * n)) (eqb b (width * n)) h), eqb-true b (width * n) (and-right (eqb a (4 * n)) (eqb b (width * n)) h))
+    (eqb-true a (indexWidth * n) (and-left (eqb a (indexWidth * n)) (eqb b (width * n)) h), eqb-true b (width * n) (and-right (eqb a (indexWidth * n)) (eqb b (width * n)) h))
 
 -- ---- an opening
 
@@ -49,7 +49,7 @@ refused-open how s x t k at e = go (readSheet s) refl e
 pub record Measured (s x t : List ℕ) (n : ℕ) : Type 0 where
   pub count-is : n ≡ size (sheetOf s)
   pub items-count : n ≡ length (itemsOf s)
-  pub index-length : length x ≡ 4 * n
+  pub index-length : length x ≡ indexWidth * n
   pub table-length : length t ≡ width * n
   pub opening : (how : Opening) → openOn how s (keeping x t) ≡ accepted none (keeping (indexBytes (itemsOf s)) (encodeTable (sheetOf s) (opened how (sheetOf s))))
 
@@ -70,7 +70,7 @@ measured s x t n e = go (readSheet s) refl e
         record {
           count-is = f .1 ∙ sym (sheet-size s ∙ i);
           items-count = f .1 ∙ sym i;
-          index-length = l .0 ∙ ap (λ m. 4 * m) (sym (f .1));
+          index-length = l .0 ∙ ap (λ m. indexWidth * m) (sym (f .1));
           table-length = l .1 ∙ ap (λ m. width * m) (sym (f .1));
           opening = λ how. rw (q, f .0);
         }
@@ -127,10 +127,10 @@ admitted s x t n e = go (readSheet s) refl e
         }
 
 -- what the functions below the refusals are lent
-pub admitted-lent : (s x t offsets : List ℕ) (n : ℕ) → Items n ≡ admittedOf s x t → Located s offsets → 1024 ≤ length offsets → Lent s offsets t
+pub admitted-lent : (s x t offsets : List ℕ) (n : ℕ) → Items n ≡ admittedOf s x t → Located s offsets → mostItems ≤ length offsets → Lent s offsets t
 admitted-lent s x t offsets n e l room =
     let g = admitted s x t n e in
-    record { located = l; room = omega (arith, size-most s); length-is = g .table-length; formed = g .formed }
+    record { located = l; room = omega (arith, size-room s); length-is = g .table-length; formed = g .formed }
 
-pub admitted-placing : (s offsets : List ℕ) (n : ℕ) → n ≡ size (sheetOf s) → Located s offsets → 1024 ≤ length offsets → Placing s offsets n
-admitted-placing s offsets n e l room = record { count-is = e; located = l; room = omega (arith, size-most s) }
+pub admitted-placing : (s offsets : List ℕ) (n : ℕ) → n ≡ size (sheetOf s) → Located s offsets → mostItems ≤ length offsets → Placing s offsets n
+admitted-placing s offsets n e l room = record { count-is = e; located = l; room = omega (arith, size-room s) }

@@ -15,14 +15,14 @@ use Rattle.circuit.proofs.RuleLaws.{and-true}
 use Rattle.layout.specs.Opened.{itemsOf, placedFrom, sheetFrom, sheetRead, sheetOf, Located}
 use Rattle.layout.specs.Read.{SheetRead, opens, refused, readSheet}
 use Rattle.sheet.specs.Check.{checkedOf}
-use Rattle.layout.specs.Index.{indexWidth}
+use Rattle.layout.specs.Layout.{indexWidth, mostItems}
 use Rattle.sheet.specs.declared.Checked.the-variants.{Opens, Refused as Faulty}
 use Rattle.sheet.proofs.Located as checked
 use Rattle.item.specs.Item.{fieldItem}
 use Rattle.item.proofs.Located.{located-item}
 use Rattle.item.specs.Offsets.{sameBytes, offsetBytes}
 use Rattle.item.proofs.Offsets.{located-index}
-use Rattle.word.specs.Word.{Bytes}
+use Rattle.field.specs.Bytes.{Bytes}
 use Rattle.table.specs.Rows.{row, setRow, allBelow}
 use Rattle.table.specs.Record.{width, encodeCell, recordForm}
 use Rattle.table.specs.Bytes.{encodeTable, decodeTable, tableForm, tableLength, recordInForm}
@@ -44,8 +44,8 @@ module _ (s : List ℕ) (a b : ℕ) where
   measured-refused k at e = rw (checked.refusal s k at e)
 
   module _ (edition count : ℕ) (e : Opens edition count ≡ checkedOf (readSheet s)) where
-    pub count-most : count ≤ 1024
-    count-most = omega (arith, checked.opening s edition count e .count-is, Rattle.item.proofs.Located.size-most s)
+    pub count-most : count ≤ mostItems
+    count-most = omega (arith, checked.opening s edition count e .count-is, Rattle.item.proofs.Located.size-room s)
 
     measured-opens : (w : Bool) → lengthsOff count a b ≡ w → itemsUnless (firstCause (test 8 w ∷ [])) count ≡ measuredOf s a b
     unfolding measuredOf
@@ -53,17 +53,17 @@ module _ (s : List ℕ) (a b : ℕ) where
         let o = checked.opening s edition count e in
         rw (o .reads, ← o .items-count, h)
 
-    pub measured-index : (a ≡ 4 * count → ⊥) → Refused 8 0 ≡ measuredOf s a b
-    unfolding firstCause indexWidth
-    measured-index h = measured-opens true (rw (ne-eqb a (4 * count) h))
+    pub measured-index : (a ≡ indexWidth * count → ⊥) → Refused 8 0 ≡ measuredOf s a b
+    unfolding firstCause
+    measured-index h = measured-opens true (rw (ne-eqb a (indexWidth * count) h))
 
-    pub measured-table : a ≡ 4 * count → (b ≡ width * count → ⊥) → Refused 8 0 ≡ measuredOf s a b
-    unfolding firstCause indexWidth
-    measured-table f h = measured-opens true (rw (eq-eqb a (4 * count) f, ne-eqb b (width * count) h))
+    pub measured-table : a ≡ indexWidth * count → (b ≡ width * count → ⊥) → Refused 8 0 ≡ measuredOf s a b
+    unfolding firstCause
+    measured-table f h = measured-opens true (rw (eq-eqb a (indexWidth * count) f, ne-eqb b (width * count) h))
 
-    pub measured-items : a ≡ 4 * count → b ≡ width * count → Items count ≡ measuredOf s a b
-    unfolding firstCause indexWidth
-    measured-items f h = measured-opens false (rw (eq-eqb a (4 * count) f, eq-eqb b (width * count) h))
+    pub measured-items : a ≡ indexWidth * count → b ≡ width * count → Items count ≡ measuredOf s a b
+    unfolding firstCause
+    measured-items f h = measured-opens false (rw (eq-eqb a (indexWidth * count) f, eq-eqb b (width * count) h))
 
 -- ---- the form of the table, record by record
 

@@ -7,7 +7,7 @@ use mathlib.Core.List.{List}
 use lib.ListN.{length}
 use Rattle.circuit.specs.Call.{Call}
 use Rattle.layout.specs.Opened.{sheetOf, Located}
-use Rattle.sheet.specs.Check.{mostItems}
+use Rattle.layout.specs.Layout.{mostItems, itemLimit}
 use Rattle.office.specs.Office.{refusal, keeping, callOn}
 use Rattle.looking.specs.Pass.{Lent}
 use Rattle.admission.specs.Admission.{admittedOf, callLent, Placing}
@@ -22,7 +22,7 @@ pub record Admits (s x t offsets : List ℕ) (n : ℕ) : Type 0 where
   pub call : (c : Call) → callOn s (keeping x t) c ≡ callLent (sheetOf s) x t c
 
 pub admits : (s x t offsets : List ℕ) {n : ℕ} {r : Admitted} → r ≡ admittedOf s x t → r ≡ Items n → Located s offsets → mostItems ≤ length offsets → Admits s x t offsets n
-unfolding mostItems
+unfolding mostItems itemLimit
 admits s x t offsets {n} answer items located room =
     let e : Items n ≡ admittedOf s x t = cc in
     let g = admitted s x t n e in

@@ -8,8 +8,9 @@ use Rattle.circuit.specs.Sheet.{Sheet, size}
 use Rattle.circuit.specs.Call.{Call}
 use Rattle.circuit.specs.Calls.{Test, test, firstCause, tests, effect}
 use Rattle.layout.specs.Read.{Placed, SheetRead, opens, refused, readSheet}
-use Rattle.layout.specs.Opened.{sheetRead, sheetOf, offsetsOf, Located}
-use Rattle.sheet.specs.Check.{levelsOf, readSoFar, over}
+use Rattle.layout.specs.Opened.{sheetRead, sheetOf, offsetsOf, Located, levelsOf}
+use Rattle.field.specs.Bytes.{over}
+use Rattle.sheet.specs.Check.{readSoFar}
 use Rattle.table.specs.Bytes.{decodeTable}
 use Rattle.office.specs.Office.{Given, unlessRefused, effectOn, lengthsOff, indexWrong, tableWrong, keeping}
 use Rattle.admission.specs.declared.Admitted.{Admitted}

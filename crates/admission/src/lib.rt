@@ -2,7 +2,7 @@
 ghost use mathlib.Core.Path.{_≡_};
 ghost use Prim.Native.Nat.{_*_, _≤_, _<_};
 ghost use lib.ListN.{length};
-ghost use Rattle.sheet.specs.Check.{mostItems};
+ghost use Rattle.layout.specs.Layout.{mostItems};
 ghost use Rattle.layout.specs.Opened.{sheetOf};
 ghost use Rattle.table.specs.Record.{width};
 ghost use Rattle.table.specs.Bytes.{tableForm};
@@ -41,7 +41,7 @@ pub fn measure(
     match sheet::check(sheet, offsets, levels) {
         Checked::Refused { number, offset } => Admitted::Refused { number, offset },
         Checked::Opens { edition: _, count } => {
-            if index_len != 4 * count {
+            if index_len != limits::INDEX_WIDTH * count {
                 return Admitted::Refused {
                     number: 8,
                     offset: 0,

@@ -13,7 +13,7 @@ use Rattle.circuit.specs.Machine.{lookUp, catchUp}
 use Rattle.circuit.specs.Call.{ask}
 use Rattle.circuit.specs.Calls.{firstCause, tests, effect}
 use Rattle.layout.specs.Opened.{sheetOf}
-use Rattle.word.specs.Word.{Bytes}
+use Rattle.field.specs.Bytes.{Bytes}
 use Rattle.table.specs.Bytes.{encodeTable, decodeTable}
 use Rattle.table.proofs.Tables.{encode-decodeTable}
 use Rattle.item.proofs.Located.{size-most}

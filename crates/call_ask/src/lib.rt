@@ -30,8 +30,8 @@ fn caught_up(sheet: &[u8], offsets: &[usize], table: &mut [u8], n: usize, i: usi
     requires { ⌜ Lent (now sheet) (now offsets) (now table) ⌝ ∗ ⌜ n ≡ size (sheetOf (now sheet)) ⌝ ∗ ⌜ i < n ⌝ }
     ensures { λ r. ⌜ LookedUp (now (sheet .entry)) (machine.lookUp (sheetOf (now (sheet .entry))) (machine.catchUp (sheetOf (now (sheet .entry))) (decodeTable (now (table .entry)))) i) (meaning r) (now (table .exit)) ⌝ }
 {
-    let mut tags = [0u64; sheet::limits::ITEM_LIMIT];
-    let mut numbers = [0i64; sheet::limits::ITEM_LIMIT];
+    let mut tags = [0u64; limits::ITEM_LIMIT];
+    let mut numbers = [0i64; limits::ITEM_LIMIT];
     catching::catch_up(sheet, offsets, table, &mut tags, &mut numbers, n);
     let seen = looking::look_up(
         sheet,
@@ -81,8 +81,8 @@ fn ask_lent(sheet: &[u8], offsets: &[usize], table: &mut [u8], n: usize, item: u
 pub fn ask(sheet: &[u8], index: &[u8], table: &mut [u8], item: u64) -> Reading
     ensures { λ r. ⌜ Asked (callOn (now (sheet .entry)) (keeping (now (index .entry)) (now (table .entry))) (machine_call.ask item)) r (now (table .exit)) ⌝ }
 {
-    let mut offsets = [0usize; sheet::limits::ITEM_LIMIT];
-    let mut levels = [0u8; sheet::limits::ITEM_LIMIT];
+    let mut offsets = [0usize; limits::ITEM_LIMIT];
+    let mut levels = [0u8; limits::ITEM_LIMIT];
     match admission::admit(sheet, index, table, &mut offsets, &mut levels) {
         Admitted::Refused { number, offset } => refuse(number, offset),
         Admitted::Items(n) => ask_lent(sheet, &offsets, table, n, item),

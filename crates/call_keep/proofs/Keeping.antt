@@ -9,6 +9,7 @@ use mathlib.Core.Option.{Option, none, some}
 use lib.IntN.{ℤ}
 use lib.ListN.{length, getD}
 use borrow.Author.Tests.{leb-false, not-false}
+use Rattle.layout.specs.Layout.{mostItems}
 use Rattle.circuit.specs.Value.{Value}
 use Rattle.circuit.specs.Sheet.{Sheet, size, itemAt, isFigure}
 use Rattle.circuit.specs.Table.{Table, Cell, Mark, unk, held, upd, noticeIf}
@@ -16,7 +17,7 @@ use Rattle.circuit.specs.Machine.{lookUp, looked, storeResult, keepFigure, keep
 use Rattle.circuit.specs.Call.{keep, drop}
 use Rattle.circuit.specs.Calls.{test, firstCause, tests, effect, noItem}
 use Rattle.layout.specs.Opened.{sheetOf}
-use Rattle.word.specs.Word.{Bytes}
+use Rattle.field.specs.Bytes.{Bytes}
 use Rattle.table.specs.Rows.{row, setRow}
 use Rattle.table.specs.Record.{width, encodeCell, mayHold, decodeCell}
 use Rattle.table.specs.Bytes.{decodeTable, tableForm, tableLength}
@@ -28,7 +29,7 @@ use Rattle.admission.specs.Answers.{Answered, Left, wrongItem}
 use Rattle.admission.specs.declared.Answer.{Answer}
 use Rattle.admission.proofs.Admitting.{item-refused, item-passed, item-low, accepted-answer, left-encoded, stored-encoded}
 
-pub fresh-memo : (S : Sheet) (T : Table) (tags : List ℕ) (numbers : List ℤ) → size S ≤ 1024 → length tags ≡ 1024 → length numbers ≡ 1024
+pub fresh-memo : (S : Sheet) (T : Table) (tags : List ℕ) (numbers : List ℤ) → size S ≤ mostItems → length tags ≡ mostItems → length numbers ≡ mostItems
     → ((j : ℕ) → getD tags j 0 ≡ 0) → Memo S T tags numbers 1
 unfolding remembered
 fresh-memo S T tags numbers most a b z =

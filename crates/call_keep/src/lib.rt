@@ -57,8 +57,8 @@ fn drop_lent(sheet: &[u8], offsets: &[usize], table: &mut [u8], n: usize, item: 
 pub fn drop_figure(sheet: &[u8], index: &[u8], table: &mut [u8], item: u64) -> Answer
     ensures { λ r. ⌜ Answered (callOn (now (sheet .entry)) (keeping (now (index .entry)) (now (table .entry))) (machine_call.drop item)) r (now (table .exit)) ⌝ }
 {
-    let mut offsets = [0usize; sheet::limits::ITEM_LIMIT];
-    let mut levels = [0u8; sheet::limits::ITEM_LIMIT];
+    let mut offsets = [0usize; limits::ITEM_LIMIT];
+    let mut levels = [0u8; limits::ITEM_LIMIT];
     match admission::admit(sheet, index, table, &mut offsets, &mut levels) {
         Admitted::Refused { number, offset } => admission::give(number, offset),
         Admitted::Items(n) => drop_lent(sheet, &offsets, table, n, item),
@@ -70,8 +70,8 @@ fn keep_new(sheet: &[u8], offsets: &[usize], table: &mut [u8], i: usize)
     requires { ⌜ Lent (now sheet) (now offsets) (now table) ⌝ ∗ ⌜ i < size (sheetOf (now sheet)) ⌝ ∗ ⌜ isFigure (itemAt (sheetOf (now sheet)) i) ≡ true ⌝ ∗ ⌜ isStored (decodeTable (now table) i) ≡ false ⌝ }
     ensures { λ _. ⌜ Left (now (sheet .entry)) (machine.storeResult i (machine.lookUp (sheetOf (now (sheet .entry))) (decodeTable (now (table .entry))) i)) (now (table .exit)) ⌝ }
 {
-    let mut tags = [0u64; sheet::limits::ITEM_LIMIT];
-    let mut numbers = [0i64; sheet::limits::ITEM_LIMIT];
+    let mut tags = [0u64; limits::ITEM_LIMIT];
+    let mut numbers = [0i64; limits::ITEM_LIMIT];
     let seen = looking::look_unstored(sheet, offsets, table, &mut tags, &mut numbers, 1, i);
     let value = seen.value;
     table::store_cell(table, i, Cell::Held(value, looking::notice_if(seen.flag)));
@@ -102,8 +102,8 @@ fn keep_lent(sheet: &[u8], offsets: &[usize], table: &mut [u8], n: usize, item: 
 pub fn keep(sheet: &[u8], index: &[u8], table: &mut [u8], item: u64) -> Answer
     ensures { λ r. ⌜ Answered (callOn (now (sheet .entry)) (keeping (now (index .entry)) (now (table .entry))) (machine_call.keep item)) r (now (table .exit)) ⌝ }
 {
-    let mut offsets = [0usize; sheet::limits::ITEM_LIMIT];
-    let mut levels = [0u8; sheet::limits::ITEM_LIMIT];
+    let mut offsets = [0usize; limits::ITEM_LIMIT];
+    let mut levels = [0u8; limits::ITEM_LIMIT];
     match admission::admit(sheet, index, table, &mut offsets, &mut levels) {
         Admitted::Refused { number, offset } => admission::give(number, offset),
         Admitted::Items(n) => keep_lent(sheet, &offsets, table, n, item),

@@ -48,8 +48,8 @@ fn write_table(sheet: &[u8], offsets: &[usize], n: usize, table: &mut [u8], fill
 fn open_by(sheet: &[u8], index: &mut [u8], table: &mut [u8], filled: bool) -> Answer
     ensures { λ r. ⌜ Opened (openOn (openingBy filled) (now (sheet .entry)) (keeping (now (index .entry)) (now (table .entry)))) r (now (index .exit)) (now (table .exit)) ⌝ }
 {
-    let mut offsets = [0usize; sheet::limits::ITEM_LIMIT];
-    let mut levels = [0u8; sheet::limits::ITEM_LIMIT];
+    let mut offsets = [0usize; limits::ITEM_LIMIT];
+    let mut levels = [0u8; limits::ITEM_LIMIT];
     match admission::measure(sheet, index.len(), table.len(), &mut offsets, &mut levels) {
         Admitted::Refused { number, offset } => admission::give(number, offset),
         Admitted::Items(n) => {

@@ -14,7 +14,7 @@ use Rattle.circuit.specs.Call.{post}
 use Rattle.circuit.specs.Calls.{test, firstCause, tests, effect, noItem, notPostable, isNone, postedValue, postIt}
 use Rattle.layout.specs.Opened.{sheetOf}
 use Rattle.value.specs.Meaning.{partsOf}
-use Rattle.word.specs.Word.{Bytes}
+use Rattle.field.specs.Bytes.{Bytes}
 use Rattle.table.specs.Rows.{row, setRow}
 use Rattle.table.specs.Record.{width, encodeCell, decodeCell}
 use Rattle.table.specs.Bytes.{encodeTable, decodeTable}

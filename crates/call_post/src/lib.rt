@@ -84,8 +84,8 @@ pub fn post(
 ) -> Answer
     ensures { λ r. ⌜ Answered (callOn (now (sheet .entry)) (keeping (now (index .entry)) (now (table .entry))) (machine_call.post item kind number)) r (now (table .exit)) ⌝ }
 {
-    let mut offsets = [0usize; sheet::limits::ITEM_LIMIT];
-    let mut levels = [0u8; sheet::limits::ITEM_LIMIT];
+    let mut offsets = [0usize; limits::ITEM_LIMIT];
+    let mut levels = [0u8; limits::ITEM_LIMIT];
     match admission::admit(sheet, index, table, &mut offsets, &mut levels) {
         Admitted::Refused { number, offset } => admission::give(number, offset),
         Admitted::Items(n) => post_lent(sheet, &offsets, table, n, item, kind, number),

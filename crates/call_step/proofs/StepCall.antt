@@ -13,7 +13,7 @@ use Rattle.circuit.specs.Machine.{tell, clearMark, stepItem}
 use Rattle.circuit.specs.Call.{step}
 use Rattle.circuit.specs.Calls.{test, firstCause, tests, effect, noMark}
 use Rattle.layout.specs.Opened.{sheetOf}
-use Rattle.word.specs.Word.{Bytes}
+use Rattle.field.specs.Bytes.{Bytes}
 use Rattle.table.specs.Bytes.{decodeTable}
 use Rattle.looking.specs.Pass.{Lent}
 use Rattle.admission.specs.Admission.{callLent}

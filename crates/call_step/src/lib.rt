@@ -41,9 +41,9 @@ fn notice_once(sheet: &[u8], offsets: &[usize], table: &mut [u8], n: usize, i: u
     requires { ⌜ Lent (now sheet) (now offsets) (now table) ⌝ ∗ ⌜ n ≡ size (sheetOf (now sheet)) ⌝ ∗ ⌜ i < n ⌝ }
     ensures { λ _. ⌜ Left (now (sheet .entry)) (machine.clearMark (machine.tell (sheetOf (now (sheet .entry))) (decodeTable (now (table .entry))) i) i) (now (table .exit)) ⌝ }
 {
-    let mut tags = [0u64; sheet::limits::ITEM_LIMIT];
-    let mut numbers = [0i64; sheet::limits::ITEM_LIMIT];
-    let mut heads = [0u16; sheet::limits::ITEM_LIMIT];
+    let mut tags = [0u64; limits::ITEM_LIMIT];
+    let mut numbers = [0i64; limits::ITEM_LIMIT];
+    let mut heads = [0u16; limits::ITEM_LIMIT];
     let mut links = [0u16; children::EDGE_LIMIT];
     children::link(sheet, offsets, n, &mut heads, &mut links);
     stepping::tell_and_clear(
@@ -64,8 +64,8 @@ fn refresh_once(sheet: &[u8], offsets: &[usize], table: &mut [u8], i: usize)
     requires { ⌜ Lent (now sheet) (now offsets) (now table) ⌝ ∗ ⌜ i < size (sheetOf (now sheet)) ⌝ ∗ ⌜ isNotice (markOf (decodeTable (now table) i)) ≡ false ⌝ }
     ensures { λ _. ⌜ Left (now (sheet .entry)) (machine.stepItem (sheetOf (now (sheet .entry))) (decodeTable (now (table .entry))) i) (now (table .exit)) ⌝ }
 {
-    let mut tags = [0u64; sheet::limits::ITEM_LIMIT];
-    let mut numbers = [0i64; sheet::limits::ITEM_LIMIT];
+    let mut tags = [0u64; limits::ITEM_LIMIT];
+    let mut numbers = [0i64; limits::ITEM_LIMIT];
     stepping::step_refresh(sheet, offsets, table, &mut tags, &mut numbers, 1, i);
 }
 
@@ -96,8 +96,8 @@ fn step_lent(sheet: &[u8], offsets: &[usize], table: &mut [u8], n: usize, item: 
 pub fn step(sheet: &[u8], index: &[u8], table: &mut [u8], item: u64) -> Answer
     ensures { λ r. ⌜ Answered (callOn (now (sheet .entry)) (keeping (now (index .entry)) (now (table .entry))) (machine_call.step item)) r (now (table .exit)) ⌝ }
 {
-    let mut offsets = [0usize; sheet::limits::ITEM_LIMIT];
-    let mut levels = [0u8; sheet::limits::ITEM_LIMIT];
+    let mut offsets = [0usize; limits::ITEM_LIMIT];
+    let mut levels = [0u8; limits::ITEM_LIMIT];
     match admission::admit(sheet, index, table, &mut offsets, &mut levels) {
         Admitted::Refused { number, offset } => admission::give(number, offset),
         Admitted::Items(n) => step_lent(sheet, &offsets, table, n, item),

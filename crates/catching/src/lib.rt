@@ -21,7 +21,7 @@ fn catch_up_from(
     requires { ⌜ Lent (now sheet) (now offsets) (now table) ⌝ ∗ ⌜ Ready (now sheet) (now tags) (now numbers) 1 ⌝ ∗ ⌜ n ≡ size (sheetOf (now sheet)) ⌝ ∗ ⌜ LowestMarked (decodeTable (now table)) n first ⌝ ∗ ⌜ first < n ⌝ }
     ensures { λ _. ⌜ Steps (now (sheet .entry)) (2 * n) (machine.catchUp (sheetOf (now (sheet .entry))) (decodeTable (now (table .entry)))) (now (table .exit)) (now (tags .exit)) ⌝ }
 {
-    let mut heads = [0u16; sheet::limits::ITEM_LIMIT];
+    let mut heads = [0u16; limits::ITEM_LIMIT];
     let mut links = [0u16; children::EDGE_LIMIT];
     children::link(sheet, offsets, n, &mut heads, &mut links);
     stepping::catch_up(

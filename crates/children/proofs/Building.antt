@@ -4,11 +4,12 @@ use native.Mathlib.Omega.{arith}
 use mathlib.Core.Path.{_≡_, ap, subst, _∙_}
 use mathlib.Core.List.{List}
 use lib.ListN.{length, getD}
+use Rattle.circuit.specs.Rules.{maxParents}
 use Rattle.circuit.specs.Sheet.{size, parents, parentsOf}
 use Rattle.layout.specs.Opened.{sheetOf, Located}
 use Rattle.item.specs.Item.{ItemField, fieldItem}
 use Rattle.item.proofs.Located.{sheet-ordered, located-field, located-item, located-narrow}
-use Rattle.children.specs.Children.{places, lists, linkPlaces, headPlaces, linkLast, linkAll, Linked}
+use Rattle.children.specs.Children.{lists, linkPlaces, headPlaces, linkLast, linkAll, Linked}
 use Rattle.children.proofs.Linking.{place-below, lists-length, all-linked}
 
 -- the lists after the items from c on
@@ -37,8 +38,8 @@ module _ (s offsets : List ℕ) (located : Located s offsets) {n c : ℕ} (n-is 
       rw parents-are (omega arith)
 
   pub built-next : (heads₀ links₀ heads links heads₂ links₂ : List ℕ) → Built s heads₀ links₀ n c heads links
-      → links₂ ≡ linkPlaces links heads (places * (c - 1)) (parentsOf (fieldItem s (getD offsets (c - 1) 0))) (length (parentsOf (fieldItem s (getD offsets (c - 1) 0))))
-      → heads₂ ≡ headPlaces heads (places * (c - 1)) (parentsOf (fieldItem s (getD offsets (c - 1) 0))) (length (parentsOf (fieldItem s (getD offsets (c - 1) 0))))
+      → links₂ ≡ linkPlaces links heads (maxParents * (c - 1)) (parentsOf (fieldItem s (getD offsets (c - 1) 0))) (length (parentsOf (fieldItem s (getD offsets (c - 1) 0))))
+      → heads₂ ≡ headPlaces heads (maxParents * (c - 1)) (parentsOf (fieldItem s (getD offsets (c - 1) 0))) (length (parentsOf (fieldItem s (getD offsets (c - 1) 0))))
       → Built s heads₀ links₀ n (c - 1) heads₂ links₂
   unfolding linkLast
   built-next heads₀ links₀ heads links heads₂ links₂ inv linked headed =
@@ -59,7 +60,7 @@ module _ {s heads₀ links₀ : List ℕ} {n c : ℕ} {heads links : List ℕ} (
   built-done n-is end = let all : n - c ≡ size (sheetOf s) = omega arith in (inv .heads-are ∙ rw all, inv .links-are ∙ rw all)
 
 -- The lists that `link` gives from empty ones are those of the sheet.
-pub sheet-linked : (s offsets heads links : List ℕ) → Located s offsets → size (sheetOf s) ≤ length heads → places * size (sheetOf s) ≤ length links
+pub sheet-linked : (s offsets heads links : List ℕ) → Located s offsets → size (sheetOf s) ≤ length heads → maxParents * size (sheetOf s) ≤ length links
     → ((p : ℕ) → p < size (sheetOf s) → getD heads p 0 ≡ 0)
     → Linked (sheetOf s) (linkAll (sheetOf s) (lists heads links) .heads) (linkAll (sheetOf s) (lists heads links) .links)
 sheet-linked s offsets heads links located head-room link-room empty =

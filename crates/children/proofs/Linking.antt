@@ -9,9 +9,10 @@ use lib.Dec.{eqb}
 use lib.ListN.{length, getD, set, length-set}
 use lib.Seq.{getD-set-same, getD-set-other}
 use borrow.Author.Tests.{eqb-true, eqb-false, eq-eqb, ne-eqb}
+use Rattle.circuit.specs.Rules.{maxParents}
 use Rattle.circuit.specs.Circuit.{Listed}
 use Rattle.circuit.specs.Sheet.{Sheet, size, parents, member, isChild, Ordered}
-use Rattle.children.specs.Children.{places, Lists, lists, linkPlaces, headPlaces, linkItem, linkLast, linkAll, NoChild, Leads, ends, child, Linked}
+use Rattle.children.specs.Children.{Lists, lists, linkPlaces, headPlaces, linkItem, linkLast, linkAll, NoChild, Leads, ends, child, Linked}
 
 pub links-length : (links heads : List ℕ) (first : ℕ) (ps : List ℕ) (k : ℕ) → length (linkPlaces links heads first ps k) ≡ length links
 unfolding linkPlaces
@@ -129,8 +130,8 @@ lists-length S heads links (suc j) =
     let r = lists-length S heads links j in
     let l : Lists = linkLast S (lists heads links) j in
     let c : ℕ = size S - suc j in (
-      heads-length (l .heads) (places * c) (parents S c) (length (parents S c)) ∙ r .0,
-      links-length (l .links) (l .heads) (places * c) (parents S c) (length (parents S c)) ∙ r .1,
+      heads-length (l .heads) (maxParents * c) (parents S c) (length (parents S c)) ∙ r .0,
+      links-length (l .links) (l .heads) (maxParents * c) (parents S c) (length (parents S c)) ∙ r .1,
     )
 
 -- the lists of the items from c on
@@ -138,10 +139,10 @@ record Linking (S : Sheet) (heads₀ links₀ : List ℕ) (c : ℕ) (l : Lists) 
   heads-kept : length (l .heads) ≡ length heads₀
   links-kept : length (l .links) ≡ length links₀
   head : (p : ℕ) → p < size S → Leads S p c (getD (l .heads) p 0)
-  link : (d k : ℕ) → c ≤ d → d < size S → k < length (parents S d) → Leads S (getD (parents S d) k 0) (d + 1) (getD (l .links) (places * d + k) 0)
+  link : (d k : ℕ) → c ≤ d → d < size S → k < length (parents S d) → Leads S (getD (parents S d) k 0) (d + 1) (getD (l .links) (maxParents * d + k) 0)
 
-module _ (S : Sheet) (ordered : Ordered S) (narrow : (c : ℕ) → c < size S → length (parents S c) ≤ places) (heads₀ links₀ : List ℕ)
-    (head-room : size S ≤ length heads₀) (link-room : places * size S ≤ length links₀) where
+module _ (S : Sheet) (ordered : Ordered S) (narrow : (c : ℕ) → c < size S → length (parents S c) ≤ maxParents) (heads₀ links₀ : List ℕ)
+    (head-room : size S ≤ length heads₀) (link-room : maxParents * size S ≤ length links₀) where
   -- an item that is no child of p does not change where p's list leads
   leads-down : (p c e : ℕ) → isChild S p c ≡ false → Leads S p (c + 1) e → Leads S p c e
   leads-down p c e not (ends z none) = ends z (λ x a b. below-by S p c x not (λ h. none x h b) a)
@@ -149,35 +150,36 @@ module _ (S : Sheet) (ordered : Ordered S) (narrow : (c : ℕ) → c < size S �
       child d k is k-low (omega arith) low (λ x a b. below-by S p c x not (λ h. none x h b) a) listed at
 
   linking-next : (c : ℕ) (l : Lists) → c < size S → Linking S heads₀ links₀ (c + 1) l
-      → Linking S heads₀ links₀ c (linkItem (parents S c) (places * c) l)
+      → Linking S heads₀ links₀ c (linkItem (parents S c) (maxParents * c) l)
+  unfolding maxParents
   linking-next c l low inv =
       record {
-        heads-kept = heads-length (l .heads) (places * c) ps (length ps) ∙ inv .heads-kept;
-        links-kept = links-length (l .links) (l .heads) (places * c) ps (length ps) ∙ inv .links-kept;
-        head = λ p h. headed p h (heads-put (l .heads) (places * c) ps (length ps) p (omega (arith, inv .heads-kept)));
+        heads-kept = heads-length (l .heads) (maxParents * c) ps (length ps) ∙ inv .heads-kept;
+        links-kept = links-length (l .links) (l .heads) (maxParents * c) ps (length ps) ∙ inv .links-kept;
+        head = λ p h. headed p h (heads-put (l .heads) (maxParents * c) ps (length ps) p (omega (arith, inv .heads-kept)));
         link = λ d k from h listed. linked d k from h listed (eqb d c) refl;
       }
     where
       ps : List ℕ
       ps = parents S c
 
-      headed : (p : ℕ) → p < size S → {e : ℕ} → Headed (l .heads) (places * c) ps (length ps) p e → Leads S p c e
+      headed : (p : ℕ) → p < size S → {e : ℕ} → Headed (l .heads) (maxParents * c) ps (length ps) p e → Leads S p c e
       headed p h (newly j j-low at is) =
           child c j is (omega (arith, narrow c low)) (omega arith) low (λ x a b. absurd (omega arith)) j-low at
       headed p h {e} (still none is) =
           leads-down p c e (nowhere-member ps p none) (subst (Leads S p (c + 1)) (sym is) (inv .head p h))
 
       linked : (d k : ℕ) → c ≤ d → d < size S → k < length (parents S d) → (b : Bool) → eqb d c ≡ b
-          → Leads S (getD (parents S d) k 0) (d + 1) (getD (linkPlaces (l .links) (l .heads) (places * c) ps (length ps)) (places * d + k) 0)
+          → Leads S (getD (parents S d) k 0) (d + 1) (getD (linkPlaces (l .links) (l .heads) (maxParents * c) ps (length ps)) (maxParents * d + k) 0)
       linked d k from h listed true q =
           let same : d ≡ c = eqb-true d c q in
           let k-low : k < length ps = subst (λ x. k < length (parents S x)) same listed in
-          let put = links-put (l .links) (l .heads) (places * c) ps (length ps) k (omega (arith, narrow c low, inv .links-kept)) k-low in
+          let put = links-put (l .links) (l .heads) (maxParents * c) ps (length ps) k (omega (arith, narrow c low, inv .links-kept)) k-low in
           let below = place-below S ordered c k k-low in
           rw (same, put) (inv .head (getD ps k 0) (omega arith))
       linked d k from h listed false q =
           let other : (d ≡ c → ⊥) = eqb-false d c q in
-          let stays = links-stay (l .links) (l .heads) (places * c) ps (length ps) (places * d + k) (inr (omega (arith, narrow c low))) in
+          let stays = links-stay (l .links) (l .heads) (maxParents * c) ps (length ps) (maxParents * d + k) (inr (omega (arith, narrow c low))) in
           rw stays (inv .link d k (omega arith) h listed)
 
   linking : (empty : (p : ℕ) → p < size S → getD heads₀ p 0 ≡ 0) (j : ℕ) → j ≤ size S → Linking S heads₀ links₀ (size S - j) (linkLast S (lists heads₀ links₀) j)
@@ -195,7 +197,7 @@ module _ (S : Sheet) (ordered : Ordered S) (narrow : (c : ℕ) → c < size S �
 
   -- from empty lists the whole sheet is linked
   pub all-linked : ((p : ℕ) → p < size S → getD heads₀ p 0 ≡ 0) → Linked S (linkAll S (lists heads₀ links₀) .heads) (linkAll S (lists heads₀ links₀) .links)
-  unfolding linkAll
+  unfolding linkAll maxParents
   all-linked empty =
       let none-left : size S - size S ≡ 0 = omega arith in
       let r = subst (λ c. Linking S heads₀ links₀ c (linkLast S (lists heads₀ links₀) (size S))) none-left (linking empty (size S) (omega arith)) in
@@ -213,17 +215,18 @@ place-low ps below k p n is counts low = rw is (below k (omega arith))
 -- The child that an edge leads to.
 pub record Child (S : Sheet) (p c e : ℕ) : Type 0 where
   pub place : ℕ
-  pub edge-is : e ≡ places * (e / places) + place
-  pub from : c ≤ e / places
-  pub low : e / places < size S
-  pub none-before : NoChild S p c (e / places)
-  pub listed : place < length (parents S (e / places))
-  pub parent-is : getD (parents S (e / places)) place 0 ≡ p
+  pub edge-is : e ≡ maxParents * (e / maxParents) + place
+  pub from : c ≤ e / maxParents
+  pub low : e / maxParents < size S
+  pub none-before : NoChild S p c (e / maxParents)
+  pub listed : place < length (parents S (e / maxParents))
+  pub parent-is : getD (parents S (e / maxParents)) place 0 ≡ p
 
 pub leads-child : {S : Sheet} {p c e : ℕ} → Leads S p c e → (e ≡ 0 → ⊥) → Child S p c e
+unfolding maxParents
 leads-child (ends z none) more = absurd (more z)
 leads-child {S} {p} {c} {e} (child d k is k-low from low none listed at) more =
-    let d-is : d ≡ e / places = omega arith in
+    let d-is : d ≡ e / maxParents = omega arith in
     record {
       place = k;
       edge-is = omega arith;
@@ -236,6 +239,7 @@ leads-child {S} {p} {c} {e} (child d k is k-low from low none listed at) more =
 
 -- the end of a list: no child is left, as no item lists a parent above its own number
 pub leads-end : {S : Sheet} {p c e : ℕ} → Ordered S → Leads S p c e → e ≡ 0 → NoChild S p c (size S)
+unfolding maxParents
 leads-end ordered (ends z none) end = none
 leads-end {S} {p} {c} {e} ordered (child d k is k-low from low none listed at) end =
     let below = place-below S ordered d k listed in
@@ -246,13 +250,14 @@ abbrev pub left : List ℕ → ℕ → ℕ
 left links e = cond (eqb e 0) 0 (suc (length links) - e)
 
 -- the next edge is nearer
-pub next-less : {S : Sheet} {p e : ℕ} (links : List ℕ) → e < length links → (e ≡ 0 → ⊥) → (e₂ : ℕ) → Leads S p (e / places + 1) e₂ → left links e₂ < left links e
+pub next-less : {S : Sheet} {p e : ℕ} (links : List ℕ) → e < length links → (e ≡ 0 → ⊥) → (e₂ : ℕ) → Leads S p (e / maxParents + 1) e₂ → left links e₂ < left links e
+unfolding maxParents
 next-less {S} {p} {e} links low more e₂ leads = go (eqb e₂ 0) refl leads
   where
     here : left links e ≡ suc (length links) - e
     here = rw (ne-eqb e 0 more)
 
-    go : (b : Bool) → eqb e₂ 0 ≡ b → Leads S p (e / places + 1) e₂ → cond b 0 (suc (length links) - e₂) < left links e
+    go : (b : Bool) → eqb e₂ 0 ≡ b → Leads S p (e / maxParents + 1) e₂ → cond b 0 (suc (length links) - e₂) < left links e
     go true q l = omega (arith, here)
     go false q (ends z none) = absurd (eqb-false e₂ 0 q z)
     go false q (child d k is k-low from low₂ none listed at) = omega (arith, here)

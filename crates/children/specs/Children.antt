@@ -1,15 +1,12 @@
--- The child lists of a sheet, in two arrays: how they are built, and what they say. Edge 16 c + k stands for the parent that
+-- The child lists of a sheet, in two arrays: how they are built, and what they say. Edge maxParents * c + k stands for the parent that
 -- item c lists in place k; 0 ends a list. Assumes nothing.
 use Prim.Native.Nat.{ℕ, zero, suc, _+_, _*_, _-_, _<_, _≤_}
 use mathlib.Core.Path.{_≡_}
 use mathlib.Core.Bool.{false}
 use mathlib.Core.List.{List}
 use lib.ListN.{length, getD, set}
+use Rattle.circuit.specs.Rules.{maxParents}
 use Rattle.circuit.specs.Sheet.{Sheet, size, parents, isChild}
-
--- the most parents that an item lists
-abbrev pub places : ℕ
-places = 16
 
 -- the edge that heads the list of each item, and the edge that follows each edge
 pub record Lists : Type 0 where
@@ -38,7 +35,7 @@ linkItem ps first l =
 -- the j highest items, highest first
 unfoldable pub linkLast : Sheet → Lists → ℕ → Lists
 linkLast S l zero = l
-linkLast S l (suc j) = linkItem (parents S (size S - suc j)) (places * (size S - suc j)) (linkLast S l j)
+linkLast S l (suc j) = linkItem (parents S (size S - suc j)) (maxParents * (size S - suc j)) (linkLast S l j)
 
 unfoldable pub linkAll : Sheet → Lists → Lists
 linkAll S l = linkLast S l (size S)
@@ -50,14 +47,14 @@ NoChild S p c d = (x : ℕ) → c ≤ x → x < d → isChild S p x ≡ false
 -- Edge e leads to the lowest child of p from c on: it ends the list where there is none.
 pub data Leads (S : Sheet) (p c e : ℕ) : Type 0 where
   ends : e ≡ 0 → NoChild S p c (size S) → Leads S p c e
-  child : (d k : ℕ) → e ≡ places * d + k → k < places → c ≤ d → d < size S → NoChild S p c d → k < length (parents S d)
+  child : (d k : ℕ) → e ≡ maxParents * d + k → k < maxParents → c ≤ d → d < size S → NoChild S p c d → k < length (parents S d)
       → getD (parents S d) k 0 ≡ p → Leads S p c e
 
 -- The lists of a sheet: from each item's head, and then from edge to edge, they lead over the item's children, lowest
 -- first, once each.
 pub record Linked (S : Sheet) (heads links : List ℕ) : Type 0 where
   pub head-room : size S ≤ length heads
-  pub link-room : places * size S ≤ length links
+  pub link-room : maxParents * size S ≤ length links
   pub head : (p : ℕ) → p < size S → Leads S p 0 (getD heads p 0)
   pub link : (c k : ℕ) → c < size S → k < length (parents S c)
-      → Leads S (getD (parents S c) k 0) (c + 1) (getD links (places * c + k) 0)
+      → Leads S (getD (parents S c) k 0) (c + 1) (getD links (maxParents * c + k) 0)

@@ -1,23 +1,22 @@
-// The child lists of a sheet, in two arrays. Edge 16 * c + k stands for the parent that item c lists in place k. `heads` holds,
+// The child lists of a sheet, in two arrays. Edge MAX_PARENTS * c + k stands for the parent that item c lists in place k. `heads` holds,
 // for each item, the edge of its lowest child, and `links`, for each edge, the edge of the next child of the same parent.
 // 0 ends a list: item 0 has no parents.
 ghost use mathlib.Core.Path.{_≡_};
 ghost use Prim.Native.Nat.{ℕ, _<_, _≤_, _+_, _*_};
 ghost use lib.ListN.{length, getD};
+ghost use Rattle.circuit.specs.Rules.{maxParents};
 ghost use Rattle.circuit.specs.Sheet.{size, parentsOf};
 ghost use Rattle.layout.specs.Opened.{sheetOf, Located};
 ghost use Rattle.item.specs.Item.{ItemField, fieldItem};
-ghost use Rattle.children.specs.Children.{places, lists, linkPlaces, headPlaces, linkAll};
-
-// The most parents that an item lists.
-pub const PLACES: usize = 16;
+ghost use Rattle.children.specs.Children.{lists, linkPlaces, headPlaces, linkAll};
+use value::MAX_PARENTS;
 
 // Room for the edges of every item.
-pub const EDGE_LIMIT: usize = PLACES * sheet::limits::ITEM_LIMIT;
+pub const EDGE_LIMIT: usize = MAX_PARENTS * limits::ITEM_LIMIT;
 
 // Each edge of an item is linked to the edge that heads the list of its parent. The edges begin at `first`.
 fn link_places(s: &[u8], at: usize, heads: &[u16], links: &mut [u16], first: usize)
-    requires { ⌜ ItemField (now s) at ⌝ ∗ ⌜ ((k : ℕ) → k < length (parentsOf (fieldItem (now s) at)) → getD (parentsOf (fieldItem (now s) at)) k 0 < length (now heads)) ⌝ ∗ ⌜ first + places ≤ length (now links) ⌝ }
+    requires { ⌜ ItemField (now s) at ⌝ ∗ ⌜ ((k : ℕ) → k < length (parentsOf (fieldItem (now s) at)) → getD (parentsOf (fieldItem (now s) at)) k 0 < length (now heads)) ⌝ ∗ ⌜ first + maxParents ≤ length (now links) ⌝ }
     ensures { λ _. ⌜ now (links .exit) ≡ linkPlaces (now (links .entry)) (now (heads .entry)) first (parentsOf (fieldItem (now (s .entry)) at)) (length (parentsOf (fieldItem (now (s .entry)) at))) ⌝ }
 {
     let count = item::parent_count(s, at);
@@ -31,7 +30,7 @@ fn link_places(s: &[u8], at: usize, heads: &[u16], links: &mut [u16], first: usi
 
 // Each edge of an item heads the list of its parent.
 fn head_places(s: &[u8], at: usize, heads: &mut [u16], first: usize)
-    requires { ⌜ ItemField (now s) at ⌝ ∗ ⌜ ((k : ℕ) → k < length (parentsOf (fieldItem (now s) at)) → getD (parentsOf (fieldItem (now s) at)) k 0 < length (now heads)) ⌝ ∗ ⌜ first + places ≤ 65_536 ⌝ }
+    requires { ⌜ ItemField (now s) at ⌝ ∗ ⌜ ((k : ℕ) → k < length (parentsOf (fieldItem (now s) at)) → getD (parentsOf (fieldItem (now s) at)) k 0 < length (now heads)) ⌝ ∗ ⌜ first + maxParents ≤ 65_536 ⌝ }
     ensures { λ _. ⌜ now (heads .exit) ≡ headPlaces (now (heads .entry)) first (parentsOf (fieldItem (now (s .entry)) at)) (length (parentsOf (fieldItem (now (s .entry)) at))) ⌝ }
 {
     let count = item::parent_count(s, at);
@@ -45,7 +44,7 @@ fn head_places(s: &[u8], at: usize, heads: &mut [u16], first: usize)
 
 // The child lists of all n items, from empty ones. The items come highest first, so that each list begins with its lowest.
 pub fn link(s: &[u8], offsets: &[usize], n: usize, heads: &mut [u16], links: &mut [u16])
-    requires { ⌜ Located (now s) (now offsets) ⌝ ∗ ⌜ n ≡ size (sheetOf (now s)) ⌝ ∗ ⌜ n ≤ length (now offsets) ⌝ ∗ ⌜ n ≤ length (now heads) ⌝ ∗ ⌜ places * n ≤ length (now links) ⌝ }
+    requires { ⌜ Located (now s) (now offsets) ⌝ ∗ ⌜ n ≡ size (sheetOf (now s)) ⌝ ∗ ⌜ n ≤ length (now offsets) ⌝ ∗ ⌜ n ≤ length (now heads) ⌝ ∗ ⌜ maxParents * n ≤ length (now links) ⌝ }
     ensures headed { λ _. ⌜ now (heads .exit) ≡ linkAll (sheetOf (now (s .entry))) (lists (now (heads .entry)) (now (links .entry))) .heads ⌝ }
     ensures linked { λ _. ⌜ now (links .exit) ≡ linkAll (sheetOf (now (s .entry))) (lists (now (heads .entry)) (now (links .entry))) .links ⌝ }
 {
@@ -53,7 +52,7 @@ pub fn link(s: &[u8], offsets: &[usize], n: usize, heads: &mut [u16], links: &mu
     while c > 0 {
         c -= 1;
         let at = offsets[c];
-        link_places(s, at, heads, links, PLACES * c);
-        head_places(s, at, heads, PLACES * c);
+        link_places(s, at, heads, links, MAX_PARENTS * c);
+        head_places(s, at, heads, MAX_PARENTS * c);
     }
 }

@@ -12,13 +12,12 @@ use call_ask::Reading;
 use day_order::Order;
 use day_order::Ordered;
 use field::Cut;
-use sheet::limits;
 
 // The number of a fault of the day log.
 const FAULT: u64 = 16;
 
 // Where a sheet has its item count.
-const COUNT_AT: usize = limits::FIELD_HEADER + limits::COUNT_AT;
+const COUNT_AT: usize = field::HEADER_LENGTH + limits::COUNT_AT;
 
 // The line of a call that gives no value.
 fn answer_line(out: &mut [u8], at: usize, number: u64) -> usize
@@ -144,7 +143,7 @@ pub fn run_day(
     ensures { λ r. ⌜ Ran (runDay (now (sheet .entry)) (now (log .entry)) (now (index .entry)) (now (table .entry))) (now (out .entry)) r (now (index .exit)) (now (table .exit)) (now (out .exit)) ⌝ }
 {
     let n = item_count(sheet);
-    let x = day_line::lesser(4 * n, index.len());
+    let x = day_line::lesser(limits::INDEX_WIDTH * n, index.len());
     let t = day_line::lesser(table::WIDTH * n, table.len());
     day_on(sheet, log, &mut index[..x], &mut table[..t], out)
 }

@@ -3,13 +3,14 @@ ghost use Rattle.io.specs.Counts.{Counts};
 ghost use Rattle.day_meaning.specs.Day.{runDay};
 ghost use Rattle.day_meaning.specs.Room.{Lent, Shown};
 use libc::STDOUT_FILENO;
-use sheet::limits::ITEM_LIMIT;
+use limits::INDEX_WIDTH;
+use limits::ITEM_LIMIT;
 
 // How many bytes of a file are taken at most.
 const FILE_LIMIT: usize = 65_536;
 
 // Index and table of the largest sheet.
-const INDEX_ROOM: usize = 4 * ITEM_LIMIT;
+const INDEX_ROOM: usize = INDEX_WIDTH * ITEM_LIMIT;
 
 const TABLE_ROOM: usize = table::WIDTH * ITEM_LIMIT;
 

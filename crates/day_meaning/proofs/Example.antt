@@ -57,5 +57,5 @@ exampleOutput =
     ∷ 49 ∷ 50 ∷ 10 ∷ 78 ∷ 79 ∷ 32 ∷ 49 ∷ 49 ∷ 10 ∷ []
 
 pub example : runDay exampleSheet exampleDay zeros20 zeros50 .text ≡ exampleOutput
-unfolding partsOf postedValue firstCause tests effect gather workOut lookFor lookUp work storePosting keepFigure dropFigure tellChild tellBelow tell clearMark stepItem lowestMarked catchUpIn catchUp coded maxParents oneOrMore parentsAllowed operationOf numbers total least greatest whole anyOut apply member limit inRange indexWidth indexBytes editionKnown itemLimit countAllowed levelLimit keepAllowed spreadAllowed nameLimit all nameAllowed highest spreadMeant machineItem parentsIn itemIn lengthOrName headTests itemTests lastTests scan scanSheet readSheet concat encodeTable tableForm encodeCell decodeCell codesForm numberForm recordForm rowsBelow allBelow leAt leBytes cutAt digitsUpTo digits decimal sameBytes callOn openOn playFrom itemCount dayOn runDay postIn callIn orderOf
+unfolding partsOf postedValue firstCause tests effect gather workOut lookFor lookUp work storePosting keepFigure dropFigure tellChild tellBelow tell clearMark stepItem lowestMarked catchUpIn catchUp coded maxParents oneOrMore parentsAllowed operationOf numbers total least greatest whole anyOut apply member limit inRange indexBytes editionKnown itemLimit countAllowed levelLimit keepAllowed spreadAllowed nameLimit all nameAllowed highest spreadMeant machineItem parentsIn itemIn lengthOrName headTests itemTests lastTests scan scanSheet readSheet concat encodeTable tableForm encodeCell decodeCell codesForm numberForm recordForm rowsBelow allBelow leAt leBytes cutAt digitsUpTo digits decimal sameBytes callOn openOn playFrom itemCount dayOn runDay postIn callIn orderOf
 example = refl

@@ -14,9 +14,8 @@ use Rattle.circuit.specs.Value.{Value, wellFormed, kindOf, numberOf}
 use Rattle.circuit.specs.Call.{Call}
 use Rattle.printer.specs.Printing.{textOf, printed}
 use Rattle.value.specs.Meaning.{partsOf}
-use Rattle.value.proofs.PartsLaws.{parts-own}
-use Rattle.field.specs.Field.{cutAt, le16, le16At}
 use Rattle.circuit.proofs.Parts.{parts-own}
+use Rattle.field.specs.Field.{cutAt, le16, le16At}
 use Rattle.field.specs.declared.Cut.{Cut}
 use Rattle.field.specs.declared.Cut.the-variants.{Field, Short, Absent}
 use Rattle.field.proofs.Cutting.{FieldAt, field-iff, absent-iff}

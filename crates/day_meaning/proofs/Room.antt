@@ -10,8 +10,7 @@ use lib.Dec.{eqb}
 use lib.ListN.{length, take, getD, length-append, length-take}
 use lib.ListN
 use lib.Seq.{getD-take, getD-drop, take-all, length-take-le}
-use Rattle.circuit.specs.Call.{bare}
-use Rattle.circuit.specs.Call.{Call, post, keep, drop, step, ask}
+use Rattle.circuit.specs.Call.{bare, Call, post, keep, drop, step, ask}
 use Rattle.circuit.specs.Calls.{Test, test, firstCause, tests, Outcome, effect}
 use Rattle.field.specs.Field.{cutAt, Bytes}
 use Rattle.field.specs.declared.Cut.{Cut}
@@ -22,7 +21,7 @@ use Rattle.layout.specs.Read.{Placed, SheetRead, opens, refused, readSheet, con
 use Rattle.layout.specs.Opened.{sheetRead}
 use Rattle.layout.proofs.Causes.{refused-number, refused-offset}
 use Rattle.layout.proofs.Scan.{opened-count}
-use Rattle.sheet.specs.Check.{mostItems}
+use Rattle.layout.specs.Layout.{mostItems}
 use Rattle.table.specs.Bytes.{decodeTable}
 use Rattle.table.specs.Record.{width}
 use Rattle.office.specs.Office.{Given, lengthsWrong, openRead, openOn, callOn, callTests, unlessRefused, effectOn, keeping}
@@ -265,7 +264,7 @@ day-shown {s} {d} {x} {t} {out} l b r =
 -- and no sheet is turned back for want of index or table
 pub day-opens : {s d x t out : List ℕ} {edition : ℕ} {ps : List Placed} → Lent s d x t out → readSheet s ≡ opens edition ps
     → openOn bare s (keeping (take (indexSize s) x) (take (tableSize s) t)) .number ≡ 0
-unfolding openOn firstCause mostItems indexWidth
+unfolding openOn firstCause mostItems
 day-opens {s} {d} {x} {t} {out} {edition} {ps} l e =
     let n : itemCount s ≡ length ps = item-count s edition ps e in
     let most = opened-count s edition ps e in

@@ -4,7 +4,7 @@ use mathlib.Core.Path.{_≡_}
 use mathlib.Core.List.{List, _++_}
 use lib.ListN.{length, drop}
 use Rattle.layout.specs.Index.{indexWidth}
-use Rattle.sheet.specs.Check.{mostItems}
+use Rattle.layout.specs.Layout.{mostItems}
 use Rattle.table.specs.Record.{width}
 use Rattle.day_meaning.specs.Day.{Day}
 

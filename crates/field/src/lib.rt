@@ -1,9 +1,12 @@
 // Cutting bytes into fields: a tag (1 byte), a length (2 bytes, little-endian) and that many content bytes.
 // The work is in `cut_at`, on a slice and an offset. `Reader` holds the two, and `field_at` is what callers use.
 ghost use mathlib.Core.Path.{_≡_};
-ghost use Prim.Native.Nat.{_+_, _<_};
+ghost use Prim.Native.Nat.{_+_, _≤_, _<_};
 ghost use lib.ListN.{length};
 ghost use Rattle.field.specs.Field.{cutAt, le16At};
+
+// The bytes before a field's content: its tag, and its length in two bytes.
+pub const HEADER_LENGTH: usize = 3;
 
 // What stands at an offset.
 pub enum Cut {
@@ -18,6 +21,13 @@ pub enum Cut {
     Short,
     // No byte at the offset.
     Absent,
+}
+
+// A byte as a number.
+pub fn wide(x: u8) -> usize
+    ensures { λ r. ⌜ (r ≡ x) × (r ≤ 255) ⌝ }
+{
+    x as usize
 }
 
 // The two bytes at an offset as one number, little-endian.
@@ -38,10 +48,10 @@ pub fn cut_at(s: &[u8], at: usize) -> Cut
     if n <= at {
         return Cut::Absent;
     }
-    if n - at < 3 {
+    if n - at < HEADER_LENGTH {
         return Cut::Short;
     }
-    let start = at + 3;
+    let start = at + HEADER_LENGTH;
     let len = u16_at(s, at + 1);
     if n - start < len {
         return Cut::Short;
@@ -68,7 +78,7 @@ impl<'a> Reader<'a> {
     }
 
     // The field at the reader's offset.
-    pub fn next(self) -> Cut
+    pub fn field(self) -> Cut
         ensures { λ c. ⌜ c ≡ cutAt (now (self .entry .src)) (self .entry .at) ⌝ }
     {
         cut_at(self.src, self.at)
@@ -79,5 +89,5 @@ impl<'a> Reader<'a> {
 pub fn field_at(s: &[u8], at: usize) -> Cut
     ensures { λ c. ⌜ c ≡ cutAt (now (s .entry)) at ⌝ }
 {
-    Reader::new(s, at).next()
+    Reader::new(s, at).field()
 }

@@ -6,21 +6,21 @@ use mathlib.Core.Option.{Option, none, some}
 use Prim.Native.Nat.{ℕ, zero, suc, _+_, _*_, _≤_, _<_}
 use native.Mathlib.Omega.{arith}
 use native.Mathlib.Decide.{decLt}
-use lib.Dec.{eqb, leb}
-use lib.ListN.{length, getD, take, drop, length-append, List·getD-append}
+use lib.Dec.{eqb}
+use lib.ListN.{length, getD, drop, List·getD-append}
 use lib.Seq.{getD-take, getD-drop, getD-at}
 use borrow.Author.Tests.{eqb-true, eqb-false, eq-eqb, ne-eqb}
-use Rattle.field.specs.Field.{lenAt, le16At, le16}
+use Rattle.field.specs.Field.{lenAt, le16At, le16, headerLength}
 use Rattle.circuit.specs.Rules.{Operation, operationOf, countAllowed, coded, allowed}
-use Rattle.circuit.specs.Sheet.{Item, entry, figure, isFigure, parentsOf, keptOf, spreadOf, defer, renew, forget}
-use Rattle.layout.specs.Layout.{LayoutItem, entryField, figureField, figureTag, ruleAllowed, machineItem, spreadMeant, operationOr}
-use Rattle.layout.specs.Read.{contentAt, itemIn, ruleIn, keepIn, spreadIn, parentCountIn, parentIn, parentsIn, nameIn}
+use Rattle.circuit.specs.Sheet.{entry, figure, isFigure, parentsOf, keptOf, spreadOf, defer, renew, forget}
+use Rattle.layout.specs.Layout.{figureTag, machineItem, spreadMeant, operationOr, ruleAt, keepAt, spreadAt, parentCountAt, parentsAt, parentWidth, parentAt}
+use Rattle.layout.specs.Read.{itemIn, parentIn, parentsIn}
 use Rattle.layout.proofs.Scan.{allowed-operation}
 use Rattle.layout.proofs.Items.{parents-count}
 use Rattle.layout.proofs.IndexLaws.{parents-most}
 use Rattle.rules.specs.Operations.{operationMeaning}
 use Rattle.rules.specs.declared.Operation.{Operation as Answer}
-use Rattle.item.specs.Item.{fieldContent, fieldItem, ruleByte, keepByte, spreadByte, countByte, FigureField, ItemField, itemOperation, OperationRead, CountRead}
+use Rattle.item.specs.Item.{fieldContent, fieldItem, ruleByte, keepByte, spreadByte, countByte, ItemField, itemOperation, OperationRead, CountRead}
 
 -- the k-th of the first n parents
 parents-at : (content : List ℕ) (n k : ℕ) → k < n → getD (parentsIn content n) k 0 ≡ parentIn content k
@@ -63,9 +63,9 @@ meant-forget b n m = rw (ne-eqb b 0 n, ne-eqb b 1 m)
 
 module _ (s : List ℕ) (at : ℕ) where
   -- a byte of the content is one of the sheet
-  pub content-at : (k j : ℕ) → at + 3 + k ≡ j → k < lenAt s at → getD (fieldContent s at) k 0 ≡ getD s j 0
+  pub content-at : (k j : ℕ) → at + headerLength + k ≡ j → k < lenAt s at → getD (fieldContent s at) k 0 ≡ getD s j 0
   content-at k j e h =
-      getD-take (lenAt s at) (drop (at + 3) s) k 0 h ∙ getD-drop (at + 3) s k 0 ∙ ap (λ m. getD s m 0) e
+      getD-take (lenAt s at) (drop (at + headerLength) s) k 0 h ∙ getD-drop (at + headerLength) s k 0 ∙ ap (λ m. getD s m 0) e
 
   pub tag-figure : isFigure (fieldItem s at) ≡ eqb (getD s at 0) figureTag
   unfolding fieldItem itemIn machineItem
@@ -98,17 +98,17 @@ module _ (s : List ℕ) (at : ℕ) where
 
     module _ (t : getD s at 0 ≡ figureTag) where
       -- the parents stand within the sheet
-      pub figure-within : at + 7 + 2 * countByte s at ≤ length s
+      pub figure-within : at + headerLength + parentAt (countByte s at) ≤ length s
       figure-within = omega (arith, f .whole, f .figure t .within)
 
       figure-is : fieldItem s at ≡ figure (operationOr (operationOf (ruleByte s at) (countByte s at))) (eqb (keepByte s at) 1) (spreadMeant (spreadByte s at)) parentsRead
       unfolding fieldItem itemIn machineItem
       figure-is =
           let w = f .figure t .within in
-          let e₀ = content-at 0 (at + 3) (omega arith) (omega arith) in
-          let e₁ = content-at 1 (at + 4) (omega arith) (omega arith) in
-          let e₂ = content-at 2 (at + 5) (omega arith) (omega arith) in
-          let e₃ = content-at 3 (at + 6) (omega arith) (omega arith) in
+          let e₀ = content-at ruleAt (at + (headerLength + ruleAt)) (omega arith) (omega arith) in
+          let e₁ = content-at keepAt (at + (headerLength + keepAt)) (omega arith) (omega arith) in
+          let e₂ = content-at spreadAt (at + (headerLength + spreadAt)) (omega arith) (omega arith) in
+          let e₃ = content-at parentCountAt (at + (headerLength + parentCountAt)) (omega arith) (omega arith) in
           rw (eq-eqb (getD s at 0) figureTag t, e₃, parents-count (fieldContent s at) (countByte s at), e₀, e₁, e₂)
 
       pub kept-read : eqb (keepByte s at) 1 ≡ keptOf (fieldItem s at)
@@ -126,11 +126,11 @@ module _ (s : List ℕ) (at : ℕ) where
       pub count-read : CountRead (fieldItem s at) (countByte s at)
       count-read = record { count-is = count-is; at-most = parents-most (ruleByte s at) (countByte s at) (f .figure t .rule-fits) }
 
-      pub parent-read : (k : ℕ) → k < countByte s at → le16At s (at + 7 + 2 * k) ≡ getD (parentsOf (fieldItem s at)) k 0
+      pub parent-read : (k : ℕ) → k < countByte s at → le16At s (at + (headerLength + parentsAt) + parentWidth * k) ≡ getD (parentsOf (fieldItem s at)) k 0
       parent-read k h =
           let w = f .figure t .within in
-          let low = content-at (4 + 2 * k) (at + 7 + 2 * k) (omega arith) (omega arith) in
-          let high = content-at (4 + 2 * k + 1) (at + 7 + 2 * k + 1) (omega arith) (omega arith) in
+          let low = content-at (parentAt k) (at + (headerLength + parentsAt) + parentWidth * k) (omega arith) (omega arith) in
+          let high = content-at (parentAt k + 1) (at + (headerLength + parentsAt) + parentWidth * k + 1) (omega arith) (omega arith) in
           sym (ap (λ l. getD l k 0) parents-are ∙ parents-at (fieldContent s at) (countByte s at) k h ∙ ap₂ le16 low high)
 
       pub operation-read : (op : Answer) → operationMeaning op ≡ operationOf (ruleByte s at) (countByte s at) → OperationRead (fieldItem s at) op

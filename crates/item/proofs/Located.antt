@@ -2,26 +2,24 @@
 -- fields' offsets is good for. Assumes nothing.
 use mathlib.Core.Path.{_≡_, refl, sym, ap, ap₂, _∙_}
 use mathlib.Core.Bool.{Bool, true, false, _&&_}
-use mathlib.Core.List.{List, [], _∷_, map}
-use mathlib.Core.Option.{Option, none, some}
-use Prim.Native.Nat.{ℕ, _+_, _*_, _≤_, _<_}
+use mathlib.Core.List.{List, map}
+use Prim.Native.Nat.{ℕ, _+_, _≤_, _<_}
 use native.Mathlib.Omega.{arith}
 use lib.ListN.{length, getD, take, length-map}
 use lib.Seq.{getD-take}
 use lib.Dec.{eqb}
-use borrow.Author.Tests.{eq-eqb, eqb-true, eqb-false, not-false}
-use Rattle.field.specs.Field.{lenAt}
+use borrow.Author.Tests.{eqb-true, eqb-false, not-false}
+use Rattle.field.specs.Field.{lenAt, headerLength}
 use Rattle.field.proofs.Cutting.{field-iff, content-length}
-use Rattle.circuit.specs.Rules.{Operation, countAllowed}
-use Rattle.circuit.specs.Circuit.{Listed}
-use Rattle.circuit.specs.Sheet.{Sheet, Item, entry, figure, size, itemAt, parentsOf, Ordered}
-use Rattle.layout.specs.Layout.{LayoutItem, figureField, figureTag, ruleAllowed, keepAllowed, spreadAllowed, machineItem, machineSheet}
-use Rattle.layout.specs.Read.{contentAt, countIn, ruleIn, keepIn, spreadIn, parentCountIn, parentsIn, nameIn, itemIn, lengthOrName, ruleWrong, Placed, headContent, SheetRead, opens, refused, readSheet, layoutOf}
+use Rattle.circuit.specs.Rules.{maxParents}
+use Rattle.circuit.specs.Sheet.{figure, size, itemAt, parentsOf, Ordered}
+use Rattle.layout.specs.Layout.{LayoutItem, figureTag, ruleAllowed, keepAllowed, spreadAllowed, machineItem, ruleAt, parentCountAt, mostItems}
+use Rattle.layout.specs.Read.{contentAt, countIn, ruleIn, keepIn, spreadIn, parentCountIn, parentsIn, itemIn, lengthOrName, ruleWrong, Placed, headContent, SheetRead, opens, refused, readSheet}
 use Rattle.layout.specs.Opened.{placedFrom, itemsOf, sheetRead, sheetFrom, sheetOf, offsetsOf, Located}
-use Rattle.layout.proofs.Scan.{placedAt, offsetFrom, offset-placed, ItemRead, passes, scan-item, opened, opened-length, opened-count, opened-ordered, machine-item, and-left}
+use Rattle.layout.proofs.Scan.{placedAt, offset-placed, ItemRead, passes, scan-item, opened, opened-length, opened-count, most-small, opened-ordered, machine-item, and-left}
 use Rattle.layout.proofs.Items.{figure-parts, parents-count}
-use Rattle.item.specs.Item.{fieldContent, fieldItem, ruleByte, countByte, FigureField, ItemField, itemOperation}
-use Rattle.item.proofs.Fields.{content-at, field-takes, count-read, count-not}
+use Rattle.item.specs.Item.{fieldContent, fieldItem, countByte, FigureField, ItemField}
+use Rattle.item.proofs.Fields.{content-at, count-read, count-not}
 
 -- An item that was read: its field and its item.
 module _ (s : List ℕ) (edition : ℕ) (ps : List Placed) (at : ℕ) (it : LayoutItem) (next : ℕ) (r : ItemRead s edition ps at it next) where
@@ -46,8 +44,8 @@ module _ (s : List ℕ) (edition : ℕ) (ps : List Placed) (at : ℕ) (it : Layo
       let n : lengthOrName figureTag content ≡ false = sym (ap₂ lengthOrName z content-same) ∙ p .name-fits in
       let parts = figure-parts content n .length-is in
       let l : length content ≡ lenAt s at = sym (ap length content-same) ∙ content-length s at (r .tag) (r .start) (r .len) next f ∙ f .len-is in
-      let e₀ = content-at s at 0 (at + 3) (omega arith) (omega arith) in
-      let e₃ = content-at s at 3 (at + 6) (omega arith) (omega arith) in
+      let e₀ = content-at s at ruleAt (at + (headerLength + ruleAt)) (omega arith) (omega arith) in
+      let e₃ = content-at s at parentCountAt (at + (headerLength + parentCountAt)) (omega arith) (omega arith) in
       let parents : List ℕ = parentsIn content (parentCountIn content) in
       let w : ruleWrong edition (itemIn figureTag content) ≡ false = sym (ap (ruleWrong edition) (ap₂ itemIn z content-same)) ∙ p .rule-fits in
       let a = and-left (ruleAllowed (ruleIn content) (length parents)) (keepAllowed (keepIn content))
@@ -97,22 +95,17 @@ sheet-ordered s = go (readSheet s) refl
     go (opens edition ps) e = opened-ordered s edition ps e
     go (refused k at) e = λ i p l. absurd l
 
-pub sheet-count : (s : List ℕ) (edition : ℕ) (ps : List Placed) → readSheet s ≡ opens edition ps
-    → (1 ≤ size (sheetOf s)) × (size (sheetOf s) ≤ 1024)
-unfolding itemsOf
-sheet-count s edition ps e =
-    let n : size (sheetOf s) ≡ length ps = sheet-size s ∙ ap (λ r. length (placedFrom r)) e in
-    let b = opened-count s edition ps e in
-    (omega arith, omega arith)
-
-pub size-most : (s : List ℕ) → size (sheetOf s) ≤ 1024
+pub size-room : (s : List ℕ) → size (sheetOf s) ≤ mostItems
 unfolding sheetOf
-size-most s = go (readSheet s) refl
+size-room s = go (readSheet s) refl
   where
-    go : (r : SheetRead) → readSheet s ≡ r → size (sheetFrom r) ≤ 1024
+    go : (r : SheetRead) → readSheet s ≡ r → size (sheetFrom r) ≤ mostItems
     go (opens edition ps) e =
         omega (arith, opened-count s edition ps e, length-map (map (λ p. p .item) ps) machineItem, length-map ps (λ p. p .item))
     go (refused k at) e = omega arith
+
+pub size-most : (s : List ℕ) → size (sheetOf s) < 65_536
+size-most s = omega (arith, size-room s, most-small)
 
 -- What the field of item i is, by the offset that an array gives.
 module _ (s offsets : List ℕ) (located : Located s offsets) (i : ℕ) (h : i < size (sheetOf s)) where
@@ -148,16 +141,11 @@ module _ (s offsets : List ℕ) (located : Located s offsets) (i : ℕ) (h : i <
   pub located-item : fieldItem s (getD offsets i 0) ≡ itemAt (sheetOf s) i
   located-item = let o = located-opens in ap (fieldItem s) (offset-located o) ∙ located-read o .1
 
-  -- a figure's operation takes as many parents as it lists
-  pub located-takes : (op : Operation) → itemOperation (itemAt (sheetOf s) i) ≡ some op → countAllowed op (length (parentsOf (itemAt (sheetOf s) i))) ≡ true
-  located-takes op e =
-      rw (← located-item) (field-takes s (getD offsets i 0) located-field op (ap itemOperation located-item ∙ e))
-
-  -- an item lists 16 parents at most
-  pub located-narrow : length (parentsOf (itemAt (sheetOf s) i)) ≤ 16
+  -- how many parents an item lists at most
+  pub located-narrow : length (parentsOf (itemAt (sheetOf s) i)) ≤ maxParents
   located-narrow = rw (← located-item) (go (eqb (getD s (getD offsets i 0) 0) figureTag) refl)
     where
-      go : (b : Bool) → eqb (getD s (getD offsets i 0) 0) figureTag ≡ b → length (parentsOf (fieldItem s (getD offsets i 0))) ≤ 16
+      go : (b : Bool) → eqb (getD s (getD offsets i 0) 0) figureTag ≡ b → length (parentsOf (fieldItem s (getD offsets i 0))) ≤ maxParents
       go true e =
           let r = count-read s (getD offsets i 0) located-field (eqb-true (getD s (getD offsets i 0) 0) figureTag e) in
           omega (arith, r .count-is, r .at-most)

@@ -2,16 +2,15 @@
 -- Assumes nothing.
 use mathlib.Core.Path.{_≡_, refl, sym, ap, ap₂, _∙_}
 use mathlib.Core.Bool.{Bool, true, false, _&&_}
-use mathlib.Core.List.{List, [], _∷_, _++_, map, append-assoc, append-nil}
-use mathlib.Core.Logic.{_↔_}
-use Prim.Native.Nat.{ℕ, zero, suc, _+_, _*_, _/_, _%_, _-_, _≤_, _<_}
+use mathlib.Core.List.{List, [], _∷_, _++_, append-assoc}
+use Prim.Native.Nat.{ℕ, suc, _+_, _*_, _/_, _%_, _-_, _≤_, _<_}
 use native.Mathlib.Omega.{arith}
 use native.Mathlib.Numerals.{add-one}
 use lib.Dec.{eqb}
-use lib.ListN.{length, getD, take, drop, set, length-set, length-take, drop-of-length-le}
+use lib.ListN.{length, getD, take, drop, set, length-set, drop-of-length-le}
 use lib.Seq.{take-suc, take-suc-set, take-all, drop-cons, getD-take, length-take-le}
-use borrow.Author.Tests.{eqb-true, eqb-false, eq-eqb, ne-eqb}
-use Rattle.field.specs.Field.{le16At}
+use borrow.Author.Tests.{eqb-true, eqb-false, eq-eqb}
+use Rattle.layout.specs.Layout.{indexWidth}
 use Rattle.layout.specs.Read.{Placed}
 use Rattle.layout.specs.Write.{concat}
 use Rattle.layout.specs.Index.{bytes32, indexBytes}
@@ -46,9 +45,6 @@ same-equal (a ∷ l) (b ∷ m) e = go (eqb a b) refl (same-equal l m) e
     go true q ih e = ap₂ (λ x y. x ∷ y) (eqb-true a b q) (ih e)
     go false q ih e = let z : _≡_ {A = ℕ} 0 1 = cc in absurd (omega arith)
 
-pub same-iff : (l m : List ℕ) → sameBytes l m ≡ true ↔ l ≡ m
-same-iff l m = (same-equal l m, λ e. rw e (same-refl m))
-
 -- two parts are compared one after the other
 and-assoc : (a b c : Bool) → (a && (b && c)) ≡ ((a && b) && c)
 and-assoc true b c = refl
@@ -71,7 +67,7 @@ offsets-snoc (a ∷ l) o = ap (λ r. bytes32 a ++ r) (offsets-snoc l o)
 pub put-length : (l : List ℕ) (at o : ℕ) → length (putOffset l at o) ≡ length l
 put-length l at o = simp length-set
 
-put-take : (l : List ℕ) (at o : ℕ) → at + 4 ≤ length l → take (at + 4) (putOffset l at o) ≡ take at l ++ bytes32 o
+put-take : (l : List ℕ) (at o : ℕ) → at + indexWidth ≤ length l → take (at + indexWidth) (putOffset l at o) ≡ take at l ++ bytes32 o
 put-take l at o h =
     let l₁ : List ℕ = set l at (o % 256) in
     let l₂ : List ℕ = set l₁ (at + 1) (o / 256 % 256) in
@@ -82,69 +78,69 @@ put-take l at o h =
     let e₁ : suc at ≡ at + 1 = omega arith in
     let e₂ : suc (at + 1) ≡ at + 2 = omega arith in
     let e₃ : suc (at + 2) ≡ at + 3 = omega arith in
-    let e₄ : suc (at + 3) ≡ at + 4 = omega arith in
+    let e₄ : suc (at + 3) ≡ at + indexWidth = omega arith in
     let t₁ : take (at + 1) l₁ ≡ take at l ++ (o % 256 ∷ []) = rw e₁ at (take-suc-set l at (o % 256) (omega arith)) in
     let t₂ : take (at + 2) l₂ ≡ take (at + 1) l₁ ++ (o / 256 % 256 ∷ []) = rw e₂ at (take-suc-set l₁ (at + 1) (o / 256 % 256) (omega arith)) in
     let t₃ : take (at + 3) l₃ ≡ take (at + 2) l₂ ++ (o / 65_536 % 256 ∷ []) = rw e₃ at (take-suc-set l₂ (at + 2) (o / 65_536 % 256) (omega arith)) in
-    let t₄ : take (at + 4) (putOffset l at o) ≡ take (at + 3) l₃ ++ (o / 16_777_216 % 256 ∷ []) = rw e₄ at (take-suc-set l₃ (at + 3) (o / 16_777_216 % 256) (omega arith)) in
+    let t₄ : take (at + indexWidth) (putOffset l at o) ≡ take (at + 3) l₃ ++ (o / 16_777_216 % 256 ∷ []) = rw e₄ at (take-suc-set l₃ (at + 3) (o / 16_777_216 % 256) (omega arith)) in
     t₄ ∙ ap (λ r. r ++ (o / 16_777_216 % 256 ∷ [])) (t₃ ∙ ap (λ r. r ++ (o / 65_536 % 256 ∷ [])) (t₂ ∙ ap (λ r. r ++ (o / 256 % 256 ∷ [])) t₁)) ∙ simp append-assoc
 
-pub write-next : (offsets l : List ℕ) (k : ℕ) → k < length offsets → 4 * k + 4 ≤ length l → take (4 * k) l ≡ offsetBytes (take k offsets)
-    → take (4 * (k + 1)) (putOffset l (4 * k) (getD offsets k 0)) ≡ offsetBytes (take (k + 1) offsets)
+pub write-next : (offsets l : List ℕ) (k : ℕ) → k < length offsets → indexWidth * k + indexWidth ≤ length l → take (indexWidth * k) l ≡ offsetBytes (take k offsets)
+    → take (indexWidth * (k + 1)) (putOffset l (indexWidth * k) (getD offsets k 0)) ≡ offsetBytes (take (k + 1) offsets)
 write-next offsets l k h b inv =
-    let e : 4 * (k + 1) ≡ 4 * k + 4 = omega arith in
+    let e : indexWidth * (k + 1) ≡ indexWidth * k + indexWidth = omega arith in
     let o : ℕ = getD offsets k 0 in
-    let left : take (4 * k + 4) (putOffset l (4 * k) o) ≡ offsetBytes (take k offsets) ++ bytes32 o = put-take l (4 * k) o b ∙ ap (λ r. r ++ bytes32 o) inv in
+    let left : take (indexWidth * k + indexWidth) (putOffset l (indexWidth * k) o) ≡ offsetBytes (take k offsets) ++ bytes32 o = put-take l (indexWidth * k) o b ∙ ap (λ r. r ++ bytes32 o) inv in
     let right : take (k + 1) offsets ≡ take k offsets ++ (o ∷ []) = ap (λ n. take n offsets) (add-one k) ∙ take-suc offsets k 0 h in
-    ap (λ n. take n (putOffset l (4 * k) o)) e ∙ left ∙ sym (ap offsetBytes right ∙ offsets-snoc (take k offsets) o)
+    ap (λ n. take n (putOffset l (indexWidth * k) o)) e ∙ left ∙ sym (ap offsetBytes right ∙ offsets-snoc (take k offsets) o)
 
-pub write-done : (offsets l : List ℕ) (k n : ℕ) → k ≡ n → length l ≡ 4 * n → take (4 * k) l ≡ offsetBytes (take k offsets)
+pub write-done : (offsets l : List ℕ) (k n : ℕ) → k ≡ n → length l ≡ indexWidth * n → take (indexWidth * k) l ≡ offsetBytes (take k offsets)
     → l ≡ offsetBytes (take n offsets)
 write-done offsets l k n e b inv =
-    sym (take-all (4 * k) l (omega arith)) ∙ inv ∙ ap (λ m. offsetBytes (take m offsets)) e
+    sym (take-all (indexWidth * k) l (omega arith)) ∙ inv ∙ ap (λ m. offsetBytes (take m offsets)) e
 
 -- Comparing: what is left decides.
-drop-four : (l : List ℕ) (at : ℕ) → at + 4 ≤ length l → drop at l ≡ fourAt l at ++ drop (at + 4) l
+drop-four : (l : List ℕ) (at : ℕ) → at + indexWidth ≤ length l → drop at l ≡ fourAt l at ++ drop (at + indexWidth) l
 drop-four l at h =
     let e₁ : at + 1 ≡ suc at = omega arith in
     let e₂ : at + 2 ≡ suc (suc at) = omega arith in
     let e₃ : at + 3 ≡ suc (suc (suc at)) = omega arith in
-    let e₄ : at + 4 ≡ suc (suc (suc (suc at))) = omega arith in
+    let e₄ : at + indexWidth ≡ suc (suc (suc (suc at))) = omega arith in
     rw (e₁, e₂, e₃, e₄, ← drop-cons l (suc (suc (suc at))) 0 (omega arith), ← drop-cons l (suc (suc at)) 0 (omega arith), ← drop-cons l (suc at) 0 (omega arith)) (drop-cons l at 0 (omega arith))
 
 -- the comparison of an index with the bytes of some offsets has come to offset k
 abbrev pub Compared : List ℕ → List ℕ → ℕ → Type 0
-Compared index offsets k = sameBytes index (offsetBytes offsets) ≡ sameBytes (drop (4 * k) index) (offsetBytes (drop k offsets))
+Compared index offsets k = sameBytes index (offsetBytes offsets) ≡ sameBytes (drop (indexWidth * k) index) (offsetBytes (drop k offsets))
 
-module _ (index offsets : List ℕ) (n k : ℕ) (below : k < n) (fits : n ≤ length offsets) (size : length index ≡ 4 * n) where
-  compared-step : sameBytes (drop (4 * k) index) (offsetBytes (drop k (take n offsets)))
-      ≡ (sameBytes (fourAt index (4 * k)) (bytes32 (getD offsets k 0)) && sameBytes (drop (4 * (k + 1)) index) (offsetBytes (drop (k + 1) (take n offsets))))
+module _ (index offsets : List ℕ) (n k : ℕ) (below : k < n) (fits : n ≤ length offsets) (size : length index ≡ indexWidth * n) where
+  compared-step : sameBytes (drop (indexWidth * k) index) (offsetBytes (drop k (take n offsets)))
+      ≡ (sameBytes (fourAt index (indexWidth * k)) (bytes32 (getD offsets k 0)) && sameBytes (drop (indexWidth * (k + 1)) index) (offsetBytes (drop (k + 1) (take n offsets))))
   unfolding offsetBytes
   compared-step =
       let m : length (take n offsets) ≡ n = length-take-le n offsets fits in
-      let e : 4 * (k + 1) ≡ 4 * k + 4 = omega arith in
+      let e : indexWidth * (k + 1) ≡ indexWidth * k + indexWidth = omega arith in
       let g : getD (take n offsets) k 0 ≡ getD offsets k 0 = getD-take n offsets k 0 below in
       let d : drop k (take n offsets) ≡ getD offsets k 0 ∷ drop (k + 1) (take n offsets) =
       drop-cons (take n offsets) k 0 (omega arith) ∙ ap₂ (λ x j. x ∷ drop j (take n offsets)) g (sym (add-one k)) in
-      rw (drop-four index (4 * k) (omega arith), d, e)
-      (same-append (fourAt index (4 * k)) (bytes32 (getD offsets k 0)) (drop (4 * k + 4) index) (offsetBytes (drop (k + 1) (take n offsets))) refl)
+      rw (drop-four index (indexWidth * k) (omega arith), d, e)
+      (same-append (fourAt index (indexWidth * k)) (bytes32 (getD offsets k 0)) (drop (indexWidth * k + indexWidth) index) (offsetBytes (drop (k + 1) (take n offsets))) refl)
 
-  pub compared-next : Compared index (take n offsets) k → true ≡ sameBytes (fourAt index (4 * k)) (bytes32 (getD offsets k 0))
+  pub compared-next : Compared index (take n offsets) k → true ≡ sameBytes (fourAt index (indexWidth * k)) (bytes32 (getD offsets k 0))
       → Compared index (take n offsets) (k + 1)
   compared-next inv e =
-      inv ∙ compared-step ∙ ap (λ t. t && sameBytes (drop (4 * (k + 1)) index) (offsetBytes (drop (k + 1) (take n offsets)))) (sym e)
+      inv ∙ compared-step ∙ ap (λ t. t && sameBytes (drop (indexWidth * (k + 1)) index) (offsetBytes (drop (k + 1) (take n offsets)))) (sym e)
 
-  pub compared-other : Compared index (take n offsets) k → false ≡ sameBytes (fourAt index (4 * k)) (bytes32 (getD offsets k 0))
+  pub compared-other : Compared index (take n offsets) k → false ≡ sameBytes (fourAt index (indexWidth * k)) (bytes32 (getD offsets k 0))
       → false ≡ sameBytes index (offsetBytes (take n offsets))
   compared-other inv e =
-      sym (inv ∙ compared-step ∙ ap (λ t. t && sameBytes (drop (4 * (k + 1)) index) (offsetBytes (drop (k + 1) (take n offsets)))) (sym e))
+      sym (inv ∙ compared-step ∙ ap (λ t. t && sameBytes (drop (indexWidth * (k + 1)) index) (offsetBytes (drop (k + 1) (take n offsets)))) (sym e))
 
-pub compared-done : (index offsets : List ℕ) (n k : ℕ) → k ≡ n → n ≤ length offsets → length index ≡ 4 * n → Compared index (take n offsets) k
+pub compared-done : (index offsets : List ℕ) (n k : ℕ) → k ≡ n → n ≤ length offsets → length index ≡ indexWidth * n → Compared index (take n offsets) k
     → true ≡ sameBytes index (offsetBytes (take n offsets))
 unfolding offsetBytes sameBytes
 compared-done index offsets n k e fits size inv =
     let m : length (take n offsets) ≡ n = length-take-le n offsets fits in
-    sym (inv ∙ ap₂ (λ x y. sameBytes x (offsetBytes y)) (drop-of-length-le index {i = 4 * k} (omega arith)) (drop-of-length-le (take n offsets) {i = k} (omega arith)))
+    sym (inv ∙ ap₂ (λ x y. sameBytes x (offsetBytes y)) (drop-of-length-le index {i = indexWidth * k} (omega arith)) (drop-of-length-le (take n offsets) {i = k} (omega arith)))
 
 -- Four bytes compared as one number.
 split : (n : ℕ) → n % 256 + 256 * (n / 256) ≡ n

@@ -1,14 +1,15 @@
 -- The item of a field at an offset, as the machine sees it, and what reading it from its bytes needs. Assumes nothing.
-use Prim.Native.Nat.{ℕ, _+_, _*_, _≤_}
+use Prim.Native.Nat.{ℕ, _+_, _≤_}
 use mathlib.Core.Path.{_≡_}
-use mathlib.Core.Bool.{Bool, true}
+use mathlib.Core.Bool.{true}
 use mathlib.Core.List.{List}
 use mathlib.Core.Option.{Option, none, some}
 use lib.ListN.{length, getD}
-use Rattle.field.specs.Field.{lenAt}
+use Rattle.circuit.specs.Rules.{maxParents}
+use Rattle.field.specs.Field.{lenAt, headerLength}
 use Rattle.circuit.specs.Rules as rules
 use Rattle.circuit.specs.Sheet as circuit
-use Rattle.layout.specs.Layout.{figureTag, ruleAllowed, machineItem}
+use Rattle.layout.specs.Layout.{figureTag, ruleAllowed, machineItem, ruleAt, keepAt, spreadAt, parentCountAt, parentAt}
 use Rattle.layout.specs.Read.{contentAt, itemIn}
 use Rattle.rules.specs.Operations.{operationMeaning, allows}
 use Rattle.rules.specs.declared.Operation.{Operation}
@@ -17,7 +18,7 @@ use Rattle.item.specs.declared.Spread.the-variants.{Defer, Renew, Forget
 
 -- the content of the field at an offset: as many bytes as the two after its tag say
 abbrev pub fieldContent : List ℕ → ℕ → List ℕ
-fieldContent s at = contentAt s (at + 3) (lenAt s at)
+fieldContent s at = contentAt s (at + headerLength) (lenAt s at)
 
 -- the machine's item of the field at an offset
 unfoldable pub fieldItem : List ℕ → ℕ → circuit.Item
@@ -25,25 +26,25 @@ fieldItem s at = machineItem (itemIn (getD s at 0) (fieldContent s at))
 
 -- Where the bytes of a figure's field stand: rule, keep, spread, parent count, then two bytes a parent.
 abbrev pub ruleByte : List ℕ → ℕ → ℕ
-ruleByte s at = getD s (at + 3) 0
+ruleByte s at = getD s (at + (headerLength + ruleAt)) 0
 
 abbrev pub keepByte : List ℕ → ℕ → ℕ
-keepByte s at = getD s (at + 4) 0
+keepByte s at = getD s (at + (headerLength + keepAt)) 0
 
 abbrev pub spreadByte : List ℕ → ℕ → ℕ
-spreadByte s at = getD s (at + 5) 0
+spreadByte s at = getD s (at + (headerLength + spreadAt)) 0
 
 abbrev pub countByte : List ℕ → ℕ → ℕ
-countByte s at = getD s (at + 6) 0
+countByte s at = getD s (at + (headerLength + parentCountAt)) 0
 
 -- a figure's field has its parents within its content, and a rule that allows as many
 pub record FigureField (s : List ℕ) (at : ℕ) : Type 0 where
-  pub within : 4 + 2 * countByte s at ≤ lenAt s at
+  pub within : parentAt (countByte s at) ≤ lenAt s at
   pub rule-fits : ruleAllowed (ruleByte s at) (countByte s at) ≡ true
 
 -- the field of an item is there whole; a figure's is in form
 pub record ItemField (s : List ℕ) (at : ℕ) : Type 0 where
-  pub whole : at + 3 + lenAt s at ≤ length s
+  pub whole : at + headerLength + lenAt s at ≤ length s
   pub figure : getD s at 0 ≡ figureTag → FigureField s at
 
 -- the spread of the definitions
@@ -65,4 +66,4 @@ pub record OperationRead (it : circuit.Item) (op : Operation) : Type 0 where
 -- a parent count that is read
 pub record CountRead (it : circuit.Item) (n : ℕ) : Type 0 where
   pub count-is : n ≡ length (circuit.parentsOf it)
-  pub at-most : n ≤ 16
+  pub at-most : n ≤ maxParents

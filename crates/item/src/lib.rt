@@ -8,7 +8,11 @@ ghost use lib.ListN.{length, getD, take};
 ghost use Rattle.circuit.specs.Sheet as circuit;
 ghost use Rattle.item.specs.Item.{ItemField, fieldItem, spreadMeaning, OperationRead, CountRead};
 ghost use Rattle.item.specs.Offsets.{offsetBytes, sameBytes, fourAt, putOffset};
+ghost use Rattle.layout.specs.Layout.{indexWidth};
 ghost use Rattle.layout.specs.Index.{bytes32};
+use limits::FIGURE_TAG;
+use limits::INDEX_WIDTH;
+use limits::PARENT_WIDTH;
 
 // What a stored figure does when a parent's change is told.
 pub enum Spread {
@@ -17,19 +21,22 @@ pub enum Spread {
     Forget,
 }
 
-const FIGURE: u8 = 3;
+// Where a figure's parts stand, from the offset of its field.
+const RULE_AT: usize = field::HEADER_LENGTH + limits::RULE_AT;
 
-fn wide(b: u8) -> usize
-    ensures { λ r. ⌜ r ≡ b ⌝ }
-{
-    b as usize
-}
+const KEEP_AT: usize = field::HEADER_LENGTH + limits::KEEP_AT;
+
+const SPREAD_AT: usize = field::HEADER_LENGTH + limits::SPREAD_AT;
+
+const PARENT_COUNT_AT: usize = field::HEADER_LENGTH + limits::PARENT_COUNT_AT;
+
+const PARENTS_AT: usize = field::HEADER_LENGTH + limits::PARENTS_AT;
 
 pub fn is_figure(s: &[u8], at: usize) -> bool
     requires { ⌜ ItemField (now s) at ⌝ }
     ensures { λ r. ⌜ r ≡ circuit.isFigure (fieldItem (now (s .entry)) at) ⌝ }
 {
-    s[at] == FIGURE
+    s[at] == FIGURE_TAG
 }
 
 // A figure's operation.
@@ -37,15 +44,15 @@ pub fn operation(s: &[u8], at: usize) -> rules::Operation
     requires { ⌜ ItemField (now s) at ⌝ ∗ ⌜ circuit.isFigure (fieldItem (now s) at) ≡ true ⌝ }
     ensures { λ r. ⌜ OperationRead (fieldItem (now (s .entry)) at) r ⌝ }
 {
-    rules::operation_of(s[at + 3], wide(s[at + 6]))
+    rules::operation_of(s[at + RULE_AT], field::wide(s[at + PARENT_COUNT_AT]))
 }
 
 pub fn is_kept(s: &[u8], at: usize) -> bool
     requires { ⌜ ItemField (now s) at ⌝ }
     ensures { λ r. ⌜ r ≡ circuit.keptOf (fieldItem (now (s .entry)) at) ⌝ }
 {
-    if s[at] == FIGURE {
-        s[at + 4] == 1
+    if s[at] == FIGURE_TAG {
+        s[at + KEEP_AT] == 1
     } else {
         false
     }
@@ -55,8 +62,8 @@ pub fn spread_of(s: &[u8], at: usize) -> Spread
     requires { ⌜ ItemField (now s) at ⌝ }
     ensures { λ r. ⌜ spreadMeaning r ≡ circuit.spreadOf (fieldItem (now (s .entry)) at) ⌝ }
 {
-    if s[at] == FIGURE {
-        match s[at + 5] {
+    if s[at] == FIGURE_TAG {
+        match s[at + SPREAD_AT] {
             0 => Spread::Defer,
             1 => Spread::Renew,
             _ => Spread::Forget,
@@ -71,19 +78,23 @@ pub fn parent_count(s: &[u8], at: usize) -> usize
     requires { ⌜ ItemField (now s) at ⌝ }
     ensures { λ r. ⌜ CountRead (fieldItem (now (s .entry)) at) r ⌝ }
 {
-    if s[at] == FIGURE { wide(s[at + 6]) } else { 0 }
+    if s[at] == FIGURE_TAG {
+        field::wide(s[at + PARENT_COUNT_AT])
+    } else {
+        0
+    }
 }
 
 pub fn parent(s: &[u8], at: usize, k: usize) -> usize
     requires { ⌜ ItemField (now s) at ⌝ ∗ ⌜ k < length (circuit.parentsOf (fieldItem (now s) at)) ⌝ }
     ensures { λ r. ⌜ r ≡ getD (circuit.parentsOf (fieldItem (now (s .entry)) at)) k 0 ⌝ }
 {
-    field::u16_at(s, at + 7 + 2 * k)
+    field::u16_at(s, at + PARENTS_AT + PARENT_WIDTH * k)
 }
 
 // An offset in four bytes, the low one first.
 fn put_offset(index: &mut [u8], at: usize, offset: usize)
-    requires { ⌜ at + 4 ≤ length (now index) ⌝ }
+    requires { ⌜ at + indexWidth ≤ length (now index) ⌝ }
     ensures { λ r. ⌜ now (index .exit) ≡ putOffset (now (index .entry)) at offset ⌝ }
 {
     index[at] = (offset % 256) as u8;
@@ -94,19 +105,19 @@ fn put_offset(index: &mut [u8], at: usize, offset: usize)
 
 // The index of the first n offsets.
 pub fn write_index(offsets: &[usize], n: usize, index: &mut [u8])
-    requires { ⌜ (n ≤ length (now offsets)) × (length (now index) ≡ 4 * n) ⌝ }
+    requires { ⌜ (n ≤ length (now offsets)) × (length (now index) ≡ indexWidth * n) ⌝ }
     ensures { λ r. ⌜ now (index .exit) ≡ offsetBytes (take n (now (offsets .entry))) ⌝ }
 {
     let mut written = 0;
     while written < n {
-        put_offset(index, 4 * written, offsets[written]);
+        put_offset(index, INDEX_WIDTH * written, offsets[written]);
         written += 1;
     }
 }
 
 // Whether the four bytes are those of an offset. They are compared as one number.
 fn is_offset(index: &[u8], at: usize, offset: usize) -> bool
-    requires { ⌜ at + 4 ≤ length (now index) ⌝ }
+    requires { ⌜ at + indexWidth ≤ length (now index) ⌝ }
     ensures { λ r. ⌜ r ≡ sameBytes (fourAt (now (index .entry)) at) (bytes32 offset) ⌝ }
 {
     let low = field::u16_at(index, at);
@@ -116,12 +127,12 @@ fn is_offset(index: &[u8], at: usize, offset: usize) -> bool
 
 // Whether the index is that of the first n offsets.
 pub fn index_matches(offsets: &[usize], n: usize, index: &[u8]) -> bool
-    requires { ⌜ (n ≤ length (now offsets)) × (length (now index) ≡ 4 * n) ⌝ }
+    requires { ⌜ (n ≤ length (now offsets)) × (length (now index) ≡ indexWidth * n) ⌝ }
     ensures { λ r. ⌜ r ≡ sameBytes (now (index .entry)) (offsetBytes (take n (now (offsets .entry)))) ⌝ }
 {
     let mut matched = 0;
     while matched < n {
-        if !is_offset(index, 4 * matched, offsets[matched]) {
+        if !is_offset(index, INDEX_WIDTH * matched, offsets[matched]) {
             return false;
         }
         matched += 1;

@@ -72,7 +72,7 @@ level-65 = gives-7
 
 -- more than 1,024 items, whatever they are
 pub too-many : (l : Layout) → 1024 < length (l .items) → readSheet (writeSheet l) ≡ refused 4 0
-unfolding writeSheet fieldOffset
+unfolding writeSheet fieldOffset itemLimit
 too-many l h =
     refused-exactly (writeSheet l) 4 0 .1
     (record {

@@ -10,16 +10,17 @@ use native.Mathlib.Decide.{decLe, decLt, ℕ-discrete}
 use lib.Dec.{eqb, ltb}
 use lib.ListN.{length, getD, take, drop}
 use lib.Seq.{getD-take, getD-drop}
-use Rattle.field.specs.Field.{cutAt, le16, lenAt}
+use Rattle.layout.specs.Opened.{levelsOf}
+use Rattle.field.specs.Field.{cutAt, le16, lenAt, headerLength}
 use Rattle.field.specs.declared.Cut.{Cut}
 use Rattle.field.specs.declared.Cut.the-variants.{Field, Short, Absent}
 use Rattle.field.proofs.Cutting.{Cutting, absent, no-header, no-content, whole, cutting, field-iff, content-length}
 use Rattle.circuit.specs.Calls.{Test, firstCause}
-use Rattle.layout.specs.Layout.{headTag, entryTag, figureTag, levelLimit, editionKnown, countAllowed}
+use Rattle.layout.specs.Layout.{headTag, entryTag, figureTag, levelLimit, editionKnown, countAllowed, lastTag, headLength}
 use Rattle.layout.specs.Read.{contentAt, editionIn, countIn, itemIn, Placed, itemLevel, lengthOrName, parentWrong, levelWrong, headTests, itemTests, lastTests, judge, Scan, going, stopped, goOn, headNext, scan, afterLast, scanEnd, scanLast, headContent, scanSheet, SheetRead, opens, refused, conclude, readSheet}
-use Rattle.layout.specs.Causes.{Place, first, item, last, after, fieldOffset, editionOf, itemCount, fieldNumber, InSheet, Before, offsetOf, tagOf, lengthOf, contentOf, levelsOf, itemLevelOf, NotWhole, RunsPastOrAbsent, WrongTagOrTrailing, WrongLengthOrName, WrongItemLength, WrongEditionOrCount, WrongRuleKeepSpreadOrCount, ParentNotBelow, LevelAbove, CauseAt, cause1, cause2, cause3, cause4, cause5, cause6, cause7, Sound, Faultless, FirstFault}
+use Rattle.layout.specs.Causes.{Place, first, item, last, after, fieldOffset, editionOf, itemCount, fieldNumber, InSheet, Before, offsetOf, tagOf, lengthOf, contentOf, levelsBefore, itemLevelOf, NotWhole, RunsPastOrAbsent, WrongTagOrTrailing, WrongLengthOrName, WrongItemLength, WrongEditionOrCount, WrongRuleKeepSpreadOrCount, ParentNotBelow, LevelAbove, CauseAt, cause1, cause2, cause3, cause4, cause5, cause6, cause7, Sound, Faultless, FirstFault}
 use Rattle.layout.proofs.Scan.{Extended, scan-extended, scan-length, scan-prefix, head-read, Faulted, scan-faulted, offsetFrom}
-use Rattle.layout.proofs.Exactly.{levels, level-after, levels-snoc, scan-none}
+use Rattle.layout.proofs.Exactly.{level-after, levels-snoc, scan-none}
 use Rattle.layout.proofs.Tests.{Tells, holds, fails, tells-if, tells-or, tells-not, tells-eq, tells-lt, refutes-tells, refutes-edition, tells-length, tells-wrong-figure, tells-parents}
 
 -- The lowest cause from a number on.
@@ -94,7 +95,7 @@ module _ (s : List ℕ) (p : Place) where
 
 -- The verdict on each place.
 
-not-whole : (s : List ℕ) (at : ℕ) → at + 3 + lenAt s at ≤ length s → ¬ NotWhole s at
+not-whole : (s : List ℕ) (at : ℕ) → at + headerLength + lenAt s at ≤ length s → ¬ NotWhole s at
 not-whole s at h (inl l) = omega arith
 not-whole s at h (inr (inl l)) = omega arith
 not-whole s at h (inr (inr l)) = omega arith
@@ -102,7 +103,7 @@ not-whole s at h (inr (inr l)) = omega arith
 -- a place where a field is expected: cause 1, else the tests of a whole field
 field-verdict : (s : List ℕ) (p : Place) (at : ℕ) (tests : ℕ → List ℕ → List Test)
     → (NotWhole s at → RunsPastOrAbsent s p) → (RunsPastOrAbsent s p → NotWhole s at)
-    → (at + 3 + lenAt s at ≤ length s → Lowest s p 2 (firstCause (tests (getD s at 0) (contentAt s (at + 3) (lenAt s at)))))
+    → (at + headerLength + lenAt s at ≤ length s → Lowest s p 2 (firstCause (tests (getD s at 0) (contentAt s (at + headerLength) (lenAt s at)))))
     → Lowest s p 1 (judge tests s (cutAt s at))
 field-verdict s p at tests f g t = go (cutAt s at) (cutting s at)
   where
@@ -116,9 +117,9 @@ field-verdict s p at tests f g t = go (cutAt s at) (cutting s at)
     go (Field tag start len next) (whole h) = skip s p 1 _ (λ c. not-whole s at h (g (row1 s p c))) (t h)
 
 -- what the content of a whole field has for a length
-whole-length : (s : List ℕ) (at : ℕ) → at + 3 + lenAt s at ≤ length s → length (contentAt s (at + 3) (lenAt s at)) ≡ lenAt s at
+whole-length : (s : List ℕ) (at : ℕ) → at + headerLength + lenAt s at ≤ length s → length (contentAt s (at + headerLength) (lenAt s at)) ≡ lenAt s at
 whole-length s at h =
-    content-length s at (getD s at 0) (at + 3) (lenAt s at) (at + 3 + lenAt s at)
+    content-length s at (getD s at 0) (at + headerLength) (lenAt s at) (at + headerLength + lenAt s at)
     (record { tag-is = refl; len-is = refl; start-is = refl; next-is = refl; next-in = h })
 
 -- the last field
@@ -126,12 +127,12 @@ last-verdict : (s : List ℕ) → Lowest s last 1 (judge lastTests s (cutAt s (o
 unfolding lastTests firstCause
 last-verdict s = field-verdict s last (offsetOf s last) lastTests (λ x. x) (λ x. x) tests
   where
-    tests : offsetOf s last + 3 + lenAt s (offsetOf s last) ≤ length s
+    tests : offsetOf s last + headerLength + lenAt s (offsetOf s last) ≤ length s
         → Lowest s last 2 (firstCause (lastTests (tagOf s last) (contentOf s last)))
     tests h =
         let t3 : Tells (WrongLengthOrName s last) (not (eqb (length (contentOf s last)) 0)) =
         rw (whole-length s (offsetOf s last) h) (tells-not (refutes-tells (tells-eq (lengthOf s last) 0))) in
-        next s last 2 _ _ (tells-if cause2 (row2 s last) (tells-not (refutes-tells (tells-eq (tagOf s last) 4)))) λ n2.
+        next s last 2 _ _ (tells-if cause2 (row2 s last) (tells-not (refutes-tells (tells-eq (tagOf s last) lastTag)))) λ n2.
         next s last 3 _ _ (tells-if cause3 (row3 s last) t3) λ n3.
         skip s last 4 0 (row4 s last)
         (skip s last 5 0 (row5 s last)
@@ -139,8 +140,8 @@ last-verdict s = field-verdict s last (offsetOf s last) lastTests (λ x. x) (λ 
         (skip s last 7 0 (row7 s last) (beyond s last))))
 
 -- the first field
-head-same : (s : List ℕ) (k : ℕ) → k < 4 → getD (headContent s) k 0 ≡ getD s (3 + k) 0
-head-same s k h = getD-take 4 (drop 3 s) k 0 h ∙ getD-drop 3 s k 0
+head-same : (s : List ℕ) (k : ℕ) → k < headLength → getD (headContent s) k 0 ≡ getD s (headerLength + k) 0
+head-same s k h = getD-take headLength (drop headerLength s) k 0 h ∙ getD-drop headerLength s k 0
 
 pub edition-same : (s : List ℕ) → editionIn (headContent s) ≡ editionOf s
 edition-same s = ap₂ le16 (head-same s 0 (omega arith)) (head-same s 1 (omega arith))
@@ -151,55 +152,55 @@ count-same s = ap₂ le16 (head-same s 2 (omega arith)) (head-same s 3 (omega ar
 abbrev headCounted : List ℕ → Bool
 headCounted content = editionKnown (editionIn content) && countAllowed (editionIn content) (countIn content)
 
-head-counted : (s : List ℕ) → ¬ (¬ (lenAt s 0 ≡ 4)) → Tells (WrongEditionOrCount s first) (not (headCounted (contentAt s 3 (lenAt s 0))))
-head-counted s n = go (ℕ-discrete (lenAt s 0) 4)
+head-counted : (s : List ℕ) → ¬ (¬ (lenAt s 0 ≡ headLength)) → Tells (WrongEditionOrCount s first) (not (headCounted (contentAt s headerLength (lenAt s 0))))
+head-counted s n = go (ℕ-discrete (lenAt s 0) headLength)
   where
-    go : Dec (lenAt s 0 ≡ 4) → Tells (WrongEditionOrCount s first) (not (headCounted (contentAt s 3 (lenAt s 0))))
-    go (yes e) = rw (ap (contentAt s 3) e, edition-same s, count-same s) (tells-not (refutes-edition (editionOf s) (itemCount s)))
+    go : Dec (lenAt s 0 ≡ headLength) → Tells (WrongEditionOrCount s first) (not (headCounted (contentAt s headerLength (lenAt s 0))))
+    go (yes e) = rw (ap (contentAt s headerLength) e, edition-same s, count-same s) (tells-not (refutes-edition (editionOf s) (itemCount s)))
     go (no e) = absurd (n e)
 
 first-verdict : (s : List ℕ) → Lowest s first 1 (judge headTests s (cutAt s 0))
 unfolding headTests firstCause fieldOffset
 first-verdict s = field-verdict s first 0 headTests (λ x. x) (λ x. x) tests
   where
-    tests : 0 + 3 + lenAt s 0 ≤ length s → Lowest s first 2 (firstCause (headTests (getD s 0 0) (contentAt s 3 (lenAt s 0))))
+    tests : 0 + headerLength + lenAt s 0 ≤ length s → Lowest s first 2 (firstCause (headTests (getD s 0 0) (contentAt s headerLength (lenAt s 0))))
     tests h =
-        let content : List ℕ = contentAt s 3 (lenAt s 0) in
-        let t3 : Tells (WrongLengthOrName s first) (not (eqb (length content) 4)) =
-        rw (whole-length s 0 h) (tells-not (refutes-tells (tells-eq (lenAt s 0) 4))) in
-        next s first 2 _ _ (tells-if cause2 (row2 s first) (tells-not (refutes-tells (tells-eq (getD s 0 0) 1)))) λ n2.
+        let content : List ℕ = contentAt s headerLength (lenAt s 0) in
+        let t3 : Tells (WrongLengthOrName s first) (not (eqb (length content) headLength)) =
+        rw (whole-length s 0 h) (tells-not (refutes-tells (tells-eq (lenAt s 0) headLength))) in
+        next s first 2 _ _ (tells-if cause2 (row2 s first) (tells-not (refutes-tells (tells-eq (getD s 0 0) headTag)))) λ n2.
         next s first 3 _ _ (tells-if cause3 (row3 s first) t3) λ n3.
         next s first 4 0 _ (tells-if cause4 (row4 s first) (head-counted s (λ x. n3 (cause3 x)))) λ n4.
         skip s first 5 0 (row5 s first)
         (skip s first 6 0 (row6 s first)
         (skip s first 7 0 (row7 s first) (beyond s first)))
 
-tells-neither : (tag : ℕ) → Tells ((¬ (tag ≡ 2)) × (¬ (tag ≡ 3))) (not (eqb tag entryTag || eqb tag figureTag))
+tells-neither : (tag : ℕ) → Tells ((¬ (tag ≡ entryTag)) × (¬ (tag ≡ figureTag))) (not (eqb tag entryTag || eqb tag figureTag))
 tells-neither tag =
-    tells-if (λ n. (λ e. n (inl e), λ e. n (inr e))) (λ n. ⊎-elim (n .0) (n .1)) (tells-not (refutes-tells (tells-or (tells-eq tag 2) (tells-eq tag 3))))
+    tells-if (λ n. (λ e. n (inl e), λ e. n (inr e))) (λ n. ⊎-elim (n .0) (n .1)) (tells-not (refutes-tells (tells-or (tells-eq tag entryTag) (tells-eq tag figureTag))))
 
-one-of-two : (tag : ℕ) → ¬ ((¬ (tag ≡ 2)) × (¬ (tag ≡ 3))) → (tag ≡ 2) ⊎ (tag ≡ 3)
-one-of-two tag n = go (ℕ-discrete tag 2) (ℕ-discrete tag 3)
+one-of-two : (tag : ℕ) → ¬ ((¬ (tag ≡ entryTag)) × (¬ (tag ≡ figureTag))) → (tag ≡ entryTag) ⊎ (tag ≡ figureTag)
+one-of-two tag n = go (ℕ-discrete tag entryTag) (ℕ-discrete tag figureTag)
   where
-    go : Dec (tag ≡ 2) → Dec (tag ≡ 3) → (tag ≡ 2) ⊎ (tag ≡ 3)
+    go : Dec (tag ≡ entryTag) → Dec (tag ≡ figureTag) → (tag ≡ entryTag) ⊎ (tag ≡ figureTag)
     go (yes e) d = inl e
     go (no e) (yes f) = inr f
     go (no e) (no f) = absurd (n (e, f))
 
-item-length : (s : List ℕ) (i : ℕ) → offsetOf s (item i) + 3 + lenAt s (offsetOf s (item i)) ≤ length s
-    → (tagOf s (item i) ≡ 2) ⊎ (tagOf s (item i) ≡ 3) → Tells (WrongLengthOrName s (item i)) (lengthOrName (tagOf s (item i)) (contentOf s (item i)))
+item-length : (s : List ℕ) (i : ℕ) → offsetOf s (item i) + headerLength + lenAt s (offsetOf s (item i)) ≤ length s
+    → (tagOf s (item i) ≡ entryTag) ⊎ (tagOf s (item i) ≡ figureTag) → Tells (WrongLengthOrName s (item i)) (lengthOrName (tagOf s (item i)) (contentOf s (item i)))
 item-length s i h t =
     subst (λ n. Tells (WrongItemLength (tagOf s (item i)) n (contentOf s (item i))) (lengthOrName (tagOf s (item i)) (contentOf s (item i))))
     (whole-length s (offsetOf s (item i)) h)
     (tells-length (tagOf s (item i)) (contentOf s (item i)) t)
 
 -- the field of item i, after the items read
-item-verdict : (s : List ℕ) (edition i : ℕ) (ps : List Placed) → length ps ≡ i → levels ps ≡ levelsOf s i
+item-verdict : (s : List ℕ) (edition i : ℕ) (ps : List Placed) → length ps ≡ i → levelsOf ps ≡ levelsBefore s i
     → Lowest s (item i) 1 (judge (itemTests edition ps) s (cutAt s (offsetOf s (item i))))
-unfolding itemTests firstCause levelLimit
+unfolding itemTests firstCause
 item-verdict s edition i ps n l = field-verdict s (item i) (offsetOf s (item i)) (itemTests edition ps) (λ x. x) (λ x. x) tests
   where
-    tests : offsetOf s (item i) + 3 + lenAt s (offsetOf s (item i)) ≤ length s
+    tests : offsetOf s (item i) + headerLength + lenAt s (offsetOf s (item i)) ≤ length s
         → Lowest s (item i) 2 (firstCause (itemTests edition ps (tagOf s (item i)) (contentOf s (item i))))
     tests h =
         let p : Place = item i in
@@ -207,7 +208,7 @@ item-verdict s edition i ps n l = field-verdict s (item i) (offsetOf s (item i))
         let content : List ℕ = contentOf s p in
         let e : itemLevelOf s i ≡ itemLevel ps (itemIn tag content) = rw (← l) (level-after ps (itemIn tag content)) in
         let t6 : Tells (ParentNotBelow s p) (parentWrong (length ps) (itemIn tag content)) = rw n (tells-parents i tag content) in
-        let t7 : Tells (LevelAbove s p) (levelWrong ps (itemIn tag content)) = rw e (tells-lt 64 (itemLevel ps (itemIn tag content))) in
+        let t7 : Tells (LevelAbove s p) (levelWrong ps (itemIn tag content)) = rw e (tells-lt levelLimit (itemLevel ps (itemIn tag content))) in
         next s p 2 _ _ (tells-if cause2 (row2 s p) (tells-neither tag)) λ n2.
         next s p 3 _ _ (tells-if cause3 (row3 s p) (item-length s i h (one-of-two tag (λ x. n2 (cause2 x))))) λ n3.
         skip s p 4 _ (row4 s p)
@@ -231,9 +232,9 @@ after-verdict s b e =
 
 record Standing (s : List ℕ) (i at : ℕ) (ps : List Placed) : Type 0 where
   offset-is : at ≡ fieldOffset s (suc i)
-  levels-are : levels ps ≡ levelsOf s i
+  levels-are : levelsOf ps ≡ levelsBefore s i
 
-next-offset : (s : List ℕ) (k : ℕ) → fieldOffset s (suc k) ≡ fieldOffset s k + 3 + lenAt s (fieldOffset s k)
+next-offset : (s : List ℕ) (k : ℕ) → fieldOffset s (suc k) ≡ fieldOffset s k + headerLength + lenAt s (fieldOffset s k)
 unfolding fieldOffset
 next-offset s k = refl
 
@@ -241,13 +242,13 @@ first-offset : (s : List ℕ) → fieldOffset s 0 ≡ 0
 unfolding fieldOffset
 first-offset s = refl
 
-levels-none : (s : List ℕ) → levels [] ≡ levelsOf s 0
-unfolding levels levelsOf
+levels-none : (s : List ℕ) → levelsOf [] ≡ levelsBefore s 0
+unfolding levelsBefore
 levels-none s = refl
 
-module _ (s : List ℕ) (edition : ℕ) (head : cutAt s 0 ≡ Field headTag 3 4 headNext) where
+module _ (s : List ℕ) (edition : ℕ) (head : cutAt s 0 ≡ Field headTag headerLength headLength headNext) where
   stands-one : (k at : ℕ) (ps : List Placed) (x : Extended s edition k at ps) → Standing s k (x .before) (x .earlier) → Standing s (suc k) at ps
-  unfolding levelsOf
+  unfolding levelsBefore
   stands-one k at ps x st =
       let r = x .read in
       let f = field-iff s (x .before) (r .tag) (r .start) (r .len) at .0 (r .whole) in
@@ -255,11 +256,11 @@ module _ (s : List ℕ) (edition : ℕ) (head : cutAt s 0 ≡ Field headTag 3 4 
       let b : x .before ≡ offsetOf s (item k) = o in
       let t : r .tag ≡ tagOf s (item k) = f .tag-is ∙ ap (λ n. getD s n 0) b in
       let l : r .len ≡ lengthOf s (item k) = f .len-is ∙ ap (lenAt s) b in
-      let st′ : r .start ≡ offsetOf s (item k) + 3 = f .start-is ∙ ap (λ n. n + 3) b in
+      let st′ : r .start ≡ offsetOf s (item k) + headerLength = f .start-is ∙ ap (λ n. n + headerLength) b in
       let i : x .it ≡ itemIn (tagOf s (item k)) (contentOf s (item k)) = r .item-is ∙ ap₂ itemIn t (ap₂ (contentAt s) st′ l) in
       record {
         offset-is = f .next-is ∙ ap₂ _+_ st′ l ∙ sym (next-offset s (suc k));
-        levels-are = ap levels (x .placed-is) ∙ levels-snoc (x .before) (x .earlier) (x .it) ∙ rw (st .levels-are, i);
+        levels-are = ap levelsOf (x .placed-is) ∙ levels-snoc (x .before) (x .earlier) (x .it) ∙ rw (st .levels-are, i);
       }
 
   stands : (k at : ℕ) (ps : List Placed) → scan s edition k ≡ going at ps → Standing s k at ps
@@ -267,7 +268,7 @@ module _ (s : List ℕ) (edition : ℕ) (head : cutAt s 0 ≡ Field headTag 3 4 
       let z = scan-none s edition in
       let a : headNext ≡ at = cc in
       let p : [] ≡ ps = cc in
-      let l = field-iff s 0 headTag 3 4 headNext .0 head .len-is in
+      let l = field-iff s 0 headTag headerLength headLength headNext .0 head .len-is in
       let n = next-offset s 0 in
       let m : lenAt s (fieldOffset s 0) ≡ lenAt s 0 = ap (lenAt s) (first-offset s) in
       record { offset-is = omega (arith, first-offset s); levels-are = rw (← p) (levels-none s) }
@@ -295,7 +296,7 @@ abbrev pub Finding : List ℕ → SheetRead → Type 0
 Finding s (opens edition ps) = Faultless s
 Finding s (refused k offset) = FirstFault s k offset
 
-module _ (s : List ℕ) (first-sound : Sound s first) (head : cutAt s 0 ≡ Field headTag 3 4 headNext) where
+module _ (s : List ℕ) (first-sound : Sound s first) (head : cutAt s 0 ≡ Field headTag headerLength headLength headNext) where
   abbrev ed : ℕ
   ed = editionIn (headContent s)
 
@@ -395,14 +396,14 @@ pub finding : (s : List ℕ) → Finding s (readSheet s)
 unfolding readSheet scanSheet
 finding s = go (judge headTests s (cutAt s 0)) refl
   where
-    at-last : Sound s first → cutAt s 0 ≡ Field headTag 3 4 headNext → (at : ℕ) (ps : List Placed)
+    at-last : Sound s first → cutAt s 0 ≡ Field headTag headerLength headLength headNext → (at : ℕ) (ps : List Placed)
         → scan s (editionIn (headContent s)) (countIn (headContent s)) ≡ going at ps
         → (v : ℕ) → judge lastTests s (cutAt s at) ≡ v
         → Finding s (conclude (editionIn (headContent s)) (goOn v at (scanEnd s (afterLast s (cutAt s at)) ps)))
     at-last f h at ps e zero q = end-finding s f h at ps e q
     at-last f h at ps e (suc v) q = last-finding s f h at ps e v q
 
-    items : Sound s first → cutAt s 0 ≡ Field headTag 3 4 headNext → (r : Scan) → scan s (editionIn (headContent s)) (countIn (headContent s)) ≡ r
+    items : Sound s first → cutAt s 0 ≡ Field headTag headerLength headLength headNext → (r : Scan) → scan s (editionIn (headContent s)) (countIn (headContent s)) ≡ r
         → Finding s (conclude (editionIn (headContent s)) (scanLast s r))
     items f h (stopped k o) e = item-finding s f h k o (scan-faulted s (editionIn (headContent s)) (countIn (headContent s)) k o e)
     items f h (going at ps) e = at-last f h at ps e (judge lastTests s (cutAt s at)) refl

@@ -11,10 +11,12 @@ use lib.Dec.{eqb, leb, ltb}
 use lib.ListN.{length, getD, take, drop, length-append, length-take, length-map, List·getD-map, List·getD-eq-default}
 use lib.Seq.{take-at, drop-append-add, take-append-seam, take-length, getD-take, getD-drop}
 use borrow.Author.Tests.{eqb-true, leb-true, ltb-false, le-ltb, le-leb, not-false}
-use Rattle.field.specs.Field.{cutAt, Bytes, fieldBytes}
+use Rattle.layout.specs.Opened.{levelsOf}
+use Rattle.field.specs.Bytes.{Bytes}
+use Rattle.field.specs.Field.{cutAt, fieldBytes, headerLength}
 use Rattle.field.specs.declared.Cut.the-variants.{Field}
 use Rattle.field.proofs.Cutting.{FieldAt, field-iff, cut-fieldBytes, cut-back-bytes, content-length, le16-of}
-use Rattle.layout.specs.Layout.{LayoutItem, entryField, figureField, Layout, headTag, figureTag, lastTag, editionKnown, countAllowed, levelLimit, keepAllowed, spreadAllowed, ruleAllowed, nameAllowed, all}
+use Rattle.layout.specs.Layout.{LayoutItem, entryField, figureField, Layout, headTag, figureTag, lastTag, editionKnown, countAllowed, levelLimit, keepAllowed, spreadAllowed, ruleAllowed, nameAllowed, all, headLength, parentsAt}
 use Rattle.layout.specs.Read.{contentAt, editionIn, countIn, ruleIn, keepIn, spreadIn, parentCountIn, parentsIn, nameIn, itemIn, Placed, placed, levelOf, itemLevel, lengthOrName, ruleWrong, parentWrong, levelWrong, going, placeItem, headNext, scan, headContent, opens, readSheet, layoutOf}
 use Rattle.layout.specs.Write.{bytes16, concat, itemBytes, writeSheet, levelAfter, itemWithin, itemsWithin, within}
 use Rattle.layout.specs.Places.{placesFrom, places, offsetWritten}
@@ -23,14 +25,10 @@ use Rattle.layout.proofs.Items.{tagOf, contentOf, itemBytes-field, item
 
 -- Levels by the items read and by the list of levels are the same.
 
-unfoldable pub levels : List Placed → List ℕ
-levels ps = map (λ p. p .level) ps
-
-level-same : (ps : List Placed) (p : ℕ) → getD (levels ps) p 0 ≡ levelOf ps p
-unfolding levels
+level-same : (ps : List Placed) (p : ℕ) → getD (levelsOf ps) p 0 ≡ levelOf ps p
 level-same ps p = List·getD-map (λ q. q .level) ps p (placed 0 (entryField []) 0)
 
-pub level-after : (ps : List Placed) (it : LayoutItem) → levelAfter (levels ps) it ≡ itemLevel ps it
+pub level-after : (ps : List Placed) (it : LayoutItem) → levelAfter (levelsOf ps) it ≡ itemLevel ps it
 level-after ps (entryField name) = refl
 level-after ps (figureField rule keep spread parents name) = simp level-same
 
@@ -43,11 +41,10 @@ and-four true true false d e = let z : _≡_ {A = ℕ} 0 1 = cc in absurd (omega
 and-four true false c d e = let z : _≡_ {A = ℕ} 0 1 = cc in absurd (omega arith)
 and-four false b c d e = let z : _≡_ {A = ℕ} 0 1 = cc in absurd (omega arith)
 
-levels-length : (ps : List Placed) → length (levels ps) ≡ length ps
-unfolding levels
+levels-length : (ps : List Placed) → length (levelsOf ps) ≡ length ps
 levels-length ps = length-map ps (λ p. p .level)
 
-within-passes : (edition : ℕ) (ps : List Placed) (it : LayoutItem) → itemWithin edition (levels ps) it ≡ true
+within-passes : (edition : ℕ) (ps : List Placed) (it : LayoutItem) → itemWithin edition (levelsOf ps) it ≡ true
     → Passes edition ps (tagOf it) (contentOf it)
 unfolding lengthOrName
 within-passes edition ps (entryField name) e =
@@ -63,10 +60,10 @@ within-passes edition ps (figureField rule keep spread parents name) e =
     let it : LayoutItem = figureField rule keep spread parents name in
     let i = item-back it in
     let f = and-four (nameAllowed name) (ruleAllowed rule (length parents) && keepAllowed keep && spreadAllowed edition spread)
-    (all (λ p. ltb p (length (levels ps))) parents) (leb (levelAfter (levels ps) it) levelLimit) e in
+    (all (λ p. ltb p (length (levelsOf ps))) parents) (leb (levelAfter (levelsOf ps) it) levelLimit) e in
     let q : nameIn (contentOf it) ≡ name = name-back rule keep spread (length parents) parents name refl in
-    let four = le-ltb (length (contentOf it)) 4 (omega arith) in
-    let l = leb-true (levelAfter (levels ps) it) levelLimit (f .3) in
+    let four = le-ltb (length (contentOf it)) parentsAt (omega arith) in
+    let l = leb-true (levelAfter (levelsOf ps) it) levelLimit (f .3) in
     record {
       tag-fits = refl;
       name-fits = rw (four, q, f .0);
@@ -79,21 +76,21 @@ figure-within : (edition : ℕ) (ps : List Placed) (rule keep spread : ℕ) (par
     → ruleWrong edition (figureField rule keep spread parents name) ≡ false
     → parentWrong (length ps) (figureField rule keep spread parents name) ≡ false
     → levelWrong ps (figureField rule keep spread parents name) ≡ false
-    → itemWithin edition (levels ps) (figureField rule keep spread parents name) ≡ true
+    → itemWithin edition (levelsOf ps) (figureField rule keep spread parents name) ≡ true
 figure-within edition ps rule keep spread parents name n r p l =
     let it : LayoutItem = figureField rule keep spread parents name in
-    let below : all (λ q. ltb q (length (levels ps))) parents ≡ true = rw (levels-length ps) (not-false _ p) in
-    let level = le-leb (levelAfter (levels ps) it) levelLimit (omega (arith, level-after ps it, ltb-false levelLimit (itemLevel ps it) l)) in
+    let below : all (λ q. ltb q (length (levelsOf ps))) parents ≡ true = rw (levels-length ps) (not-false _ p) in
+    let level = le-leb (levelAfter (levelsOf ps) it) levelLimit (omega (arith, level-after ps it, ltb-false levelLimit (itemLevel ps it) l)) in
     let three : Bool = ruleAllowed rule (length parents) && keepAllowed keep && spreadAllowed edition spread in
     let r′ : three ≡ true = not-false three r in
     rw (n, r′, below, level)
 
 passes-within : (edition : ℕ) (ps : List Placed) (tag : ℕ) (content : List ℕ) → Passes edition ps tag content
-    → itemWithin edition (levels ps) (itemIn tag content) ≡ true
+    → itemWithin edition (levelsOf ps) (itemIn tag content) ≡ true
 unfolding itemIn lengthOrName
 passes-within edition ps tag content p = go (eqb tag figureTag) refl
   where
-    go : (f : Bool) → eqb tag figureTag ≡ f → itemWithin edition (levels ps) (itemIn tag content) ≡ true
+    go : (f : Bool) → eqb tag figureTag ≡ f → itemWithin edition (levelsOf ps) (itemIn tag content) ≡ true
     go true q =
         let z : tag ≡ figureTag = eqb-true tag figureTag q in
         let n : lengthOrName figureTag content ≡ false = rw z at (p .name-fits) in
@@ -108,44 +105,43 @@ passes-within edition ps tag content p = go (eqb tag figureTag) refl
 -- What was written is read.
 
 -- the content of a field that stands between two parts
-content-between : (pre content post : List ℕ) (tag : ℕ) → contentAt (pre ++ (fieldBytes tag content ++ post)) (length pre + 3) (length content) ≡ content
+content-between : (pre content post : List ℕ) (tag : ℕ) → contentAt (pre ++ (fieldBytes tag content ++ post)) (length pre + headerLength) (length content) ≡ content
 content-between pre content post tag =
-    ap (take (length content)) (drop-append-add pre (fieldBytes tag content ++ post) 3) ∙ take-append-seam content post
+    ap (take (length content)) (drop-append-add pre (fieldBytes tag content ++ post) headerLength) ∙ take-append-seam content post
 
 -- one item more
 scan-one : (s pre post : List ℕ) (edition k : ℕ) (ps : List Placed) (it : LayoutItem) → s ≡ pre ++ (itemBytes it ++ post)
-    → scan s edition k ≡ going (length pre) ps → itemWithin edition (levels ps) it ≡ true
+    → scan s edition k ≡ going (length pre) ps → itemWithin edition (levelsOf ps) it ≡ true
     → scan s edition (suc k) ≡ going (length pre + length (itemBytes it)) (placeItem (length pre) ps it)
 unfolding scan
 scan-one s pre post edition k ps it es e w =
     let tag : ℕ = tagOf it in
     let content : List ℕ = contentOf it in
     let es′ : s ≡ pre ++ (fieldBytes tag content ++ post) = es ∙ ap (λ b. pre ++ (b ++ post)) (itemBytes-field it) in
-    let n : length (itemBytes it) ≡ 3 + length content = omega (arith, ap length (itemBytes-field it)) in
-    let c : cutAt s (length pre) ≡ Field tag (length pre + 3) (length content) (length pre + 3 + length content) =
+    let n : length (itemBytes it) ≡ headerLength + length content = omega (arith, ap length (itemBytes-field it)) in
+    let c : cutAt s (length pre) ≡ Field tag (length pre + headerLength) (length content) (length pre + headerLength + length content) =
     ap (λ t. cutAt t (length pre)) es′ ∙ cut-fieldBytes pre content post tag in
-    let d : contentAt s (length pre + 3) (length content) ≡ content =
-    ap (λ t. contentAt t (length pre + 3) (length content)) es′ ∙ content-between pre content post tag in
+    let d : contentAt s (length pre + headerLength) (length content) ≡ content =
+    ap (λ t. contentAt t (length pre + headerLength) (length content)) es′ ∙ content-between pre content post tag in
     let f = passes-back edition ps tag content (within-passes edition ps it w) in
-    let m : length pre + 3 + length content ≡ length pre + length (itemBytes it) = omega arith in
+    let m : length pre + headerLength + length content ≡ length pre + length (itemBytes it) = omega arith in
     rw (e, c, d, f, item-back it, m)
 
-pub levels-snoc : (at : ℕ) (ps : List Placed) (it : LayoutItem) → levels (placeItem at ps it) ≡ levels ps ++ (levelAfter (levels ps) it ∷ [])
-unfolding levels
+pub levels-snoc : (at : ℕ) (ps : List Placed) (it : LayoutItem) → levelsOf (placeItem at ps it) ≡ levelsOf ps ++ (levelAfter (levelsOf ps) it ∷ [])
 levels-snoc at ps it =
-    map-append (λ p. p .level) ps (placed at it (itemLevel ps it) ∷ []) ∙ ap (λ v. levels ps ++ (v ∷ [])) (sym (level-after ps it))
+    map-append (λ p. p .level) ps (placed at it (itemLevel ps it) ∷ []) ∙ ap (λ v. levelsOf ps ++ (v ∷ [])) (sym (level-after ps it))
 
 -- items more
 scan-more : (s pre post : List ℕ) (edition k : ℕ) (ps : List Placed) (its : List LayoutItem) → s ≡ pre ++ (concat (map itemBytes its) ++ post)
-    → scan s edition k ≡ going (length pre) ps → itemsWithin edition (levels ps) its ≡ true
-    → scan s edition (k + length its) ≡ going (length pre + length (concat (map itemBytes its))) (ps ++ placesFrom (length pre) (levels ps) its)
+    → scan s edition k ≡ going (length pre) ps → itemsWithin edition (levelsOf ps) its ≡ true
+    → scan s edition (k + length its) ≡ going (length pre + length (concat (map itemBytes its))) (ps ++ placesFrom (length pre) (levelsOf ps) its)
 unfolding concat itemsWithin placesFrom
 scan-more s pre post edition k ps [] es e w = rw (add-zero k, add-zero (length pre), append-nil ps) e
 scan-more s pre post edition k ps (it ∷ its) es e w =
     let bytes : List ℕ = itemBytes it in
     let rest : List ℕ = concat (map itemBytes its) in
-    let w₁ = and-left (itemWithin edition (levels ps) it) _ w in
-    let w₂ = and-right (itemWithin edition (levels ps) it) _ w in
+    let w₁ = and-left (itemWithin edition (levelsOf ps) it) _ w in
+    let w₂ = and-right (itemWithin edition (levelsOf ps) it) _ w in
     let ls = levels-snoc (length pre) ps it in
     let here : s ≡ pre ++ (bytes ++ (rest ++ post)) = es ∙ ap (λ r. pre ++ r) (append-assoc bytes rest post) in
     let one = scan-one s pre (rest ++ post) edition k ps it here e w₁ in
@@ -154,9 +150,9 @@ scan-more s pre post edition k ps (it ∷ its) es e w =
     let ih = scan-more s (pre ++ bytes) post edition (suc k) (placeItem (length pre) ps it) its there (rw n one) (rw ls w₂) in
     let k′ : k + suc (length its) ≡ suc k + length its = omega arith in
     let l : length pre + length (bytes ++ rest) ≡ length (pre ++ bytes) + length rest = omega (arith, length-append bytes rest) in
-    let level : itemLevel ps it ≡ levelAfter (levels ps) it = sym (level-after ps it) in
-    let more = placesFrom (length pre + length bytes) (levels ps ++ (levelAfter (levels ps) it ∷ [])) its in
-    let joined : placeItem (length pre) ps it ++ more ≡ ps ++ (placed (length pre) it (levelAfter (levels ps) it) ∷ more) =
+    let level : itemLevel ps it ≡ levelAfter (levelsOf ps) it = sym (level-after ps it) in
+    let more = placesFrom (length pre + length bytes) (levelsOf ps ++ (levelAfter (levelsOf ps) it ∷ [])) its in
+    let joined : placeItem (length pre) ps it ++ more ≡ ps ++ (placed (length pre) it (levelAfter (levelsOf ps) it) ∷ more) =
     append-assoc ps (placed (length pre) it (itemLevel ps it) ∷ []) more ∙ ap (λ v. ps ++ (placed (length pre) it v ∷ more)) level in
     rw (k′, l, ← joined, ← ls, ← n) ih
 
@@ -177,7 +173,7 @@ within-parts l w =
 
 -- What the writer writes opens, to its items at their places.
 pub written-opens : (l : Layout) → within l ≡ true → readSheet (writeSheet l) ≡ opens (l .edition) (places l)
-unfolding writeSheet levels
+unfolding writeSheet
 written-opens l w =
     let parts = within-parts l w in
     let n : ℕ = length (l .items) in
@@ -189,12 +185,12 @@ written-opens l w =
     let k : countIn (headContent s) ≡ n = le16-of n in
     let c = scan-more s head last (l .edition) 0 [] (l .items) split (scan-none s (l .edition)) (parts .2) in
     let z : 0 + n ≡ n = zero-add n in
-    let m : length (head ++ bytes) ≡ 7 + length bytes = length-append head bytes in
+    let m : length (head ++ bytes) ≡ headNext + length bytes = length-append head bytes in
     let d = cut-fieldBytes (head ++ bytes) [] [] lastTag in
-    let e : length (head ++ bytes) + 3 + 0 ≡ length s = omega (arith, length-append (head ++ bytes) last) in
+    let e : length (head ++ bytes) + headerLength + 0 ≡ length s = omega (arith, length-append (head ++ bytes) last) in
     opens-back s (l .edition) (places l)
     (record {
-      at = 7 + length bytes;
+      at = headNext + length bytes;
       head = cut-fieldBytes [] (bytes16 (l .edition) ++ bytes16 n) (bytes ++ last) headTag;
       edition-is = le16-of (l .edition);
       edition-fits = parts .0;
@@ -257,7 +253,7 @@ items ps = map (λ p. p .item) ps
 record Passed (s : List ℕ) (edition at : ℕ) (ps : List Placed) : Type 0 where
   written : take at s ≡ take headNext s ++ concat (map itemBytes (items ps))
   fits : itemsWithin edition [] (items ps) ≡ true
-  levels-are : levels ps ≡ runLevels [] (items ps)
+  levels-are : levelsOf ps ≡ runLevels [] (items ps)
 
 Bytes-content : (s : List ℕ) (start len : ℕ) → Bytes s → Bytes (contentAt s start len)
 Bytes-content s start len b i = go (decLt i len)
@@ -307,7 +303,7 @@ one-passed s edition at next ps it b h r =
     let fp = field-passed s at (r .tag) (r .start) (r .len) next b f in
     let w = read-written s edition at next ps it b r in
     let all : List ℕ = concat (map itemBytes (items ps)) in
-    let fit : itemWithin edition (levels ps) it ≡ true = rw (r .item-is) (passes-within edition ps (r .tag) content p) in
+    let fit : itemWithin edition (levelsOf ps) it ≡ true = rw (r .item-is) (passes-within edition ps (r .tag) content p) in
     let ls = h .levels-are in
     record {
       written = rw (items-snoc at ps it, bytes-snoc (items ps) it) (fp ∙ ap₂ _++_ (h .written) (sym w) ∙ append-assoc (take headNext s) all (itemBytes it));
@@ -316,7 +312,7 @@ one-passed s edition at next ps it b h r =
     }
 
 none-passed : (s : List ℕ) (edition : ℕ) → Passed s edition headNext []
-unfolding items levels runLevels itemsWithin concat
+unfolding items runLevels itemsWithin concat
 none-passed s edition = record { written = sym (append-nil (take headNext s)); fits = refl; levels-are = refl }
 
 scan-passed : (s : List ℕ) (edition : ℕ) → Bytes s → (k at : ℕ) (ps : List Placed) → scan s edition k ≡ going at ps → Passed s edition at ps
@@ -339,16 +335,16 @@ four-long (a ∷ b ∷ c ∷ d ∷ []) h = refl
 four-long (a ∷ b ∷ c ∷ d ∷ x ∷ xs) h = absurd (omega arith)
 
 -- the first field is that of its edition and item count
-head-written : (s : List ℕ) → Bytes s → cutAt s 0 ≡ Field headTag 3 4 headNext
+head-written : (s : List ℕ) → Bytes s → cutAt s 0 ≡ Field headTag headerLength headLength headNext
     → take headNext s ≡ fieldBytes headTag (bytes16 (editionIn (headContent s)) ++ bytes16 (countIn (headContent s)))
 head-written s b e =
-    let f = field-iff s 0 headTag 3 4 headNext .0 e in
+    let f = field-iff s 0 headTag headerLength headLength headNext .0 e in
     let c : List ℕ = headContent s in
-    let four = four-long c (content-length s 0 headTag 3 4 headNext f) in
-    let bc = Bytes-content s 3 4 b in
+    let four = four-long c (content-length s 0 headTag headerLength headLength headNext f) in
+    let bc = Bytes-content s headerLength headLength b in
     let ed : bytes16 (editionIn c) ≡ getD c 0 0 ∷ getD c 1 0 ∷ [] = pair-forth (getD c 0 0) (getD c 1 0) (bc 0) in
     let n : bytes16 (countIn c) ≡ getD c 2 0 ∷ getD c 3 0 ∷ [] = pair-forth (getD c 2 0) (getD c 3 0) (bc 2) in
-    field-passed s 0 headTag 3 4 headNext b f ∙ ap (fieldBytes headTag) (four ∙ ap₂ _++_ (sym ed) (sym n))
+    field-passed s 0 headTag headerLength headLength headNext b f ∙ ap (fieldBytes headTag) (four ∙ ap₂ _++_ (sym ed) (sym n))
 
 -- and it is all: a sheet that opens is what the writer makes of its layout, which is within the limits
 pub opened-written : (s : List ℕ) (edition : ℕ) (ps : List Placed) → Bytes s → readSheet s ≡ opens edition ps
@@ -362,8 +358,8 @@ opened-written s edition ps b e =
     let n : length its ≡ k = length-map ps (λ q. q .item) ∙ scan-length s edition k (o .at) ps (o .scanned) in
     let head = head-written s b (o .head) in
     let head′ : take headNext s ≡ fieldBytes headTag (bytes16 edition ++ bytes16 (length its)) = rw (n, ← o .edition-is) head in
-    let f = field-iff s (o .at) lastTag (o .at + 3) 0 (length s) .0 (o .last) in
-    let end : take (length s) s ≡ take (o .at) s ++ fieldBytes lastTag [] = field-passed s (o .at) lastTag (o .at + 3) 0 (length s) b f in
+    let f = field-iff s (o .at) lastTag (o .at + headerLength) 0 (length s) .0 (o .last) in
+    let end : take (length s) s ≡ take (o .at) s ++ fieldBytes lastTag [] = field-passed s (o .at) lastTag (o .at + headerLength) 0 (length s) b f in
     let fits = and-both (editionKnown edition && countAllowed edition (length its)) (itemsWithin edition [] its)
     (and-both (editionKnown edition) (countAllowed edition (length its)) (o .edition-fits) (rw n (o .count-fits)))
     (p .fits) in
@@ -376,13 +372,6 @@ opens-exactly s b = (
   λ o. (layoutOf (o .0) (o .1), opened-written s (o .0) (o .1) b (o .2) .0, opened-written s (o .0) (o .1) b (o .2) .1),
   λ w. (w .0 .edition, places (w .0), ap readSheet (w .2) ∙ written-opens (w .0) (w .1)),
 )
-
--- what it opens to is that layout's items, at their places
-pub opened-places : (s : List ℕ) (edition : ℕ) (ps : List Placed) → Bytes s → readSheet s ≡ opens edition ps → ps ≡ places (layoutOf edition ps)
-opened-places s edition ps b e =
-    let w = opened-written s edition ps b e in
-    let q : readSheet s ≡ opens edition (places (layoutOf edition ps)) = ap readSheet (w .1) ∙ written-opens (layoutOf edition ps) (w .0) in
-    cc
 
 -- There is only one layout of a written form.
 pub layout-unique : (l m : Layout) → within l ≡ true → within m ≡ true → writeSheet l ≡ writeSheet m → l ≡ m

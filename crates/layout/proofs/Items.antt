@@ -9,9 +9,10 @@ use lib.Dec.{eqb, leb, ltb}
 use lib.ListN.{length, getD, take, drop, length-append, length-drop, take-append-drop}
 use lib.Seq.{take-suc, drop-cons, drop-drop, drop-at, take-all, getD-append-add, getD-drop, drop-append-add}
 use borrow.Author.Tests.{eqb-true, leb-true, ltb-false, not-false}
-use Rattle.field.specs.Field.{le16, Bytes, fieldBytes}
+use Rattle.field.specs.Bytes.{Bytes}
+use Rattle.field.specs.Field.{le16, fieldBytes}
 use Rattle.field.proofs.Cutting.{le16-of, le16-low, le16-high}
-use Rattle.layout.specs.Layout.{LayoutItem, entryField, figureField, entryTag, figureTag, nameAllowed, nameLimit, all}
+use Rattle.layout.specs.Layout.{LayoutItem, entryField, figureField, entryTag, figureTag, nameAllowed, nameLimit, all, parentsAt, parentWidth, parentAt}
 use Rattle.layout.specs.Read.{ruleIn, keepIn, spreadIn, parentCountIn, parentIn, parentsIn, nameIn, itemIn, lengthOrName}
 use Rattle.layout.specs.Write.{bytes16, concat, itemBytes}
 use Rattle.layout.proofs.Scan.{map-append, and-left, and-right}
@@ -42,25 +43,25 @@ unfolding concat
 concat-one [] = refl
 concat-one (x ∷ xs) = ap (λ l. x ∷ l) (concat-one xs)
 
-pub pairs-length : (ps : List ℕ) → length (concat (map bytes16 ps)) ≡ 2 * length ps
+pub pairs-length : (ps : List ℕ) → length (concat (map bytes16 ps)) ≡ parentWidth * length ps
 unfolding concat
 pairs-length [] = refl
 pairs-length (p ∷ ps) = omega (arith, pairs-length ps)
 
-pairs-low : (ps name : List ℕ) (k : ℕ) → k < length ps → getD (concat (map bytes16 ps) ++ name) (2 * k) 0 ≡ getD ps k 0 % 256
+pairs-low : (ps name : List ℕ) (k : ℕ) → k < length ps → getD (concat (map bytes16 ps) ++ name) (parentWidth * k) 0 ≡ getD ps k 0 % 256
 unfolding concat
 pairs-low [] name k h = absurd (omega arith)
 pairs-low (p ∷ ps) name zero h = refl
 pairs-low (p ∷ ps) name (suc k) h =
-    let n : 2 * suc k ≡ suc (suc (2 * k)) = omega arith in
+    let n : parentWidth * suc k ≡ suc (suc (parentWidth * k)) = omega arith in
     rw n (pairs-low ps name k (omega arith))
 
-pairs-high : (ps name : List ℕ) (k : ℕ) → k < length ps → getD (concat (map bytes16 ps) ++ name) (2 * k + 1) 0 ≡ getD ps k 0 / 256
+pairs-high : (ps name : List ℕ) (k : ℕ) → k < length ps → getD (concat (map bytes16 ps) ++ name) (parentWidth * k + 1) 0 ≡ getD ps k 0 / 256
 unfolding concat
 pairs-high [] name k h = absurd (omega arith)
 pairs-high (p ∷ ps) name zero h = refl
 pairs-high (p ∷ ps) name (suc k) h =
-    let n : 2 * suc k + 1 ≡ suc (suc (2 * k + 1)) = omega arith in
+    let n : parentWidth * suc k + 1 ≡ suc (suc (parentWidth * k + 1)) = omega arith in
     rw n (pairs-high ps name k (omega arith))
 
 -- Read back what was written.
@@ -72,11 +73,11 @@ module _ (a b c d : ℕ) (parents name : List ℕ) where
   parent-back : (k : ℕ) → k < length parents → parentIn written k ≡ getD parents k 0
   parent-back k h =
       let rest : List ℕ = concat (map bytes16 parents) ++ name in
-      let l = getD-append-add (a ∷ b ∷ c ∷ d ∷ []) rest (2 * k) 0 in
-      let r = getD-append-add (a ∷ b ∷ c ∷ d ∷ []) rest (2 * k + 1) 0 in
-      let n : 4 + 2 * k + 1 ≡ 4 + (2 * k + 1) = omega arith in
-      let l′ : getD written (4 + 2 * k) 0 ≡ getD parents k 0 % 256 = l ∙ pairs-low parents name k h in
-      let r′ : getD written (4 + 2 * k + 1) 0 ≡ getD parents k 0 / 256 = ap (λ m. getD written m 0) n ∙ r ∙ pairs-high parents name k h in
+      let l = getD-append-add (a ∷ b ∷ c ∷ d ∷ []) rest (parentWidth * k) 0 in
+      let r = getD-append-add (a ∷ b ∷ c ∷ d ∷ []) rest (parentWidth * k + 1) 0 in
+      let n : parentAt k + 1 ≡ parentsAt + (parentWidth * k + 1) = omega arith in
+      let l′ : getD written (parentAt k) 0 ≡ getD parents k 0 % 256 = l ∙ pairs-low parents name k h in
+      let r′ : getD written (parentAt k + 1) 0 ≡ getD parents k 0 / 256 = ap (λ m. getD written m 0) n ∙ r ∙ pairs-high parents name k h in
       ap₂ le16 l′ r′ ∙ le16-of (getD parents k 0)
 
   parents-back : (n : ℕ) → n ≤ length parents → parentsIn written n ≡ take n parents
@@ -85,10 +86,10 @@ module _ (a b c d : ℕ) (parents name : List ℕ) where
   parents-back (suc n) h =
       rw (take-suc parents n 0 (omega arith), ← parents-back n (omega arith), ← parent-back n h)
 
-  pub name-back : d ≡ length parents → drop (4 + 2 * d) written ≡ name
+  pub name-back : d ≡ length parents → drop (parentAt d) written ≡ name
   name-back e =
-      drop-append-add (a ∷ b ∷ c ∷ d ∷ []) (concat (map bytes16 parents) ++ name) (2 * d)
-      ∙ drop-at (concat (map bytes16 parents)) name (2 * d) (omega (arith, pairs-length parents))
+      drop-append-add (a ∷ b ∷ c ∷ d ∷ []) (concat (map bytes16 parents) ++ name) (parentWidth * d)
+      ∙ drop-at (concat (map bytes16 parents)) name (parentWidth * d) (omega (arith, pairs-length parents))
 
 pub item-back : (it : LayoutItem) → itemIn (tagOf it) (contentOf it) ≡ it
 unfolding itemIn
@@ -108,20 +109,20 @@ take-two l n h =
     let one : n + 1 ≡ suc n = omega arith in
     rw (take-suc l (suc n) 0 (omega arith), take-suc l n 0 (omega arith), one) (append-assoc (take n l) (getD l n 0 ∷ []) (getD l (suc n) 0 ∷ []))
 
-parents-forth : (content : List ℕ) → Bytes content → (n : ℕ) → 4 + 2 * n ≤ length content
-    → concat (map bytes16 (parentsIn content n)) ≡ take (2 * n) (drop 4 content)
+parents-forth : (content : List ℕ) → Bytes content → (n : ℕ) → parentAt n ≤ length content
+    → concat (map bytes16 (parentsIn content n)) ≡ take (parentWidth * n) (drop parentsAt content)
 unfolding parentsIn concat
 parents-forth content b zero h = refl
 parents-forth content b (suc n) h =
     let p : ℕ = parentIn content n in
     let ih = parents-forth content b n (omega arith) in
-    let two : 2 * suc n ≡ suc (suc (2 * n)) = omega arith in
-    let low = getD-drop 4 content (2 * n) 0 in
-    let high = getD-drop 4 content (2 * n + 1) 0 in
-    let next : 4 + (2 * n + 1) ≡ 4 + 2 * n + 1 = omega arith in
-    let high′ : getD (drop 4 content) (2 * n + 1) 0 ≡ getD content (4 + 2 * n + 1) 0 = high ∙ ap (λ m. getD content m 0) next in
-    let q : bytes16 p ≡ getD content (4 + 2 * n) 0 ∷ getD content (4 + 2 * n + 1) 0 ∷ [] = pair-forth _ _ (b (4 + 2 * n)) in
-    let both = take-two (drop 4 content) (2 * n) (omega (arith, length-drop 4 content)) in
+    let two : parentWidth * suc n ≡ suc (suc (parentWidth * n)) = omega arith in
+    let low = getD-drop parentsAt content (parentWidth * n) 0 in
+    let high = getD-drop parentsAt content (parentWidth * n + 1) 0 in
+    let next : parentsAt + (parentWidth * n + 1) ≡ parentAt n + 1 = omega arith in
+    let high′ : getD (drop parentsAt content) (parentWidth * n + 1) 0 ≡ getD content (parentAt n + 1) 0 = high ∙ ap (λ m. getD content m 0) next in
+    let q : bytes16 p ≡ getD content (parentAt n) 0 ∷ getD content (parentAt n + 1) 0 ∷ [] = pair-forth _ _ (b (parentAt n)) in
+    let both = take-two (drop parentsAt content) (parentWidth * n) (omega (arith, length-drop parentsAt content)) in
     let left : concat (map bytes16 (parentsIn content n ++ (p ∷ []))) ≡ concat (map bytes16 (parentsIn content n)) ++ bytes16 p =
     ap concat (map-append bytes16 (parentsIn content n) (p ∷ [])) ∙ concat-append (map bytes16 (parentsIn content n)) (bytes16 p ∷ []) in
     left ∙ rw (two, both, ih, q, low, high′)
@@ -141,11 +142,11 @@ name-length name e =
 -- a figure's content whose length and name are right
 pub record FigureParts (content : List ℕ) : Type 0 where
   pub name-fits : nameAllowed (nameIn content) ≡ true
-  pub length-is : 4 + 2 * parentCountIn content + length (nameIn content) ≡ length content
+  pub length-is : parentAt (parentCountIn content) + length (nameIn content) ≡ length content
   pub content-is : Bytes content → content ≡ ruleIn content ∷ keepIn content ∷ spreadIn content ∷ parentCountIn content
       ∷ concat (map bytes16 (parentsIn content (parentCountIn content))) ++ nameIn content
 
-head-drop : (l : List ℕ) → 4 ≤ length l → l ≡ getD l 0 0 ∷ getD l 1 0 ∷ getD l 2 0 ∷ getD l 3 0 ∷ drop 4 l
+head-drop : (l : List ℕ) → parentsAt ≤ length l → l ≡ getD l 0 0 ∷ getD l 1 0 ∷ getD l 2 0 ∷ getD l 3 0 ∷ drop parentsAt l
 head-drop l h = rw (← drop-cons l 3 0 (omega arith), ← drop-cons l 2 0 (omega arith), ← drop-cons l 1 0 (omega arith), ← drop-cons l 0 0 (omega arith))
 
 pub or-left : (a b : Bool) → (a || b) ≡ false → a ≡ false
@@ -163,14 +164,14 @@ or-true false b e f = sym f ∙ e
 pub figure-parts : (content : List ℕ) → lengthOrName figureTag content ≡ false → FigureParts content
 unfolding lengthOrName
 figure-parts content e =
-    let four : 4 ≤ length content = omega (arith, ltb-false (length content) 4 (or-left (ltb (length content) 4) _ e)) in
-    let fits : nameAllowed (nameIn content) ≡ true = not-false _ (or-right (ltb (length content) 4) _ e) in
+    let four : parentsAt ≤ length content = omega (arith, ltb-false (length content) parentsAt (or-left (ltb (length content) parentsAt) _ e)) in
+    let fits : nameAllowed (nameIn content) ≡ true = not-false _ (or-right (ltb (length content) parentsAt) _ e) in
     let p : ℕ = parentCountIn content in
     let one = name-length (nameIn content) fits .0 in
-    let l : 4 + 2 * p + length (nameIn content) ≡ length content = omega (arith, length-drop (4 + 2 * p) content) in
-    let cut = take-append-drop (2 * p) (drop 4 content) in
-    let dd = drop-drop (2 * p) 4 content in
-    let split : take (2 * p) (drop 4 content) ++ nameIn content ≡ drop 4 content = rw (← dd) cut in
+    let l : parentAt p + length (nameIn content) ≡ length content = omega (arith, length-drop (parentAt p) content) in
+    let cut = take-append-drop (parentWidth * p) (drop parentsAt content) in
+    let dd = drop-drop (parentWidth * p) parentsAt content in
+    let split : take (parentWidth * p) (drop parentsAt content) ++ nameIn content ≡ drop parentsAt content = rw (← dd) cut in
     record {
       name-fits = fits;
       length-is = l;

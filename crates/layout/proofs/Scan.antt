@@ -13,15 +13,15 @@ use lib.Dec.{eqb, leb, ltb}
 use lib.ListN.{length, getD, take, length-append, length-map, List·getD-map, List·getD-eq-default}
 use lib.Seq.{length-take-le, take-append-le, take-all, getD-at, getD-take}
 use borrow.Author.Tests.{eqb-true, leb-true, ltb-true, ltb-false, not-false, eq-eqb, le-ltb}
-use Rattle.field.specs.Field.{cutAt}
+use Rattle.field.specs.Field.{cutAt, headerLength}
 use Rattle.field.specs.declared.Cut.{Cut}
 use Rattle.field.specs.declared.Cut.the-variants.{Field, Short, Absent}
 use Rattle.field.proofs.Cutting.{field-iff, content-length}
 use Rattle.circuit.specs.Calls.{Test, test, firstCause}
 use Rattle.circuit.specs.Circuit.{Listed}
 use Rattle.circuit.specs.Rules.{Operation, operationOf}
-use Rattle.circuit.specs.Sheet.{figure, itemAt, parentsOf, Ordered}
-use Rattle.layout.specs.Layout.{LayoutItem, entryField, figureField, headTag, entryTag, figureTag, lastTag, editionKnown, countAllowed, levelLimit, keepAllowed, spreadAllowed, ruleAllowed, all, itemLimit, machineItem, machineSheet, spreadMeant, isSome}
+use Rattle.circuit.specs.Sheet.{itemAt, parentsOf, Ordered}
+use Rattle.layout.specs.Layout.{LayoutItem, entryField, figureField, headTag, entryTag, figureTag, lastTag, editionKnown, countAllowed, levelLimit, ruleAllowed, all, itemLimit, machineItem, machineSheet, isSome, headLength, mostItems}
 use Rattle.layout.specs.Read.{contentAt, editionIn, countIn, itemIn, Placed, placed, itemLevel, lengthOrName, ruleWrong, parentWrong, levelWrong, headTests, itemTests, lastTests, judge, Scan, going, stopped, placeItem, placeField, goOn, scanItem, headNext, scan, afterLast, scanEnd, scanLast, headContent, scanSheet, opens, conclude, readSheet, layoutOf}
 
 -- Lists of tests.
@@ -93,13 +93,6 @@ module _ (s : List ℕ) (edition : ℕ) where
       let x = scan-extended k at ps e in
       let n = scan-length k (x .before) (x .earlier) (x .scanned) in
       rw (x .placed-is) (omega (arith, length-append (x .earlier) (placed (x .before) (x .it) (itemLevel (x .earlier) (x .it)) ∷ [])))
-
-  pub scan-within : (k at : ℕ) (ps : List Placed) → headNext ≤ length s → scan s edition k ≡ going at ps → at ≤ length s
-  unfolding scan
-  scan-within zero at ps h e = let n : headNext ≡ at = cc in omega arith
-  scan-within (suc k) at ps h e =
-      let r = scan-extended k at ps e .read in
-      field-iff s (scan-extended k at ps e .before) (r .tag) (r .start) (r .len) at .0 (r .whole) .next-in
 
 -- an element of a list with one more at its end: the default of the shorter is the one more
 getD-snoc : {A : Type 0} (xs : List A) (b d : A) (j : ℕ) → j ≤ length xs → getD (xs ++ (b ∷ [])) j d ≡ getD xs j b
@@ -176,14 +169,6 @@ module _ (s : List ℕ) (edition : ℕ) where
       let o : placedAt ps j ≡ one = sym g ∙ ap (λ r. placedAt r j) (x .placed-is) ∙ f in
       let i : placedAt ps j .item ≡ x .it = ap (λ p. p .item) o in
       record { read = rw (← l, ← b, i) (x .read); level-is = rw (o, ← l) }
-
--- offsets rise by a field's three bytes at least
-pub scan-rises : (s : List ℕ) (edition k at : ℕ) (ps : List Placed) → scan s edition k ≡ going at ps → (j : ℕ) → j < k
-    → offsetFrom at ps j + 3 ≤ offsetFrom at ps (suc j)
-scan-rises s edition k at ps e j h =
-    let r = scan-item s edition k at ps e j h .read in
-    let f = field-iff s (offsetFrom at ps j) (r .tag) (r .start) (r .len) (offsetFrom at ps (suc j)) .0 (r .whole) in
-    omega arith
 
 -- Where a scan stopped: at an item whose field was judged at fault, after items that were read.
 pub record Faulted (s : List ℕ) (edition n number offset : ℕ) : Type 0 where
@@ -286,17 +271,17 @@ all-by test (y ∷ ys) f = and-both (test y) (all test ys) (f y (inl refl)) (all
 pub record Opened (s : List ℕ) (edition : ℕ) (ps : List Placed) : Type 0 where
   -- the offset of the last field
   pub at : ℕ
-  pub head : cutAt s 0 ≡ Field headTag 3 4 headNext
+  pub head : cutAt s 0 ≡ Field headTag headerLength headLength headNext
   pub edition-is : editionIn (headContent s) ≡ edition
   pub edition-fits : editionKnown edition ≡ true
   pub count-fits : countAllowed edition (countIn (headContent s)) ≡ true
   pub scanned : scan s edition (countIn (headContent s)) ≡ going at ps
-  pub last : cutAt s at ≡ Field lastTag (at + 3) 0 (length s)
+  pub last : cutAt s at ≡ Field lastTag (at + headerLength) 0 (length s)
 
 module _ (s : List ℕ) where
   -- the first field
   pub record HeadRead : Type 0 where
-    pub head : cutAt s 0 ≡ Field headTag 3 4 headNext
+    pub head : cutAt s 0 ≡ Field headTag headerLength headLength headNext
     pub edition-fits : editionKnown (editionIn (headContent s)) ≡ true
     pub count-fits : countAllowed (editionIn (headContent s)) (countIn (headContent s)) ≡ true
 
@@ -313,9 +298,9 @@ module _ (s : List ℕ) where
           let c = cause-none 3 _ _ (b .1) in
           let f = field-iff s 0 tag start len next .0 ec in
           let t : tag ≡ headTag = eqb-true tag headTag (not-false _ (a .0)) in
-          let n : length (contentAt s start len) ≡ 4 = eqb-true _ 4 (not-false _ (b .0)) in
-          let l : len ≡ 4 = omega (arith, content-length s 0 tag start len next f) in
-          let st : start ≡ 3 = omega arith in
+          let n : length (contentAt s start len) ≡ headLength = eqb-true _ headLength (not-false _ (b .0)) in
+          let l : len ≡ headLength = omega (arith, content-length s 0 tag start len next f) in
+          let st : start ≡ headerLength = omega arith in
           let nx : next ≡ headNext = omega arith in
           let content : List ℕ = contentAt s start len in
           let w : (editionKnown (editionIn content) && countAllowed (editionIn content) (countIn content)) ≡ true = not-false _ (c .0) in
@@ -328,12 +313,12 @@ module _ (s : List ℕ) where
   pub head-judged : HeadRead → judge headTests s (cutAt s 0) ≡ 0
   unfolding headTests firstCause
   head-judged r =
-      let n : length (headContent s) ≡ 4 = content-length s 0 headTag 3 4 headNext (field-iff s 0 headTag 3 4 headNext .0 (r .head)) in
-      rw (r .head) (simp (eq-eqb (length (headContent s)) 4 n, r .edition-fits, r .count-fits))
+      let n : length (headContent s) ≡ headLength = content-length s 0 headTag headerLength headLength headNext (field-iff s 0 headTag headerLength headLength headNext .0 (r .head)) in
+      rw (r .head) (simp (eq-eqb (length (headContent s)) headLength n, r .edition-fits, r .count-fits))
 
   -- the last field, at its offset
   pub last-read : (at : ℕ) (ps : List Placed) (k : ℕ) (qs : List Placed) → scanLast s (going at ps) ≡ going k qs
-      → (cutAt s at ≡ Field lastTag (at + 3) 0 (length s)) × (ps ≡ qs)
+      → (cutAt s at ≡ Field lastTag (at + headerLength) 0 (length s)) × (ps ≡ qs)
   unfolding lastTests
   last-read at ps k qs e = go (cutAt s at) refl (judge lastTests s (cutAt s at)) refl e
     where
@@ -342,7 +327,7 @@ module _ (s : List ℕ) where
       end next h false eb x = (omega (arith, ltb-false next (length s) eb), cc)
 
       go : (c : Cut) → cutAt s at ≡ c → (v : ℕ) → judge lastTests s c ≡ v → goOn v at (scanEnd s (afterLast s c) ps) ≡ going k qs
-          → (cutAt s at ≡ Field lastTag (at + 3) 0 (length s)) × (ps ≡ qs)
+          → (cutAt s at ≡ Field lastTag (at + headerLength) 0 (length s)) × (ps ≡ qs)
       go Absent ec zero h x = absurd (omega arith)
       go Absent ec (suc v) h x = let z : _≡_ {A = ℕ} 0 1 = cc in absurd (omega arith)
       go Short ec zero h x = absurd (omega arith)
@@ -355,12 +340,12 @@ module _ (s : List ℕ) where
           let t : tag ≡ lastTag = eqb-true tag lastTag (not-false _ (a .0)) in
           let n : length (contentAt s start len) ≡ 0 = eqb-true _ 0 (not-false _ (b .0)) in
           let l : len ≡ 0 = omega (arith, content-length s at tag start len next f) in
-          let st : start ≡ at + 3 = omega arith in
+          let st : start ≡ at + headerLength = omega arith in
           let y = end next (f .next-in) (ltb next (length s)) refl x in
           let y0 = y .0 in
           (cc, y .1)
 
-  pub last-scanned : (at : ℕ) (ps : List Placed) → cutAt s at ≡ Field lastTag (at + 3) 0 (length s) → scanLast s (going at ps) ≡ going (length s) ps
+  pub last-scanned : (at : ℕ) (ps : List Placed) → cutAt s at ≡ Field lastTag (at + headerLength) 0 (length s) → scanLast s (going at ps) ≡ going (length s) ps
   unfolding lastTests firstCause
   last-scanned at ps e = rw e (simp (le-ltb (length s) (length s) (omega arith)))
 
@@ -446,32 +431,32 @@ allowed-operation rule p e = go (operationOf rule p) refl e
     go none q h = let z : _≡_ {A = ℕ} 0 1 = cc in absurd (omega arith)
     go (some op) q h = (op, q)
 
-pub machine-figure : (rule keep spread : ℕ) (parents name : List ℕ) (op : Operation) → operationOf rule (length parents) ≡ some op
-    → machineItem (figureField rule keep spread parents name) ≡ figure op (eqb keep 1) (spreadMeant spread) parents
-unfolding machineItem
-machine-figure rule keep spread parents name op e = rw e
+-- an item's number fits in two bytes
+pub most-small : mostItems < 65_536
+unfolding mostItems itemLimit
+most-small = omega arith
+
+-- no edition has more items than the arrays of the code hold
+pub limit-most : (edition n : ℕ) → countAllowed edition n ≡ true → n ≤ mostItems
+unfolding countAllowed itemLimit mostItems
+limit-most edition n e = leb-true n mostItems (and-right (leb 1 n) (leb n mostItems) e)
 
 module _ (s : List ℕ) (edition : ℕ) (ps : List Placed) (e : readSheet s ≡ opens edition ps) where
   pub opened-length : length ps ≡ countIn (headContent s)
   opened-length = let o = opened s edition ps e in scan-length s edition (countIn (headContent s)) (o .at) ps (o .scanned)
 
-  pub opened-count : (1 ≤ length ps) × (length ps ≤ 1024)
-  unfolding countAllowed itemLimit
+  pub opened-count : (1 ≤ length ps) × (length ps ≤ mostItems)
+  unfolding countAllowed
   opened-count =
-      let o = opened s edition ps e in
-      let n = opened-length in
-      let c = o .count-fits in
+      let c = opened s edition ps e .count-fits in
       let k : ℕ = countIn (headContent s) in
-      (omega (arith, leb-true 1 k (and-left (leb 1 k) (leb k 1024) c)), omega (arith, leb-true k 1024 (and-right (leb 1 k) (leb k 1024) c)))
+      let n = opened-length in
+      (omega (arith, leb-true 1 k (and-left (leb 1 k) (leb k (itemLimit edition)) c)), omega (arith, limit-most edition k c))
 
   pub opened-fits : (j : ℕ) → j < length ps → ItemFits edition ps j
   opened-fits j h =
       let o = opened s edition ps e in
       scan-fits s edition (countIn (headContent s)) (o .at) ps (o .scanned) j (omega (arith, opened-length))
-
-  pub opened-level : (j : ℕ) → j < length ps → placedAt ps j .level ≤ 64
-  unfolding levelLimit
-  opened-level j h = opened-fits j h .level-fits
 
   -- each parent is a lower item number
   pub opened-ordered : Ordered (machineSheet (layoutOf edition ps))
@@ -482,16 +467,3 @@ module _ (s : List ℕ) (edition : ℕ) (ps : List Placed) (e : readSheet s ≡ 
       go (no h) q =
           let d : placedAt ps i ≡ placed 0 (entryField []) 0 = List·getD-eq-default ps (placed 0 (entryField []) 0) (omega arith) in
           absurd (entry-listed p [] (rw d at q))
-
-  -- a figure's operation is that of its rule and parent count
-  pub opened-operation : (j : ℕ) → j < length ps → (rule keep spread : ℕ) (parents name : List ℕ)
-      → placedAt ps j .item ≡ figureField rule keep spread parents name
-      → (op : Operation) × (operationOf rule (length parents) ≡ some op)
-      × (itemAt (machineSheet (layoutOf edition ps)) j ≡ figure op (eqb keep 1) (spreadMeant spread) parents)
-  opened-operation j h rule keep spread parents name q =
-      let f : ruleWrong edition (figureField rule keep spread parents name) ≡ false = rw q at (opened-fits j h .rule-fits) in
-      let two = and-left (ruleAllowed rule (length parents) && keepAllowed keep) (spreadAllowed edition spread) (not-false _ f) in
-      let r = and-left (ruleAllowed rule (length parents)) (keepAllowed keep) two in
-      let a = allowed-operation rule (length parents) r in
-      let m = machine-figure rule keep spread parents name (a .0) (a .1) in
-      (a .0, a .1, machine-item edition ps j ∙ ap machineItem q ∙ m)

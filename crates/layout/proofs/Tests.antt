@@ -4,88 +4,19 @@ use mathlib.Core.Bool.{Bool, true, false, cond, not, _&&_, _||_}
 use mathlib.Core.List.{List, [], _∷_, _++_}
 use mathlib.Core.Logic.{_⊎_, inl, inr, ⊎-elim}
 use mathlib.Core.Option.{Option, none, some}
-use Prim.Native.Nat.{ℕ, zero, suc, _+_, _*_, _-_, _≤_, _<_}
+use Prim.Native.Nat.{ℕ, zero, suc, _+_, _-_, _≤_, _<_}
 use native.Mathlib.Omega.{arith}
 use native.Mathlib.Decide.{ℕ-discrete}
-use lib.Dec.{eqb, leb, ltb}
+use lib.Dec.{eqb, ltb}
 use lib.ListN.{length, length-drop}
-use borrow.Author.Tests.{eqb-true, eqb-false, leb-true, leb-false, ltb-true, ltb-false, eq-eqb, ne-eqb}
+use borrow.Author.Tests.{eq-eqb, ne-eqb}
 use Rattle.circuit.specs.Circuit.{Listed}
 use Rattle.circuit.specs.Rules.{Operation, sum, difference, smallest, largest, share, choice, count, atLeast, operationOf, allowed, coded, oneOrMore, maxParents, countAllowed as parentsAllowed}
-use Rattle.layout.specs.Layout.{LayoutItem, entryField, figureField, figureTag, editionKnown, countAllowed, itemLimit, keepAllowed, spreadAllowed, ruleAllowed, isSome, nameAllowed, nameByte, nameLimit, all}
+use Rattle.layout.specs.Layout.{LayoutItem, entryField, figureField, entryTag, figureTag, parentsAt, parentAt, editionKnown, countAllowed, itemLimit, keepAllowed, spreadAllowed, ruleAllowed, isSome, nameAllowed, nameByte, nameLimit, all}
 use Rattle.layout.specs.Read.{ruleIn, keepIn, spreadIn, parentCountIn, parentIn, parentsIn, nameIn, itemIn, lengthOrName, ruleWrong, parentWrong}
 use Rattle.layout.specs.Causes.{NotAName, BadByte, WrongItemLength, entryName, figureUnder, figureRest, figureName, RuleTakes, sumTakes, differenceTakes, smallestTakes, largestTakes, shareTakes, choiceTakes, countTakes, atLeastTakes, WrongFigure, HighParent}
 use Rattle.layout.proofs.Items.{parents-count}
-
--- `Tells P b`: the test's value b says whether P holds
-pub data Tells (P : Type 0) : Bool → Type 0 where
-  holds : P → Tells P true
-  fails : ¬ P → Tells P false
-
-pub tells-if : {P Q : Type 0} {b : Bool} → (P → Q) → (Q → P) → Tells P b → Tells Q b
-tells-if f g (holds p) = holds (f p)
-tells-if f g (fails p) = fails (λ q. p (g q))
-
-pub tells-or : {P Q : Type 0} {a b : Bool} → Tells P a → Tells Q b → Tells (P ⊎ Q) (a || b)
-tells-or (holds p) t = holds (inl p)
-tells-or (fails n) (holds q) = holds (inr q)
-tells-or (fails n) (fails m) = fails (⊎-elim n m)
-
-pub tells-and : {P Q : Type 0} {a b : Bool} → Tells P a → Tells Q b → Tells (P × Q) (a && b)
-tells-and (holds p) (holds q) = holds (p, q)
-tells-and (holds p) (fails n) = fails (λ x. n (x .1))
-tells-and (fails n) t = fails (λ x. n (x .0))
-
--- `Refutes P b`: the test b passes unless P holds
-pub data Refutes (P : Type 0) : Bool → Type 0 where
-  right : ¬ P → Refutes P true
-  wrong : P → Refutes P false
-
-pub refutes-if : {P Q : Type 0} {b : Bool} → (P → Q) → (Q → P) → Refutes P b → Refutes Q b
-refutes-if f g (right n) = right (λ q. n (g q))
-refutes-if f g (wrong p) = wrong (f p)
-
--- a conjunction fails where a part does
-pub refutes-and : {P Q : Type 0} {a b : Bool} → Refutes P a → Refutes Q b → Refutes (P ⊎ Q) (a && b)
-refutes-and (right n) (right m) = right (⊎-elim n m)
-refutes-and (right n) (wrong q) = wrong (inr q)
-refutes-and (wrong p) t = wrong (inl p)
-
-pub tells-not : {P : Type 0} {b : Bool} → Refutes P b → Tells P (not b)
-tells-not (right n) = fails n
-tells-not (wrong p) = holds p
-
-pub refutes-tells : {P : Type 0} {b : Bool} → Tells P b → Refutes (¬ P) b
-refutes-tells (holds p) = right (λ n. n p)
-refutes-tells (fails n) = wrong n
-
-pub tells-eq : (a b : ℕ) → Tells (a ≡ b) (eqb a b)
-tells-eq a b = go (eqb a b) refl
-  where
-    go : (t : Bool) → eqb a b ≡ t → Tells (a ≡ b) t
-    go true e = holds (eqb-true a b e)
-    go false e = fails (eqb-false a b e)
-
-pub tells-lt : (a b : ℕ) → Tells (a < b) (ltb a b)
-tells-lt a b = go (ltb a b) refl
-  where
-    go : (t : Bool) → ltb a b ≡ t → Tells (a < b) t
-    go true e = holds (ltb-true a b e)
-    go false e = fails (λ h. omega (arith, ltb-false a b e))
-
-pub refutes-le : (a b : ℕ) → Refutes (b < a) (leb a b)
-refutes-le a b = go (leb a b) refl
-  where
-    go : (t : Bool) → leb a b ≡ t → Refutes (b < a) t
-    go true e = right (λ h. omega (arith, leb-true a b e))
-    go false e = wrong (leb-false a b e)
-
-pub refutes-lt : (a b : ℕ) → Refutes (b ≤ a) (ltb a b)
-refutes-lt a b = go (ltb a b) refl
-  where
-    go : (t : Bool) → ltb a b ≡ t → Refutes (b ≤ a) t
-    go true e = right (λ h. omega (arith, ltb-true a b e))
-    go false e = wrong (ltb-false a b e)
+pub use Rattle.field.proofs.Tells.{Tells, holds, fails, tells-if, tells-or, tells-and, Refutes, right, wrong, refutes-if, refutes-and, tells-not, refutes-tells, tells-eq, tells-lt, tells-le, refutes-le, refutes-lt}
 
 -- some element fails a test
 pub refutes-all : (test : ℕ → Bool) (P : ℕ → Type 0) → ((x : ℕ) → Refutes (P x) (test x)) → (xs : List ℕ)
@@ -107,47 +38,47 @@ refutes-all test P t (y ∷ ys) = refutes-if forth back (refutes-and (t y) (refu
 
 -- 3: a name that is not one
 pub refutes-name : (name : List ℕ) → Refutes (NotAName name) (nameAllowed name)
-unfolding nameAllowed nameLimit
+unfolding nameAllowed
 refutes-name name =
     refutes-if forth back
-    (refutes-and (refutes-and (refutes-le 1 (length name)) (refutes-le (length name) 16))
+    (refutes-and (refutes-and (refutes-le 1 (length name)) (refutes-le (length name) nameLimit))
     (refutes-all nameByte (λ b. (b < 33) ⊎ (126 < b)) (λ b. refutes-and (refutes-le 33 b) (refutes-le b 126)) name))
   where
-    forth : ((length name < 1) ⊎ (16 < length name)) ⊎ BadByte name → NotAName name
+    forth : ((length name < 1) ⊎ (nameLimit < length name)) ⊎ BadByte name → NotAName name
     forth (inl (inl h)) = inl h
     forth (inl (inr h)) = inr (inl h)
     forth (inr w) = inr (inr w)
 
-    back : NotAName name → ((length name < 1) ⊎ (16 < length name)) ⊎ BadByte name
+    back : NotAName name → ((length name < 1) ⊎ (nameLimit < length name)) ⊎ BadByte name
     back (inl h) = inl (inl h)
     back (inr (inl h)) = inl (inr h)
     back (inr (inr w)) = inr w
 
 -- a figure's length and name
-tells-figure : (tag : ℕ) (content : List ℕ) → tag ≡ 3
-    → Tells (WrongItemLength tag (length content) content) (ltb (length content) 4 || not (nameAllowed (nameIn content)))
-tells-figure tag content t = tells-if forth back (tells-or (tells-lt (length content) 4) (tells-not (refutes-name (nameIn content))))
+tells-figure : (tag : ℕ) (content : List ℕ) → tag ≡ figureTag
+    → Tells (WrongItemLength tag (length content) content) (ltb (length content) parentsAt || not (nameAllowed (nameIn content)))
+tells-figure tag content t = tells-if forth back (tells-or (tells-lt (length content) parentsAt) (tells-not (refutes-name (nameIn content))))
   where
     p : ℕ
     p = parentCountIn content
 
-    n : length (nameIn content) ≡ length content - (4 + 2 * parentCountIn content)
-    n = length-drop (4 + 2 * parentCountIn content) content
+    n : length (nameIn content) ≡ length content - parentAt (parentCountIn content)
+    n = length-drop (parentAt (parentCountIn content)) content
 
-    forth : (length content < 4) ⊎ NotAName (nameIn content) → WrongItemLength tag (length content) content
+    forth : (length content < parentsAt) ⊎ NotAName (nameIn content) → WrongItemLength tag (length content) content
     forth (inl h) = figureUnder t h
     forth (inr (inl h)) = figureRest t (inl (omega (arith, n)))
     forth (inr (inr (inl h))) = figureRest t (inr (omega (arith, n)))
     forth (inr (inr (inr w))) = figureName t w
 
-    back : WrongItemLength tag (length content) content → (length content < 4) ⊎ NotAName (nameIn content)
+    back : WrongItemLength tag (length content) content → (length content < parentsAt) ⊎ NotAName (nameIn content)
     back (entryName e w) = absurd (omega arith)
     back (figureUnder e h) = inl h
     back (figureRest e (inl h)) = inr (inl (omega (arith, n)))
     back (figureRest e (inr h)) = inr (inr (inl (omega (arith, n))))
     back (figureName e w) = inr (inr (inr w))
 
-tells-entry : (tag : ℕ) (content : List ℕ) → tag ≡ 2 → Tells (WrongItemLength tag (length content) content) (not (nameAllowed content))
+tells-entry : (tag : ℕ) (content : List ℕ) → tag ≡ entryTag → Tells (WrongItemLength tag (length content) content) (not (nameAllowed content))
 tells-entry tag content t = tells-if (entryName t) back (tells-not (refutes-name content))
   where
     back : WrongItemLength tag (length content) content → NotAName content
@@ -156,26 +87,27 @@ tells-entry tag content t = tells-if (entryName t) back (tells-not (refutes-name
     back (figureRest e h) = absurd (omega arith)
     back (figureName e w) = absurd (omega arith)
 
-pub tells-length : (tag : ℕ) (content : List ℕ) → (tag ≡ 2) ⊎ (tag ≡ 3) → Tells (WrongItemLength tag (length content) content) (lengthOrName tag content)
+pub tells-length : (tag : ℕ) (content : List ℕ) → (tag ≡ entryTag) ⊎ (tag ≡ figureTag) → Tells (WrongItemLength tag (length content) content) (lengthOrName tag content)
 unfolding lengthOrName
 tells-length tag content (inl e) = rw (ne-eqb tag figureTag (λ t. omega arith)) (tells-entry tag content e)
 tells-length tag content (inr e) = rw (eq-eqb tag figureTag e) (tells-figure tag content e)
 
 -- 4: edition or item count
-pub refutes-edition : (edition n : ℕ) → Refutes ((¬ (edition ≡ 1)) ⊎ (n < 1) ⊎ (1024 < n)) (editionKnown edition && countAllowed edition n)
-unfolding editionKnown countAllowed itemLimit
-refutes-edition edition n = refutes-and (refutes-tells (tells-eq edition 1)) (refutes-and (refutes-le 1 n) (refutes-le n 1024))
+pub refutes-edition : (edition n : ℕ) → Refutes ((¬ (edition ≡ 1)) ⊎ (n < 1) ⊎ (itemLimit edition < n)) (editionKnown edition && countAllowed edition n)
+unfolding editionKnown countAllowed
+refutes-edition edition n = refutes-and (refutes-tells (tells-eq edition 1)) (refutes-and (refutes-le 1 n) (refutes-le n (itemLimit edition)))
 
 -- 5: rule, keep, spread, or p wrong for the rule
 record TakesFacts (code p : ℕ) : Type 0 where
   low : 1 ≤ p
-  high : p ≤ 16
+  high : p ≤ maxParents
   difference-two : code ≡ 2 → p ≡ 2
   share-two : code ≡ 5 → p ≡ 2
   choice-three : code ≡ 6 → p ≡ 3
   at-least-two : code ≡ 8 → p ≡ 2
 
 takes-facts : (code p : ℕ) → RuleTakes code p → TakesFacts code p
+unfolding maxParents
 takes-facts code p (sumTakes e l h) = omega arith
 takes-facts code p (differenceTakes e h) = omega arith
 takes-facts code p (smallestTakes e l h) = omega arith
@@ -185,13 +117,6 @@ takes-facts code p (choiceTakes e h) = omega arith
 takes-facts code p (countTakes e l h) = omega arith
 takes-facts code p (atLeastTakes e h) = omega arith
 
-tells-le : (a b : ℕ) → Tells (a ≤ b) (leb a b)
-tells-le a b = go (leb a b) refl
-  where
-    go : (t : Bool) → leb a b ≡ t → Tells (a ≤ b) t
-    go true e = holds (leb-true a b e)
-    go false e = fails (λ h. omega (arith, leb-false a b e))
-
 module _ (code p : ℕ) where
   tells-allowed : (op : Operation) → Tells (RuleTakes code p) (parentsAllowed op p) → Tells (RuleTakes code p) (isSome (allowed (some op) p))
   tells-allowed op t = go (parentsAllowed op p) t
@@ -200,9 +125,9 @@ module _ (code p : ℕ) where
       go true (holds x) = holds x
       go false (fails n) = fails n
 
-  tells-many : (1 ≤ p → p ≤ 16 → RuleTakes code p) → Tells (RuleTakes code p) (oneOrMore p)
-  unfolding oneOrMore maxParents
-  tells-many f = tells-if (λ h. f (h .0) (h .1)) (λ x. (takes-facts code p x .low, takes-facts code p x .high)) (tells-and (tells-le 1 p) (tells-le p 16))
+  tells-many : (1 ≤ p → p ≤ maxParents → RuleTakes code p) → Tells (RuleTakes code p) (oneOrMore p)
+  unfolding oneOrMore
+  tells-many f = tells-if (λ h. f (h .0) (h .1)) (λ x. (takes-facts code p x .low, takes-facts code p x .high)) (tells-and (tells-le 1 p) (tells-le p maxParents))
 
   tells-exactly : (k : ℕ) → (p ≡ k → RuleTakes code p) → (RuleTakes code p → p ≡ k) → Tells (RuleTakes code p) (eqb p k)
   tells-exactly k f g = tells-if f g (tells-eq p k)
@@ -241,10 +166,10 @@ module _ (code p : ℕ) where
       fails (takes-none n1 n2 n3 n4 n5 n6 n7 n8)
 
 -- of a figure only
-tells-of-figure : (tag : ℕ) (P : Type 0) (b : Bool) → Tells P b → Tells ((tag ≡ 3) × P) (cond (eqb tag figureTag) b false)
-tells-of-figure tag P b t = go (eqb tag figureTag) (tells-eq tag 3)
+tells-of-figure : (tag : ℕ) (P : Type 0) (b : Bool) → Tells P b → Tells ((tag ≡ figureTag) × P) (cond (eqb tag figureTag) b false)
+tells-of-figure tag P b t = go (eqb tag figureTag) (tells-eq tag figureTag)
   where
-    go : (f : Bool) → Tells (tag ≡ 3) f → Tells ((tag ≡ 3) × P) (cond f b false)
+    go : (f : Bool) → Tells (tag ≡ figureTag) f → Tells ((tag ≡ figureTag) × P) (cond f b false)
     go true (holds e) = tells-if (λ p. (e, p)) (λ x. x .1) t
     go false (fails n) = fails (λ x. n (x .0))
 
@@ -254,7 +179,7 @@ cond-entry : (test : LayoutItem → Bool) (f : Bool) (figure : LayoutItem) (name
 cond-entry test true figure name e = refl
 cond-entry test false figure name e = e
 
-pub tells-wrong-figure : (edition tag : ℕ) (content : List ℕ) → Tells ((tag ≡ 3) × WrongFigure content) (ruleWrong edition (itemIn tag content))
+pub tells-wrong-figure : (edition tag : ℕ) (content : List ℕ) → Tells ((tag ≡ figureTag) × WrongFigure content) (ruleWrong edition (itemIn tag content))
 unfolding itemIn keepAllowed spreadAllowed
 tells-wrong-figure edition tag content =
     let parents : List ℕ = parentsIn content (parentCountIn content) in
@@ -314,7 +239,7 @@ parent-listed content (suc n) k h = go (ℕ-discrete k n) (parent-listed content
     go (yes e) ih = listed-right (parentIn content k) (parentsIn content n) (parentIn content n ∷ []) (inl (ap (parentIn content) e))
     go (no e) ih = listed-left (parentIn content k) (parentsIn content n) (parentIn content n ∷ []) (ih (omega arith))
 
-pub tells-parents : (i tag : ℕ) (content : List ℕ) → Tells ((tag ≡ 3) × HighParent i content) (parentWrong i (itemIn tag content))
+pub tells-parents : (i tag : ℕ) (content : List ℕ) → Tells ((tag ≡ figureTag) × HighParent i content) (parentWrong i (itemIn tag content))
 unfolding itemIn
 tells-parents i tag content =
     let parents : List ℕ = parentsIn content (parentCountIn content) in

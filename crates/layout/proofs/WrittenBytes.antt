@@ -8,7 +8,9 @@ use native.Mathlib.Omega.{arith}
 use lib.Dec.{leb, ltb}
 use lib.ListN.{length, length-append}
 use borrow.Author.Tests.{leb-true, ltb-true, eqb-true}
-use Rattle.field.specs.Field.{Bytes, fieldBytes}
+use Rattle.circuit.specs.Rules.{maxParents}
+use Rattle.field.specs.Bytes.{Bytes}
+use Rattle.field.specs.Field.{fieldBytes}
 use Rattle.field.proofs.Cutting.{Bytes-fieldBytes}
 use Rattle.circuit.specs.Circuit.{Listed}
 use Rattle.layout.specs.Layout.{LayoutItem, entryField, figureField, Layout, headTag, entryTag, figureTag, lastTag, editionKnown, itemLimit, countAllowed, levelLimit, keepAllowed, spreadAllowed, ruleAllowed, nameByte, nameLimit, nameAllowed, all}
@@ -72,7 +74,7 @@ rule-most code p e = go (ruleAllowed code p) (tells-rule code p) e
     go false (fails n) q = let z : _≡_ {A = ℕ} 0 1 = cc in absurd (omega arith)
 
 Bytes-item : (edition : ℕ) (levels : List ℕ) (it : LayoutItem) → itemWithin edition levels it ≡ true → length levels ≤ 65_536 → Bytes (itemBytes it)
-unfolding itemBytes keepAllowed spreadAllowed nameLimit
+unfolding itemBytes keepAllowed spreadAllowed nameLimit maxParents
 Bytes-item edition levels (entryField name) e h =
     let n = name-length name e in
     Bytes-fieldBytes entryTag name (omega arith) (omega arith) (Bytes-name name e)
@@ -111,7 +113,7 @@ written-bytes l w =
     let parts = within-parts l w in
     let n : ℕ = length (l .items) in
     let ed = eqb-true (l .edition) 1 (parts .0) in
-    let most = leb-true n 1024 (and-right (leb 1 n) (leb n 1024) (parts .1)) in
+    let most = leb-true n (itemLimit (l .edition)) (and-right (leb 1 n) (leb n (itemLimit (l .edition))) (parts .1)) in
     let content : List ℕ = bytes16 (l .edition) ++ bytes16 n in
     let bytes : List ℕ = concat (map itemBytes (l .items)) in
     Bytes-append (fieldBytes headTag content ++ bytes) (fieldBytes lastTag [])

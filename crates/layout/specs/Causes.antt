@@ -1,12 +1,14 @@
 -- The causes 1 to 7 for which a sheet is turned back, row by row, as statements about the field at a place of the sheet. They
 -- speak of bytes and offsets; nothing here scans the sheet or tests it. Assumes nothing.
-use Prim.Native.Nat.{ℕ, zero, suc, _+_, _*_, _≤_, _<_}
+use Prim.Native.Nat.{ℕ, zero, suc, _+_, _≤_, _<_}
 use mathlib.Core.Path.{_≡_}
 use mathlib.Core.List.{List, [], _∷_, _++_}
 use mathlib.Core.Logic.{_⊎_}
 use lib.ListN.{length, getD, take, drop}
-use Rattle.field.specs.Field.{le16At, lenAt}
+use Rattle.field.specs.Field.{headerLength, le16At, lenAt}
 use Rattle.circuit.specs.Circuit.{Listed}
+use Rattle.circuit.specs.Rules.{maxParents}
+use Rattle.layout.specs.Layout.{headTag, entryTag, figureTag, lastTag, editionAt, countAt, headLength, parentsAt, parentAt, itemLimit, levelLimit, nameLimit}
 use Rattle.layout.specs.Read.{ruleIn, keepIn, spreadIn, parentCountIn, parentIn, nameIn, itemIn}
 use Rattle.layout.specs.Write.{levelAfter}
 
@@ -19,14 +21,14 @@ pub data Place : Type 0 where
 -- the offset of the k-th field, counted from 0: a field is a tag, a length in two bytes and that many content bytes
 unfoldable pub fieldOffset : List ℕ → ℕ → ℕ
 fieldOffset s zero = 0
-fieldOffset s (suc k) = fieldOffset s k + 3 + lenAt s (fieldOffset s k)
+fieldOffset s (suc k) = fieldOffset s k + headerLength + lenAt s (fieldOffset s k)
 
 -- edition and item count, the content of the first field
 abbrev pub editionOf : List ℕ → ℕ
-editionOf s = le16At s 3
+editionOf s = le16At s (headerLength + editionAt)
 
 abbrev pub itemCount : List ℕ → ℕ
-itemCount s = le16At s 5
+itemCount s = le16At s (headerLength + countAt)
 
 -- the number of the field at a place, where a sheet has n items
 abbrev pub fieldNumber : ℕ → Place → ℕ
@@ -56,20 +58,20 @@ abbrev pub lengthOf : List ℕ → Place → ℕ
 lengthOf s p = lenAt s (offsetOf s p)
 
 abbrev pub contentOf : List ℕ → Place → List ℕ
-contentOf s p = take (lengthOf s p) (drop (offsetOf s p + 3) s)
+contentOf s p = take (lengthOf s p) (drop (offsetOf s p + headerLength) s)
 
 -- The levels of the first k items, in order: 0 for an entry, for a figure one more than the highest of its parents.
-unfoldable pub levelsOf : List ℕ → ℕ → List ℕ
-levelsOf s zero = []
-levelsOf s (suc k) =
-    levelsOf s k ++ (levelAfter (levelsOf s k) (itemIn (tagOf s (item k)) (contentOf s (item k))) ∷ [])
+unfoldable pub levelsBefore : List ℕ → ℕ → List ℕ
+levelsBefore s zero = []
+levelsBefore s (suc k) =
+    levelsBefore s k ++ (levelAfter (levelsBefore s k) (itemIn (tagOf s (item k)) (contentOf s (item k))) ∷ [])
 
 abbrev pub itemLevelOf : List ℕ → ℕ → ℕ
-itemLevelOf s i = levelAfter (levelsOf s i) (itemIn (tagOf s (item i)) (contentOf s (item i)))
+itemLevelOf s i = levelAfter (levelsBefore s i) (itemIn (tagOf s (item i)) (contentOf s (item i)))
 
--- 1: field runs past the end (the three bytes before its content, or the content), or is absent
+-- 1: field runs past the end (its header, or its content), or is absent
 abbrev pub NotWhole : List ℕ → ℕ → Type 0
-NotWhole s at = (length s < at + 3) ⊎ (length s < at + 3 + lenAt s at) ⊎ (length s ≤ at)
+NotWhole s at = (length s < at + headerLength) ⊎ (length s < at + headerLength + lenAt s at) ⊎ (length s ≤ at)
 
 abbrev pub RunsPastOrAbsent : List ℕ → Place → Type 0
 RunsPastOrAbsent s first = NotWhole s (offsetOf s first)
@@ -79,9 +81,9 @@ RunsPastOrAbsent s after = ⊥
 
 -- 2: tag wrong for its place, or bytes after the last field
 abbrev pub WrongTagOrTrailing : List ℕ → Place → Type 0
-WrongTagOrTrailing s first = ¬ (tagOf s first ≡ 1)
-WrongTagOrTrailing s (item i) = (¬ (tagOf s (item i) ≡ 2)) × (¬ (tagOf s (item i) ≡ 3))
-WrongTagOrTrailing s last = ¬ (tagOf s last ≡ 4)
+WrongTagOrTrailing s first = ¬ (tagOf s first ≡ headTag)
+WrongTagOrTrailing s (item i) = (¬ (tagOf s (item i) ≡ entryTag)) × (¬ (tagOf s (item i) ≡ figureTag))
+WrongTagOrTrailing s last = ¬ (tagOf s last ≡ lastTag)
 WrongTagOrTrailing s after = offsetOf s after < length s
 
 -- 3: length or name wrong. A name has 1 to 16 bytes, and each is 33 to 126.
@@ -89,38 +91,38 @@ abbrev pub BadByte : List ℕ → Type 0
 BadByte name = (b : ℕ) × Listed b name × ((b < 33) ⊎ (126 < b))
 
 abbrev pub NotAName : List ℕ → Type 0
-NotAName name = (length name < 1) ⊎ (16 < length name) ⊎ BadByte name
+NotAName name = (length name < 1) ⊎ (nameLimit < length name) ⊎ BadByte name
 
 -- an entry is its name; a figure has four bytes, p parents in two bytes each, and its name
 pub data WrongItemLength (tag len : ℕ) (content : List ℕ) : Type 0 where
-  entryName : tag ≡ 2 → NotAName content → WrongItemLength tag len content
-  figureUnder : tag ≡ 3 → len < 4 → WrongItemLength tag len content
-  figureRest : tag ≡ 3 → (len < 4 + 2 * parentCountIn content + 1) ⊎ (4 + 2 * parentCountIn content + 16 < len)
+  entryName : tag ≡ entryTag → NotAName content → WrongItemLength tag len content
+  figureUnder : tag ≡ figureTag → len < parentsAt → WrongItemLength tag len content
+  figureRest : tag ≡ figureTag → (len < parentAt (parentCountIn content) + 1) ⊎ (parentAt (parentCountIn content) + nameLimit < len)
       → WrongItemLength tag len content
-  figureName : tag ≡ 3 → BadByte (nameIn content) → WrongItemLength tag len content
+  figureName : tag ≡ figureTag → BadByte (nameIn content) → WrongItemLength tag len content
 
 abbrev pub WrongLengthOrName : List ℕ → Place → Type 0
-WrongLengthOrName s first = ¬ (lengthOf s first ≡ 4)
+WrongLengthOrName s first = ¬ (lengthOf s first ≡ headLength)
 WrongLengthOrName s (item i) = WrongItemLength (tagOf s (item i)) (lengthOf s (item i)) (contentOf s (item i))
 WrongLengthOrName s last = ¬ (lengthOf s last ≡ 0)
 WrongLengthOrName s after = ⊥
 
 -- 4: edition or item count
 abbrev pub WrongEditionOrCount : List ℕ → Place → Type 0
-WrongEditionOrCount s first = (¬ (editionOf s ≡ 1)) ⊎ (itemCount s < 1) ⊎ (1024 < itemCount s)
+WrongEditionOrCount s first = (¬ (editionOf s ≡ 1)) ⊎ (itemCount s < 1) ⊎ (itemLimit (editionOf s) < itemCount s)
 WrongEditionOrCount s (item i) = ⊥
 WrongEditionOrCount s last = ⊥
 WrongEditionOrCount s after = ⊥
 
 -- the columns "Code" and "Parents" of the rules
 pub data RuleTakes (code p : ℕ) : Type 0 where
-  sumTakes : code ≡ 1 → 1 ≤ p → p ≤ 16 → RuleTakes code p
+  sumTakes : code ≡ 1 → 1 ≤ p → p ≤ maxParents → RuleTakes code p
   differenceTakes : code ≡ 2 → p ≡ 2 → RuleTakes code p
-  smallestTakes : code ≡ 3 → 1 ≤ p → p ≤ 16 → RuleTakes code p
-  largestTakes : code ≡ 4 → 1 ≤ p → p ≤ 16 → RuleTakes code p
+  smallestTakes : code ≡ 3 → 1 ≤ p → p ≤ maxParents → RuleTakes code p
+  largestTakes : code ≡ 4 → 1 ≤ p → p ≤ maxParents → RuleTakes code p
   shareTakes : code ≡ 5 → p ≡ 2 → RuleTakes code p
   choiceTakes : code ≡ 6 → p ≡ 3 → RuleTakes code p
-  countTakes : code ≡ 7 → 1 ≤ p → p ≤ 16 → RuleTakes code p
+  countTakes : code ≡ 7 → 1 ≤ p → p ≤ maxParents → RuleTakes code p
   atLeastTakes : code ≡ 8 → p ≡ 2 → RuleTakes code p
 
 -- 5: rule, keep, spread, or p wrong for the rule
@@ -129,7 +131,7 @@ WrongFigure content = (¬ RuleTakes (ruleIn content) (parentCountIn content)) �
 
 abbrev pub WrongRuleKeepSpreadOrCount : List ℕ → Place → Type 0
 WrongRuleKeepSpreadOrCount s first = ⊥
-WrongRuleKeepSpreadOrCount s (item i) = (tagOf s (item i) ≡ 3) × WrongFigure (contentOf s (item i))
+WrongRuleKeepSpreadOrCount s (item i) = (tagOf s (item i) ≡ figureTag) × WrongFigure (contentOf s (item i))
 WrongRuleKeepSpreadOrCount s last = ⊥
 WrongRuleKeepSpreadOrCount s after = ⊥
 
@@ -140,14 +142,14 @@ HighParent i content = (k : ℕ) × (k < parentCountIn content) × (i ≤ parent
 abbrev pub ParentNotBelow : List ℕ → Place → Type 0
 ParentNotBelow s first = ⊥
 ParentNotBelow s (item i) =
-    (tagOf s (item i) ≡ 3) × HighParent i (contentOf s (item i))
+    (tagOf s (item i) ≡ figureTag) × HighParent i (contentOf s (item i))
 ParentNotBelow s last = ⊥
 ParentNotBelow s after = ⊥
 
--- 7: level above 64
+-- 7: level above the highest, 64
 abbrev pub LevelAbove : List ℕ → Place → Type 0
 LevelAbove s first = ⊥
-LevelAbove s (item i) = 64 < itemLevelOf s i
+LevelAbove s (item i) = levelLimit < itemLevelOf s i
 LevelAbove s last = ⊥
 LevelAbove s after = ⊥
 

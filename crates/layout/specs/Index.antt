@@ -1,13 +1,10 @@
--- The index: for each item the offset of its field, in 4 bytes. Assumes nothing.
+-- The index: for each item the offset of its field, in four bytes. Assumes nothing.
 use Prim.Native.Nat.{ℕ, _+_, _*_, _/_, _%_}
 use mathlib.Core.List.{List, [], _∷_, map}
 use lib.ListN.{getD}
 use Rattle.layout.specs.Read.{Placed}
 use Rattle.layout.specs.Write.{concat}
-
--- the bytes of an index entry
-unfoldable pub indexWidth : ℕ
-indexWidth = 4
+pub use Rattle.layout.specs.Layout.{indexWidth}
 
 abbrev pub bytes32 : ℕ → List ℕ
 bytes32 n = n % 256 ∷ n / 256 % 256 ∷ n / 65_536 % 256 ∷ n / 16_777_216 % 256 ∷ []

@@ -1,10 +1,12 @@
--- The layout of a sheet: its items as they are written, and the limits of each part. Assumes nothing.
-use Prim.Native.Nat.{ℕ, max}
-use mathlib.Core.Bool.{Bool, true, false, cond, not, _&&_, _||_}
+-- The layout of a sheet: the constants of its form, its items as they are written, and the limits of each part. The most parents of a
+-- figure stand with the rules, and a field's header with the fields. Assumes nothing.
+use Prim.Native.Nat.{ℕ, _+_, _*_, max}
+use mathlib.Core.Bool.{Bool, true, false, cond, _&&_}
 use mathlib.Core.List.{List, [], _∷_, map}
 use mathlib.Core.Option.{Option, none, some}
-use lib.Dec.{eqb, leb, ltb}
+use lib.Dec.{eqb, leb}
 use lib.ListN.{length}
+use Rattle.field.specs.Field.{headerLength}
 use Rattle.circuit.specs.Rules.{Operation, sum, operationOf}
 use Rattle.circuit.specs.Sheet.{Item, entry, figure, Sheet, Spread, defer, renew, forget}
 
@@ -30,13 +32,55 @@ figureTag = 3
 abbrev pub lastTag : ℕ
 lastTag = 4
 
+-- the first field's content: where the edition and the item count stand, and its length; and the offset after the field
+abbrev pub editionAt : ℕ
+editionAt = 0
+
+abbrev pub countAt : ℕ
+countAt = 2
+
+abbrev pub headLength : ℕ
+headLength = 4
+
+abbrev pub headNext : ℕ
+headNext = headerLength + headLength
+
+-- a figure's content: where rule, keep, spread and the parent count stand, then its parents; the name stands after the last of them
+abbrev pub ruleAt : ℕ
+ruleAt = 0
+
+abbrev pub keepAt : ℕ
+keepAt = 1
+
+abbrev pub spreadAt : ℕ
+spreadAt = 2
+
+abbrev pub parentCountAt : ℕ
+parentCountAt = 3
+
+abbrev pub parentsAt : ℕ
+parentsAt = 4
+
+abbrev pub parentWidth : ℕ
+parentWidth = 2
+
+abbrev pub parentAt : ℕ → ℕ
+parentAt k = parentsAt + parentWidth * k
+
+-- the bytes of an index entry
+abbrev pub indexWidth : ℕ
+indexWidth = 4
+
 -- the editions that are known
 unfoldable pub editionKnown : ℕ → Bool
 editionKnown edition = eqb edition 1
 
--- the most items of a sheet of an edition
+-- the most items of a sheet: of an edition, and of any
 unfoldable pub itemLimit : ℕ → ℕ
 itemLimit edition = 1024
+
+unfoldable pub mostItems : ℕ
+mostItems = itemLimit 1
 
 unfoldable pub countAllowed : ℕ → ℕ → Bool
 countAllowed edition n = leb 1 n && leb n (itemLimit edition)
@@ -71,7 +115,7 @@ unfoldable pub all : (ℕ → Bool) → List ℕ → Bool
 all p [] = true
 all p (b ∷ bs) = p b && all p bs
 
--- a name: 1 to 16 bytes, each 33 to 126
+-- a name: not empty, not too long, and of such bytes
 unfoldable pub nameAllowed : List ℕ → Bool
 nameAllowed name = leb 1 (length name) && leb (length name) nameLimit && all nameByte name
 

@@ -2,7 +2,7 @@
 -- its fields. Assumes nothing.
 use Prim.Native.Nat.{ℕ}
 use mathlib.Core.Path.{_≡_}
-use mathlib.Core.List.{List, [], _∷_, map}
+use mathlib.Core.List.{List, [], map}
 use lib.ListN.{length, take}
 use Rattle.circuit.specs.Sheet.{Sheet}
 use Rattle.layout.specs.Layout.{machineSheet}
@@ -29,6 +29,9 @@ sheetOf s = sheetFrom (readSheet s)
 
 abbrev pub offsetsOf : List Placed → List ℕ
 offsetsOf ps = map (λ p. p .offset) ps
+
+abbrev pub levelsOf : List Placed → List ℕ
+levelsOf ps = map (λ p. p .level) ps
 
 -- the array begins with the offsets of the sheet's items
 unfoldable pub Located : List ℕ → List ℕ → Type 0

@@ -2,8 +2,8 @@
 use Prim.Native.Nat.{ℕ, _+_}
 use mathlib.Core.List.{List, [], _∷_, _++_, map}
 use lib.ListN.{length, take}
-use Rattle.layout.specs.Layout.{LayoutItem, Layout}
-use Rattle.layout.specs.Read.{Placed, placed, headNext}
+use Rattle.layout.specs.Layout.{LayoutItem, Layout, headNext}
+use Rattle.layout.specs.Read.{Placed, placed}
 use Rattle.layout.specs.Write.{concat, itemBytes, levelAfter}
 
 -- the items from an offset on, after the items with these levels

@@ -1,15 +1,16 @@
 -- Reading a sheet: its layout, or the number and the offset of its first fault. The fields are judged in order, each by a
 -- list of tests in the order of their numbers. Assumes nothing.
-use Prim.Native.Nat.{ℕ, zero, suc, _+_, _*_}
-use mathlib.Core.Bool.{Bool, true, false, cond, not, _&&_, _||_}
+use Prim.Native.Nat.{ℕ, zero, suc, _+_}
+use mathlib.Core.Bool.{Bool, false, cond, not, _&&_, _||_}
 use mathlib.Core.List.{List, [], _∷_, _++_, map}
-use lib.Dec.{eqb, leb, ltb}
+use lib.Dec.{eqb, ltb}
 use lib.ListN.{length, getD, take, drop}
-use Rattle.field.specs.Field.{cutAt, le16At}
+use Rattle.field.specs.Field.{headerLength, cutAt, le16At}
 use Rattle.field.specs.declared.Cut.{Cut}
 use Rattle.field.specs.declared.Cut.the-variants.{Field, Short, Absent}
 use Rattle.circuit.specs.Calls.{Test, test, firstCause}
-use Rattle.layout.specs.Layout.{LayoutItem, entryField, figureField, Layout, headTag, entryTag, figureTag, lastTag, editionKnown, countAllowed, levelLimit, keepAllowed, spreadAllowed, ruleAllowed, nameAllowed, all, highest}
+use Rattle.layout.specs.Layout.{LayoutItem, entryField, figureField, Layout, headTag, entryTag, figureTag, lastTag, editionAt, countAt, headLength, headNext, ruleAt, keepAt, spreadAt, parentCountAt, parentsAt, parentAt, editionKnown, countAllowed, levelLimit, keepAllowed, spreadAllowed, ruleAllowed, nameAllowed, all, highest}
+pub use Rattle.layout.specs.Layout.{headNext}
 
 -- the content bytes of a field
 abbrev pub contentAt : List ℕ → ℕ → ℕ → List ℕ
@@ -17,26 +18,26 @@ contentAt s start len = take len (drop start s)
 
 -- The parts of the first field's content: the edition and the item count.
 abbrev pub editionIn : List ℕ → ℕ
-editionIn content = le16At content 0
+editionIn content = le16At content editionAt
 
 abbrev pub countIn : List ℕ → ℕ
-countIn content = le16At content 2
+countIn content = le16At content countAt
 
 -- The parts of a figure's content: four bytes, the parents in two bytes each, the name.
 abbrev pub ruleIn : List ℕ → ℕ
-ruleIn content = getD content 0 0
+ruleIn content = getD content ruleAt 0
 
 abbrev pub keepIn : List ℕ → ℕ
-keepIn content = getD content 1 0
+keepIn content = getD content keepAt 0
 
 abbrev pub spreadIn : List ℕ → ℕ
-spreadIn content = getD content 2 0
+spreadIn content = getD content spreadAt 0
 
 abbrev pub parentCountIn : List ℕ → ℕ
-parentCountIn content = getD content 3 0
+parentCountIn content = getD content parentCountAt 0
 
 abbrev pub parentIn : List ℕ → ℕ → ℕ
-parentIn content k = le16At content (4 + 2 * k)
+parentIn content k = le16At content (parentAt k)
 
 -- the first p parents
 unfoldable pub parentsIn : List ℕ → ℕ → List ℕ
@@ -44,7 +45,7 @@ parentsIn content zero = []
 parentsIn content (suc p) = parentsIn content p ++ (parentIn content p ∷ [])
 
 abbrev pub nameIn : List ℕ → List ℕ
-nameIn content = drop (4 + 2 * parentCountIn content) content
+nameIn content = drop (parentAt (parentCountIn content)) content
 
 -- an item field's layout, by its tag and content
 unfoldable pub itemIn : ℕ → List ℕ → LayoutItem
@@ -71,10 +72,10 @@ itemLevel ps (entryField name) = 0
 itemLevel ps (figureField rule keep spread parents name) = suc (highest (map (levelOf ps) parents))
 
 -- The causes of a fault in a field that is there whole, by their numbers.
--- 3: length or name wrong: an entry's content is its name, a figure's has at least 4 bytes and its name after the parents
+-- 3: length or name wrong: an entry's content is its name, a figure's has room for the bytes before its parents, and its name after them
 unfoldable pub lengthOrName : ℕ → List ℕ → Bool
 lengthOrName tag content =
-    cond (eqb tag figureTag) (ltb (length content) 4 || not (nameAllowed (nameIn content))) (not (nameAllowed content))
+    cond (eqb tag figureTag) (ltb (length content) parentsAt || not (nameAllowed (nameIn content))) (not (nameAllowed content))
 
 -- 5: rule, keep, spread, or the parent count wrong for the rule
 abbrev pub ruleWrong : ℕ → LayoutItem → Bool
@@ -87,7 +88,7 @@ abbrev pub parentWrong : ℕ → LayoutItem → Bool
 parentWrong i (entryField name) = false
 parentWrong i (figureField rule keep spread parents name) = not (all (λ p. ltb p i) parents)
 
--- 7: level above 64
+-- 7: level above the highest
 abbrev pub levelWrong : List Placed → LayoutItem → Bool
 levelWrong ps it = ltb levelLimit (itemLevel ps it)
 
@@ -95,7 +96,7 @@ levelWrong ps it = ltb levelLimit (itemLevel ps it)
 unfoldable pub headTests : ℕ → List ℕ → List Test
 headTests tag content =
     test 2 (not (eqb tag headTag))
-    ∷ test 3 (not (eqb (length content) 4))
+    ∷ test 3 (not (eqb (length content) headLength))
     ∷ test 4 (not (editionKnown (editionIn content) && countAllowed (editionIn content) (countIn content)))
     ∷ []
 
@@ -144,10 +145,6 @@ scanItem s edition (stopped k at) = stopped k at
 scanItem s edition (going at ps) =
     goOn (judge (itemTests edition ps) s (cutAt s at)) at (placeField s at ps (cutAt s at))
 
--- the offset after the first field
-abbrev pub headNext : ℕ
-headNext = 7
-
 -- the first k items
 unfoldable pub scan : List ℕ → ℕ → ℕ → Scan
 scan s edition zero = going headNext []
@@ -169,7 +166,7 @@ scanLast s (going at ps) =
 
 -- the head's content, where the first field has no fault
 abbrev pub headContent : List ℕ → List ℕ
-headContent s = contentAt s 3 4
+headContent s = contentAt s headerLength headLength
 
 -- the whole sheet
 unfoldable pub scanSheet : List ℕ → Scan

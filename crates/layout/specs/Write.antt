@@ -1,10 +1,9 @@
 -- Writing a sheet, which says the layout without a reader: the bytes of a layout, and the limits within which 01 has it.
 -- Assumes nothing.
 use Prim.Native.Nat.{ℕ, suc, _/_, _%_}
-use mathlib.Core.Path.{_≡_}
-use mathlib.Core.Bool.{Bool, true, false, _&&_}
+use mathlib.Core.Bool.{Bool, true, _&&_}
 use mathlib.Core.List.{List, [], _∷_, _++_, map}
-use lib.Dec.{eqb, leb, ltb}
+use lib.Dec.{leb, ltb}
 use lib.ListN.{length, getD}
 use Rattle.field.specs.Field.{fieldBytes}
 use Rattle.layout.specs.Layout.{LayoutItem, entryField, figureField, Layout, headTag, entryTag, figureTag, lastTag, editionKnown, countAllowed, levelLimit, keepAllowed, spreadAllowed, ruleAllowed, nameAllowed, all, highest}

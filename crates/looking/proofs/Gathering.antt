@@ -11,7 +11,7 @@ use lib.ListN.{length, getD, set, take, length-set}
 use lib.Seq.{take-suc, take-length}
 use Rattle.circuit.specs.Value.{Value, null, kindOf, numberOf}
 use Rattle.circuit.specs.WellFormed.{allWellFormed}
-use Rattle.circuit.specs.Rules.{apply}
+use Rattle.circuit.specs.Rules.{apply, maxParents}
 use Rattle.circuit.specs.Sheet.{Item, entry, figure, size, itemAt, isFigure, parents, parentsOf, evaluate}
 use Rattle.circuit.specs.Table.{Table}
 use Rattle.circuit.specs.Machine.{Looked, Gathered, gathered, gather, before, workOut, lookUp, work}
@@ -19,7 +19,6 @@ use Rattle.circuit.proofs.RuleLaws.{allWellFormed-snoc, and-true}
 use Rattle.layout.specs.Opened.{sheetOf}
 use Rattle.item.specs.Item.{itemOperation, OperationRead, CountRead, ItemField, fieldItem}
 use Rattle.item.proofs.Located.{sheet-ordered, located-field, located-item}
-use Rattle.children.specs.Children.{places}
 use Rattle.children.proofs.Linking.{place-below}
 use Rattle.table.specs.Bytes.{decodeTable, tableForm}
 use Rattle.value.specs.Meaning.{meaning, firstValues}
@@ -50,7 +49,7 @@ pub record Going (s offsets t₀ tags₀ : List ℕ) (numbers₀ : List ℤ) (ge
   pub figured : isFigure (itemAt (sheetOf s) i) ≡ true
   pub at-is : at ≡ getD offsets i 0
   pub count-is : count ≡ length (parents (sheetOf s) i)
-  pub count-most : count ≤ places
+  pub count-most : count ≤ maxParents
   pub within : k ≤ count
   pub length-is : length t ≡ length t₀
   pub tags-length : length tags ≡ length tags₀
@@ -62,8 +61,8 @@ pub record Going (s offsets t₀ tags₀ : List ℕ) (numbers₀ : List ℤ) (ge
   pub values-formed : allWellFormed (firstValues kinds amounts k) ≡ true
   pub flag-is : flag ≡ soFar s i t₀ k .flag
   pub fresh : (b : ℕ) → i ≤ b → NoneFrom b tags₀ generation → NoneFrom b tags generation
-  pub kinds-length : length kinds ≡ places
-  pub amounts-length : length amounts ≡ places
+  pub kinds-length : length kinds ≡ maxParents
+  pub amounts-length : length amounts ≡ maxParents
 
 -- one item more at the end of a list
 gather-snoc : (look : Table → ℕ → Looked) (ps : List ℕ) (p : ℕ) (T : Table)
@@ -99,7 +98,7 @@ gather-all look T ps = gather-take look T ps (length ps) (omega arith) ∙ ap (g
 pub going-start : {s offsets t tags : List ℕ} {numbers : List ℤ} {generation i : ℕ} → Lent s offsets t
     → Memo (sheetOf s) (decodeTable t) tags numbers generation → i < size (sheetOf s) → isFigure (itemAt (sheetOf s) i) ≡ true
     → (count : ℕ) → CountRead (fieldItem s (getD offsets i 0)) count
-    → (kinds : List ℕ) (amounts : List ℤ) → length kinds ≡ places → length amounts ≡ places
+    → (kinds : List ℕ) (amounts : List ℤ) → length kinds ≡ maxParents → length amounts ≡ maxParents
     → Going s offsets t tags numbers generation i (getD offsets i 0) count 0 t tags numbers kinds amounts false
 unfolding gatherTo firstValues allWellFormed
 going-start {s} {offsets} {i = i} lent memo low figured count read kinds amounts a b =

@@ -24,11 +24,10 @@ use Rattle.table.specs.Rows.{setRow}
 use Rattle.table.specs.Record.{width, mayHold, encodeCell}
 use Rattle.table.specs.Bytes.{decodeTable, tableForm, Holdable}
 use Rattle.table.proofs.Tables.{decoded-holdable, decode-setRow, setRow-form, record-fits}
-use Rattle.value.specs.Meaning.{meaning, ofParts}
+use Rattle.value.specs.Meaning.{meaning}
 use Rattle.table.specs.Meaning.{markMeaning, cellMeaning}
 use Rattle.table.specs.declared.Cell.the-variants.{Unk, Held}
 use Rattle.memo.specs.declared.Recall.the-variants.{Known, Unknown}
-use Rattle.value.proofs.Parents.{of-own-parts}
 use Rattle.memo.specs.Memo.{Found, found, seenMeaning, recallMeaning, bit, codeOf, tagOf, foundIn, remembered, knownOf, Memo, NoneFrom}
 use Rattle.circuit.proofs.Parts.{of-own-parts}
 use Rattle.looking.specs.Pass.{Lent, Leaves, Settled}

@@ -4,7 +4,7 @@ ghost use mathlib.Core.Bool.{true, false, _||_};
 ghost use mathlib.Core.Option.{some};
 ghost use Prim.Native.Nat.{ℕ, _+_, _*_, _<_, _≤_};
 ghost use lib.ListN.{length, set};
-ghost use Rattle.children.specs.Children.{places};
+ghost use Rattle.circuit.specs.Rules.{maxParents};
 ghost use Rattle.circuit.specs.Value.{kindOf, numberOf};
 ghost use Rattle.circuit.specs.Table as circuit;
 ghost use Rattle.circuit.specs.Sheet.{size, itemAt, isFigure};
@@ -16,11 +16,11 @@ ghost use Rattle.table.specs.Record.{width};
 ghost use Rattle.table.specs.Meaning.{markMeaning};
 ghost use Rattle.memo.specs.Memo.{found, seenMeaning, recallMeaning, remembered, knownOf, Memo};
 ghost use Rattle.looking.specs.Pass.{Lent, Leaves, Settled};
-use children::PLACES;
 use memo::Recall;
 use memo::Seen;
 use table::Cell;
 use table::Mark;
+use value::MAX_PARENTS;
 use value::Value;
 
 pub fn is_notice(m: Mark) -> bool
@@ -128,13 +128,13 @@ pub fn look_unstored(
 
 // The parent in place k was looked up. Gives whether it or one before it was flagged.
 fn gather(
-    kinds: &mut [u8; PLACES],
-    amounts: &mut [i64; PLACES],
+    kinds: &mut [u8; MAX_PARENTS],
+    amounts: &mut [i64; MAX_PARENTS],
     k: usize,
     flag: bool,
     seen: Seen,
 ) -> bool
-    requires { ⌜ k < places ⌝ }
+    requires { ⌜ k < maxParents ⌝ }
     ensures flagged { λ r. ⌜ r ≡ (flag || (seenMeaning seen .flag)) ⌝ }
     ensures kind { λ _. ⌜ now (kinds .exit) ≡ set (now (kinds .entry)) k (kindOf (seenMeaning seen .value)) ⌝ }
     ensures amount { λ _. ⌜ now (amounts .exit) ≡ set (now (amounts .entry)) k (numberOf (seenMeaning seen .value)) ⌝ }
@@ -160,8 +160,8 @@ pub fn work_out(
 {
     let at = offsets[i];
     let count = item::parent_count(sheet, at);
-    let mut kinds = [0u8; PLACES];
-    let mut amounts = [0i64; PLACES];
+    let mut kinds = [0u8; MAX_PARENTS];
+    let mut amounts = [0i64; MAX_PARENTS];
     let mut flag = false;
     let mut k = 0;
     while k < count {

@@ -13,7 +13,7 @@ use Rattle.layout.specs.Opened.{sheetOf, itemsOf, placedFrom, sheetFrom, sheetR
 use Rattle.layout.specs.Index.{indexWidth, indexBytes}
 use Rattle.layout.proofs.Scan.{opened-ordered}
 use Rattle.layout.proofs.Causes.{opens-faultless}
-use Rattle.layout.proofs.IndexLaws.{index-width}
+use Rattle.layout.proofs.IndexLaws.{index-length}
 use Rattle.table.specs.Bytes.{encodeTable}
 use Rattle.table.proofs.Tables.{length-encodeTable, encoded-tableForm}
 use Rattle.office.specs.Office.{Office, openOn, runOn}
@@ -43,7 +43,7 @@ module _ (s : List ℕ) (edition : ℕ) (ps : List Placed) (reads : readSheet s 
       is = runs s edition ps reads cs (start s edition ps reads o) (start-holdable s edition ps reads o) (start-within s edition ps reads o)
 
       indexed : length (indexBytes ps) ≡ indexWidth * size S
-      indexed = index-width ps ∙ ap (λ n. indexWidth * n) (sym (sized s edition ps reads))
+      indexed = index-length ps ∙ ap (λ n. indexWidth * n) (sym (sized s edition ps reads))
 
       formed : ¬ TableBroken S (encodeTable S T)
       formed =

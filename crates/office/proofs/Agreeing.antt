@@ -27,7 +27,7 @@ use Rattle.layout.specs.Read.{Placed, Scan, going, stopped, placeField, goOn, j
 use Rattle.layout.specs.Opened.{sheetFrom, sheetOf, sheetRead}
 use Rattle.layout.specs.Index.{indexBytes}
 use Rattle.layout.proofs.Scan.{opened-ordered}
-use Rattle.layout.proofs.IndexLaws.{index-width}
+use Rattle.layout.proofs.IndexLaws.{index-length}
 use Rattle.field.specs.Field.{cutAt}
 use Rattle.field.specs.declared.Cut.{Cut}
 use Rattle.field.specs.declared.Cut.the-variants.{Field, Short, Absent}
@@ -272,7 +272,7 @@ module _ (s : List ℕ) (edition : ℕ) (ps : List Placed) (reads : readSheet s 
 
   performs : (T : Table) (c : Call) → Holdable (sheetRead edition ps) T → Within (sheetRead edition ps) T
       → callOn s (at T) c ≡ givenBy (sheetRead edition ps) (indexBytes ps) (perform (sheetRead edition ps) T c)
-  performs = call-performs s edition ps reads (index-width ps) sized ordered
+  performs = call-performs s edition ps reads (index-length ps) sized ordered
 
   -- the accepted posts of a list are the postings that it makes
   posts-made : (cs : List Call) (T : Table) → Holdable (sheetRead edition ps) T → Within (sheetRead edition ps) T
@@ -290,7 +290,7 @@ module _ (s : List ℕ) (edition : ℕ) (ps : List Placed) (reads : readSheet s 
 
   pub runs : (cs : List Call) (T : Table) → Holdable (sheetRead edition ps) T → Within (sheetRead edition ps) T
       → runOn s (at T) cs ≡ at (run (sheetRead edition ps) T cs)
-  runs = run-runs s edition ps reads (index-width ps) sized ordered
+  runs = run-runs s edition ps reads (index-length ps) sized ordered
 
   -- an ask after a list of calls
   asks : (cs : List Call) (T : Table) (i : ℕ) → Holdable (sheetRead edition ps) T → Within (sheetRead edition ps) T

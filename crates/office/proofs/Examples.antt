@@ -77,7 +77,7 @@ fullTable = nullRecord ++ nullRecord ++ nullRecord ++ nullRecord ++ nullRecord
 
 -- to unfold this is to unfold all that the calls compute with
 unfoldable pub calls : List ℕ → Office → Call → Given
-unfolding callOn openOn reading concat sameBytes indexWidth indexBytes tests firstCause postedValue partsOf effect tableForm encodeTable rowsBelow allBelow encodeCell decodeCell codesForm numberForm recordForm leAt leBytes limit inRange spreadMeant machineItem
+unfolding callOn openOn reading concat sameBytes indexBytes tests firstCause postedValue partsOf effect tableForm encodeTable rowsBelow allBelow encodeCell decodeCell codesForm numberForm recordForm leAt leBytes limit inRange spreadMeant machineItem
 calls s kept c = callOn s kept c
 
 -- the openings write this index and these tables

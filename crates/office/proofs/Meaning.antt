@@ -34,7 +34,7 @@ use Rattle.layout.specs.Index.{indexWidth, bytes32, indexBytes}
 use Rattle.layout.proofs.Tests.{Tells, holds, fails, tells-eq}
 use Rattle.layout.proofs.Exactly.{written-opens, places-layout, places-offset, opened-written, layout-unique}
 use Rattle.layout.proofs.Causes.{opens-faultless}
-use Rattle.layout.proofs.IndexLaws.{index-width, opened-entry}
+use Rattle.layout.proofs.IndexLaws.{index-length, opened-entry}
 use Rattle.layout.proofs.WrittenBytes.{Bytes-append}
 use Rattle.table.specs.Rows.{row}
 use Rattle.table.specs.Record.{width, kindIn, markIn, numberIn, cellCoded, encodeCell, decodeCell}
@@ -146,7 +146,6 @@ unfolding machineItem
 item-at l i = List·getD-map machineItem (l .items) i (entryField [])
 
 pub opening-writes : (how : Opening) (s : List ℕ) (kept : Office) (f : FollowsLayout s kept) → Writes how (f .layout) (openOn how s kept)
-unfolding indexWidth
 opening-writes how s kept f = subst (Writes how l) (sym (fits-gives s kept f how)) wrote
   where
     l : Layout
@@ -173,7 +172,7 @@ opening-writes how s kept f = subst (Writes how l) (sym (fits-gives s kept f how
         record {
           number-0 = refl;
           offset-0 = refl;
-          index-long = index-width ps ∙ ap (λ n. indexWidth * n) (places-counted s kept f);
+          index-long = index-length ps ∙ ap (λ n. indexWidth * n) (places-counted s kept f);
           index-bytes = index-bytes ps;
           offsets = λ j low. opened-entry s (l .edition) ps (fits-reads s kept f) j (omega (arith, places-counted s kept f)) ∙ places-offset l j low;
           table-long = length-encodeTable S (opened how S) ∙ ap (λ n. width * n) sized;

@@ -67,7 +67,6 @@ module _ (s : List ℕ) (edition : ℕ) (ps : List Placed) (reads : readSheet s 
   counted = opened-length s edition ps reads ∙ count-same s
 
   words : SheetWords s
-  unfolding indexWidth
   words =
       record {
         count-is = ap size is ∙ sized s edition ps reads ∙ counted;

@@ -1,7 +1,8 @@
 // Prints a fixed set of values, and what turns the printer back.
 ghost use mathlib.Core.Path.{_≡_};
 ghost use lib.ListN.{length};
-ghost use Rattle.printer.specs.Printing.{partOf, withFront};
+ghost use Rattle.printer.specs.Printing.{partOf};
+ghost use Rattle.field.specs.Bytes.{over};
 use libc::STDOUT_FILENO;
 use printer::Printed;
 use value::LIMIT;
@@ -22,7 +23,7 @@ fn show(kind: u64, number: i64) {
 
 // The worker's answer, and then all the scratch bytes.
 fn show_all(kind: u64, number: i64, scratch: &mut [u8])
-    ensures { λ r. ⌜ now (scratch .exit) ≡ withFront (partOf kind number (length (now (scratch .entry)))) (now (scratch .entry)) ⌝ }
+    ensures { λ r. ⌜ now (scratch .exit) ≡ over (partOf kind number (length (now (scratch .entry)))) (now (scratch .entry)) ⌝ }
 {
     match printer::print_into(kind, number, scratch) {
         Printed::Length(n) => {

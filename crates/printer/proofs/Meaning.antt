@@ -18,7 +18,8 @@ use Rattle.value.specs.Meaning.{partsOf}
 use Rattle.circuit.proofs.Parts.{parts-own, parts-some}
 use Rattle.printer.specs.declared.Printed.{Printed}
 use Rattle.printer.specs.declared.Printed.the-variants.{Length, Refused}
-use Rattle.printer.specs.Printing.{printed, textOf, noValue, scratchShort, printCause, partOf, withFront}
+use Rattle.field.specs.Bytes.{over}
+use Rattle.printer.specs.Printing.{printed, textOf, noValue, scratchShort, printCause, partOf}
 use Rattle.printer.specs.Contract.{answerOf, refusalOf, lengthOf, codeOf, Prints, PrintsCode}
 use Rattle.printer.proofs.Values.{part-length}
 use Rattle.printer.proofs.Notation.{printed-fits}
@@ -85,5 +86,5 @@ pub coded : {x z : ℤ} {a : Printed} (kind : ℕ) (s s′ : List ℕ) (y : ℤ)
 coded {x} {z} {a} kind s s′ y e p c =
     record {
       answers = sym c ∙ ap codeOf (p .answers) ∙ ap (λ u. codeOf (answerOf kind u (length s))) e;
-      bytes = p .bytes ∙ ap (λ u. withFront (partOf kind u (length s)) s) e;
+      bytes = p .bytes ∙ ap (λ u. over (partOf kind u (length s)) s) e;
     }

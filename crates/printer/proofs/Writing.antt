@@ -9,7 +9,7 @@ use native.Mathlib.Omega.{arith}
 use lib.ListN.{length, take, drop, set, getD, length-set, take-append-drop}
 use lib.Seq.{take-suc-set, drop-set-lt, drop-drop, take-suc, take-length}
 use Rattle.printer.specs.Decimal.{digit, digits}
-use Rattle.printer.specs.Printing.{withFront}
+use Rattle.field.specs.Bytes.{over}
 use Rattle.printer.specs.Contract.{WithDigits}
 use Rattle.printer.proofs.Digits.{places, digits-places, digits-small, below-pow, pow-pos}
 
@@ -111,7 +111,7 @@ copy-step mark s₀ s k w h l =
       size = length-set s k (getD mark k 0) ∙ w .size;
     }
 
-pub copy-finish : (mark s₀ s : List ℕ) (k : ℕ) → Copying mark s₀ s k → k ≡ length mark → s ≡ withFront mark s₀
+pub copy-finish : (mark s₀ s : List ℕ) (k : ℕ) → Copying mark s₀ s k → k ≡ length mark → s ≡ over mark s₀
 copy-finish mark s₀ s k w e =
     sym (take-append-drop k s)
     ∙ ap (λ f. f ++ drop k s) (w .front ∙ ap (λ n. take n mark) e ∙ take-length mark)

@@ -9,7 +9,8 @@ use lib.ListN.{length, take, drop}
 use Rattle.printer.specs.Decimal.{digits}
 use Rattle.printer.specs.declared.Printed.{Printed}
 use Rattle.printer.specs.declared.Printed.the-variants.{Length, Refused}
-use Rattle.printer.specs.Printing.{printCause, partOf, withFront}
+use Rattle.field.specs.Bytes.{over}
+use Rattle.printer.specs.Printing.{printCause, partOf}
 
 -- the length of the part, or the number of the cause
 abbrev pub answerOf : ℕ → ℤ → ℕ → Printed
@@ -38,14 +39,14 @@ pub record WithDigits (m at : ℕ) (before : List ℕ) (next : ℕ) (after : Lis
 -- a text written at the front of bytes, and its length
 pub record Front (text before : List ℕ) (count : ℕ) (after : List ℕ) : Type 0 where
   pub size : count ≡ length text
-  pub bytes : after ≡ withFront text before
+  pub bytes : after ≡ over text before
 
 -- a call of the printer: its arguments, with the scratch bytes before it, its answer, and the scratch bytes after it
 pub record Prints (kind : ℕ) (z : ℤ) (before : List ℕ) (answer : Printed) (after : List ℕ) : Type 0 where
   pub answers : answer ≡ answerOf kind z (length before)
-  pub bytes : after ≡ withFront (partOf kind z (length before)) before
+  pub bytes : after ≡ over (partOf kind z (length before)) before
 
 -- the same with the C form's answer
 pub record PrintsCode (kind : ℕ) (z : ℤ) (before : List ℕ) (code : ℤ) (after : List ℕ) : Type 0 where
   pub answers : code ≡ codeOf (answerOf kind z (length before))
-  pub bytes : after ≡ withFront (partOf kind z (length before)) before
+  pub bytes : after ≡ over (partOf kind z (length before)) before

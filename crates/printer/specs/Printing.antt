@@ -1,11 +1,10 @@
 -- The printer: what is printed of a value, and what turns a call back. Assumes nothing.
 use Prim.Native.Nat.{ℕ}
 use mathlib.Core.Bool.{Bool, cond}
-use mathlib.Core.List.{List, [], _∷_, _++_}
+use mathlib.Core.List.{List, [], _∷_}
 use mathlib.Core.Option.{Option, none, some}
 use lib.Dec.{eqb, ltb}
 use lib.IntN.{ℤ}
-use lib.ListN.{length, drop}
 use Rattle.circuit.specs.Calls.{isNone, test, firstCause}
 use Rattle.circuit.specs.Value.{Value, null, out, num}
 use Rattle.value.specs.Meaning.{partsOf}
@@ -40,7 +39,3 @@ printCause kind z count = firstCause (test 10 (noValue kind z) ∷ test 15 (scra
 -- the part that is handed back: the value's text, and nothing if the call is turned back
 abbrev pub partOf : ℕ → ℤ → ℕ → List ℕ
 partOf kind z count = cond (eqb (printCause kind z count) 0) (textOf (partsOf kind z)) []
-
--- bytes with a text at their front; the bytes after it are those that were there
-abbrev pub withFront : List ℕ → List ℕ → List ℕ
-withFront text bytes = text ++ drop (length text) bytes

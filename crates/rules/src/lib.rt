@@ -10,6 +10,7 @@ ghost use Rattle.circuit.specs.Rules as rules;
 ghost use Rattle.circuit.specs.WellFormed.{allWellFormed};
 ghost use Rattle.value.specs.Meaning.{meaning, firstValues};
 ghost use Rattle.rules.specs.Operations.{operationMeaning, allows, Applied};
+use value::MAX_PARENTS;
 use value::Value;
 
 // A share is counted in parts of this whole.
@@ -33,7 +34,7 @@ pub fn operation_of(code: u8, count: usize) -> Operation
 {
     match code {
         1 => match count {
-            1..=16 => Operation::Sum,
+            1..=MAX_PARENTS => Operation::Sum,
             _ => Operation::Refused,
         },
         2 => match count {
@@ -41,11 +42,11 @@ pub fn operation_of(code: u8, count: usize) -> Operation
             _ => Operation::Refused,
         },
         3 => match count {
-            1..=16 => Operation::Smallest,
+            1..=MAX_PARENTS => Operation::Smallest,
             _ => Operation::Refused,
         },
         4 => match count {
-            1..=16 => Operation::Largest,
+            1..=MAX_PARENTS => Operation::Largest,
             _ => Operation::Refused,
         },
         5 => match count {
@@ -57,7 +58,7 @@ pub fn operation_of(code: u8, count: usize) -> Operation
             _ => Operation::Refused,
         },
         7 => match count {
-            1..=16 => Operation::Count,
+            1..=MAX_PARENTS => Operation::Count,
             _ => Operation::Refused,
         },
         8 => match count {

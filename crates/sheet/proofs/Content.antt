@@ -5,6 +5,7 @@ use Prim.Native.Nat.{ℕ, zero, suc, _+_, _*_, _-_, _≤_, _<_}
 use native.Mathlib.Omega.{arith}
 use lib.ListN.{getD, take, drop}
 use lib.Seq.{drop-drop, getD-take, getD-drop}
+use Rattle.layout.specs.Layout.{parentsAt, parentWidth, parentAt}
 use Rattle.field.specs.Field.{le16, le16At}
 use Rattle.layout.specs.Read.{contentAt, parentsIn, parentCountIn, nameIn}
 use Rattle.sheet.specs.Check.{numbersAt}
@@ -30,17 +31,17 @@ module _ (s : List ℕ) (start len : ℕ) where
       let e : start + (k + 1) ≡ start + k + 1 = omega arith in
       ap₂ le16 (content-at k (omega arith)) (content-at (k + 1) h ∙ ap (λ j. getD s j 0) e)
 
-  pub parents-are : (p : ℕ) → 4 + 2 * p ≤ len → parentsIn (contentAt s start len) p ≡ numbersAt s (start + 4) p
+  pub parents-are : (p : ℕ) → parentAt p ≤ len → parentsIn (contentAt s start len) p ≡ numbersAt s (start + parentsAt) p
   unfolding parentsIn numbersAt
   parents-are zero h = refl
   parents-are (suc p) h =
-      let e : start + (4 + 2 * p) ≡ start + 4 + 2 * p = omega arith in
+      let e : start + parentAt p ≡ start + parentsAt + parentWidth * p = omega arith in
       ap₂ {C = List ℕ} (λ xs y. xs ++ (y ∷ []))
       (parents-are p (omega arith))
-      (content16 (4 + 2 * p) (omega arith) ∙ ap (le16At s) e)
+      (content16 (parentAt p) (omega arith) ∙ ap (le16At s) e)
 
-  pub name-is : (p : ℕ) → p ≡ parentCountIn (contentAt s start len) → nameIn (contentAt s start len) ≡ contentAt s (start + (4 + 2 * p)) (len - (4 + 2 * p))
+  pub name-is : (p : ℕ) → p ≡ parentCountIn (contentAt s start len) → nameIn (contentAt s start len) ≡ contentAt s (start + parentAt p) (len - parentAt p)
   name-is p e =
-      ap (λ q. drop (4 + 2 * q) (contentAt s start len)) (sym e)
-      ∙ drop-take (4 + 2 * p) len (drop start s)
-      ∙ ap (take (len - (4 + 2 * p))) (drop-drop (4 + 2 * p) start s)
+      ap (λ q. drop (parentAt q) (contentAt s start len)) (sym e)
+      ∙ drop-take (parentAt p) len (drop start s)
+      ∙ ap (take (len - parentAt p)) (drop-drop (parentAt p) start s)

@@ -15,7 +15,7 @@ use Rattle.field.specs.declared.Cut.the-variants.{Field, Short, Absent}
 use Rattle.field.proofs.Cut.{the-type}
 use Rattle.field.proofs.Cutting.{field-iff, content-length}
 use Rattle.circuit.specs.Calls.{Test, firstCause}
-use Rattle.layout.specs.Layout.{headTag, lastTag, editionKnown, countAllowed}
+use Rattle.layout.specs.Layout.{headTag, lastTag, editionKnown, countAllowed, editionAt, countAt, headLength}
 use Rattle.layout.specs.Read.{contentAt, editionIn, countIn, headTests, lastTests, judge, Placed, going, scanLast, conclude}
 use Rattle.sheet.specs.Check.{checkedOf}
 use Rattle.sheet.specs.declared.Checked.{Checked}
@@ -41,20 +41,20 @@ module _ (s : List ℕ) (tag start len : ℕ) (fits : start + len ≤ length s) 
 
   pub head-tag : (tag ≡ headTag → ⊥) → 2 ≡ cause
   unfolding headTests firstCause
-  head-tag h = simp (ne-eqb tag 1 h)
+  head-tag h = simp (ne-eqb tag headTag h)
 
-  pub head-length : tag ≡ headTag → (len ≡ 4 → ⊥) → 3 ≡ cause
+  pub head-length : tag ≡ headTag → (len ≡ headLength → ⊥) → 3 ≡ cause
   unfolding headTests firstCause
   head-length t h =
       let n = part-length s start len fits in
-      simp (eq-eqb tag 1 t, ne-eqb (length (contentAt s start len)) 4 (λ e. h (sym n ∙ e)))
+      simp (eq-eqb tag headTag t, ne-eqb (length (contentAt s start len)) headLength (λ e. h (sym n ∙ e)))
 
-  module _ (t : tag ≡ headTag) (four : len ≡ 4) where
+  module _ (t : tag ≡ headTag) (four : len ≡ headLength) where
     pub edition-at : editionIn (contentAt s start len) ≡ le16At s start
-    edition-at = let z : start + 0 ≡ start = omega arith in content16 s start len 0 (omega arith) ∙ ap (le16At s) z
+    edition-at = let z : start + editionAt ≡ start = omega arith in content16 s start len editionAt (omega arith) ∙ ap (le16At s) z
 
-    pub count-at : countIn (contentAt s start len) ≡ le16At s (start + 2)
-    count-at = content16 s start len 2 (omega arith)
+    pub count-at : countIn (contentAt s start len) ≡ le16At s (start + countAt)
+    count-at = content16 s start len countAt (omega arith)
 
     abbrev fine : Bool
     fine = editionKnown (editionIn (contentAt s start len)) && countAllowed (editionIn (contentAt s start len)) (countIn (contentAt s start len))
@@ -63,15 +63,15 @@ module _ (s : List ℕ) (tag start len : ℕ) (fits : start + len ≤ length s) 
     unfolding headTests firstCause
     head-cause =
         let n = part-length s start len fits in
-        simp (eq-eqb tag 1 t, eq-eqb (length (contentAt s start len)) 4 (n ∙ four))
+        simp (eq-eqb tag headTag t, eq-eqb (length (contentAt s start len)) headLength (n ∙ four))
 
     pub head-edition : editionKnown (le16At s start) ≡ false → 4 ≡ cause
     head-edition e = sym (head-cause ∙ rw (edition-at, e))
 
-    pub head-count : editionKnown (le16At s start) ≡ true → countAllowed (le16At s start) (le16At s (start + 2)) ≡ false → 4 ≡ cause
+    pub head-count : editionKnown (le16At s start) ≡ true → countAllowed (le16At s start) (le16At s (start + countAt)) ≡ false → 4 ≡ cause
     head-count e f = sym (head-cause ∙ rw (edition-at, count-at, e, f))
 
-    pub head-sound : editionKnown (le16At s start) ≡ true → countAllowed (le16At s start) (le16At s (start + 2)) ≡ true → 0 ≡ cause
+    pub head-sound : editionKnown (le16At s start) ≡ true → countAllowed (le16At s start) (le16At s (start + countAt)) ≡ true → 0 ≡ cause
     head-sound e f = sym (head-cause ∙ rw (edition-at, count-at, e, f))
 
 -- The last field.
@@ -88,16 +88,16 @@ module _ (s : List ℕ) (at edition count : ℕ) (ps : List Placed) where
 
     pub end-tag : (tag ≡ lastTag → ⊥) → Refused 2 at ≡ found
     unfolding lastTests firstCause
-    end-tag h = rw e (simp (ne-eqb tag 4 h))
+    end-tag h = rw e (simp (ne-eqb tag lastTag h))
 
     pub end-length : tag ≡ lastTag → (len ≡ 0 → ⊥) → Refused 3 at ≡ found
     unfolding lastTests firstCause
-    end-length t h = rw e (simp (eq-eqb tag 4 t, ne-eqb (length (contentAt s start len)) 0 (λ z. h (sym long ∙ z))))
+    end-length t h = rw e (simp (eq-eqb tag lastTag t, ne-eqb (length (contentAt s start len)) 0 (λ z. h (sym long ∙ z))))
 
     pub end-trailing : tag ≡ lastTag → len ≡ 0 → next < length s → Refused 2 next ≡ found
     unfolding lastTests firstCause
-    end-trailing t z h = rw e (simp (eq-eqb tag 4 t, eq-eqb (length (contentAt s start len)) 0 (long ∙ z), lt-ltb next (length s) h))
+    end-trailing t z h = rw e (simp (eq-eqb tag lastTag t, eq-eqb (length (contentAt s start len)) 0 (long ∙ z), lt-ltb next (length s) h))
 
     pub end-sound : tag ≡ lastTag → len ≡ 0 → length s ≤ next → length ps ≡ count → Opens edition count ≡ found
     unfolding lastTests firstCause
-    end-sound t z h n = rw e (simp (eq-eqb tag 4 t, eq-eqb (length (contentAt s start len)) 0 (long ∙ z), le-ltb next (length s) h, n))
+    end-sound t z h n = rw e (simp (eq-eqb tag lastTag t, eq-eqb (length (contentAt s start len)) 0 (long ∙ z), le-ltb next (length s) h, n))

@@ -2,14 +2,14 @@
 use mathlib.Core.Path.{_≡_, refl, sym, ap, ap₂, _∙_}
 use mathlib.Core.Bool.{Bool, true, false, cond, not, _&&_}
 use mathlib.Core.List.{List, [], _∷_, map}
-use Prim.Native.Nat.{ℕ, suc, _+_, _*_, _-_, _≤_, _<_}
+use Prim.Native.Nat.{ℕ, suc, _+_, _-_, _≤_, _<_}
 use native.Mathlib.Omega.{arith}
 use lib.Dec.{ltb}
 use lib.ListN.{length, getD, List·getD-map}
 use lib.Seq.{getD-take}
 use borrow.Author.Tests.{ltb-true, lt-ltb, le-ltb, ne-eqb}
 use Rattle.circuit.specs.Calls.{firstCause}
-use Rattle.layout.specs.Layout.{entryField, entryTag, figureTag, levelLimit, keepAllowed, spreadAllowed, ruleAllowed, nameAllowed, all, highest}
+use Rattle.layout.specs.Layout.{entryField, entryTag, figureTag, levelLimit, keepAllowed, spreadAllowed, ruleAllowed, nameAllowed, all, highest, ruleAt, keepAt, spreadAt, parentCountAt, parentsAt, parentAt}
 use Rattle.layout.specs.Read.{contentAt, ruleIn, keepIn, spreadIn, parentCountIn, parentsIn, nameIn, itemIn, Placed, placed, levelOf, itemLevel, lengthOrName, itemTests}
 use Rattle.sheet.specs.Check.{judgedOf, judgedItem, LevelsAt, numbersAt, levelOver}
 use Rattle.sheet.specs.declared.Judged.the-variants.{Sound, Fault}
@@ -43,7 +43,7 @@ module _ (edition : ℕ) (ps : List Placed) (content : List ℕ) where
 
   pub other-judged : (tag : ℕ) → (tag ≡ entryTag → ⊥) → (tag ≡ figureTag → ⊥) → judgedItem edition ps tag content ≡ Fault 2
   unfolding itemTests firstCause
-  other-judged tag a b = simp (ne-eqb tag 2 a, ne-eqb tag 3 b)
+  other-judged tag a b = simp (ne-eqb tag entryTag a, ne-eqb tag figureTag b)
 
 -- A figure, by its tests in order.
 figureCause : Bool → Bool → Bool → Bool → ℕ
@@ -53,59 +53,59 @@ module _ (edition : ℕ) (ps : List Placed) (content : List ℕ) where
   abbrev listed : List ℕ
   listed = parentsIn content (parentCountIn content)
 
-  figure-short-cause : length content < 4 → firstCause (itemTests edition ps figureTag content) ≡ 3
+  figure-short-cause : length content < parentsAt → firstCause (itemTests edition ps figureTag content) ≡ 3
   unfolding itemTests firstCause lengthOrName
-  figure-short-cause h = simp (lt-ltb (length content) 4 h)
+  figure-short-cause h = simp (lt-ltb (length content) parentsAt h)
 
-  figure-cause : 4 ≤ length content
+  figure-cause : parentsAt ≤ length content
       → firstCause (itemTests edition ps figureTag content)
       ≡ figureCause (nameAllowed (nameIn content))
       (ruleAllowed (ruleIn content) (length listed) && keepAllowed (keepIn content) && spreadAllowed edition (spreadIn content))
       (all (λ q. ltb q (length ps)) listed)
       (ltb levelLimit (suc (highest (map (levelOf ps) listed))))
   unfolding itemTests firstCause lengthOrName itemIn figureCause
-  figure-cause h = simp (le-ltb (length content) 4 h)
+  figure-cause h = simp (le-ltb (length content) parentsAt h)
 
   figure-level : itemLevel ps (itemIn figureTag content) ≡ suc (highest (map (levelOf ps) listed))
   unfolding itemIn
   figure-level = refl
 
 module _ (s : List ℕ) (edition start len : ℕ) (fits : start + len ≤ length s) (ps : List Placed) where
-  pub figure-short : len < 4 → Fault 3 ≡ judgedItem edition ps figureTag (contentAt s start len)
+  pub figure-short : len < parentsAt → Fault 3 ≡ judgedItem edition ps figureTag (contentAt s start len)
   figure-short h =
       let n = part-length s start len fits in
       let e = figure-short-cause edition ps (contentAt s start len) (omega arith) in
       sym (ap (λ k. judgedOf k (itemLevel ps (itemIn figureTag (contentAt s start len)))) e)
 
-  module _ (p : ℕ) (is : p ≡ getD s (start + 3) 0) (four : 4 ≤ len) where
+  module _ (p : ℕ) (is : p ≡ getD s (start + parentCountAt) 0) (four : parentsAt ≤ len) where
     counted : parentCountIn (contentAt s start len) ≡ p
-    counted = content-at s start len 3 four ∙ sym is
+    counted = content-at s start len parentCountAt four ∙ sym is
 
     judged-by : (k : ℕ) → firstCause (itemTests edition ps figureTag (contentAt s start len)) ≡ suc k → Fault (suc k) ≡ judgedItem edition ps figureTag (contentAt s start len)
     judged-by k e = sym (ap (λ n. judgedOf n (itemLevel ps (itemIn figureTag (contentAt s start len)))) e)
 
-    pub figure-narrow : len < 4 + 2 * p → Fault 3 ≡ judgedItem edition ps figureTag (contentAt s start len)
+    pub figure-narrow : len < parentAt p → Fault 3 ≡ judgedItem edition ps figureTag (contentAt s start len)
     unfolding figureCause nameAllowed
     figure-narrow h =
         let n = part-length s start len fits in
-        let z : len - (4 + 2 * p) ≡ 0 = omega arith in
-        let m : nameIn (contentAt s start len) ≡ [] = name-is s start len p (sym counted) ∙ ap (contentAt s (start + (4 + 2 * p))) z in
+        let z : len - parentAt p ≡ 0 = omega arith in
+        let m : nameIn (contentAt s start len) ≡ [] = name-is s start len p (sym counted) ∙ ap (contentAt s (start + parentAt p)) z in
         judged-by 2 (figure-cause edition ps (contentAt s start len) (omega arith) ∙ rw m)
 
-    module _ (wide : 4 + 2 * p ≤ len) where
+    module _ (wide : parentAt p ≤ len) where
       abbrev named : Bool
-      named = nameAllowed (contentAt s (start + (4 + 2 * p)) (len - (4 + 2 * p)))
+      named = nameAllowed (contentAt s (start + parentAt p) (len - parentAt p))
 
       abbrev ruled : Bool
-      ruled = ruleAllowed (getD s (start + 0) 0) p && keepAllowed (getD s (start + 1) 0) && spreadAllowed edition (getD s (start + 2) 0)
+      ruled = ruleAllowed (getD s (start + ruleAt) 0) p && keepAllowed (getD s (start + keepAt) 0) && spreadAllowed edition (getD s (start + spreadAt) 0)
 
       abbrev below : Bool
-      below = all (λ q. ltb q (length ps)) (numbersAt s (start + 4) p)
+      below = all (λ q. ltb q (length ps)) (numbersAt s (start + parentsAt) p)
 
       abbrev above : ℕ
-      above = suc (highest (map (levelOf ps) (numbersAt s (start + 4) p)))
+      above = suc (highest (map (levelOf ps) (numbersAt s (start + parentsAt) p)))
 
-      parents-listed : parentsIn (contentAt s start len) (parentCountIn (contentAt s start len)) ≡ numbersAt s (start + 4) p
+      parents-listed : parentsIn (contentAt s start len) (parentCountIn (contentAt s start len)) ≡ numbersAt s (start + parentsAt) p
       parents-listed = ap (parentsIn (contentAt s start len)) counted ∙ parents-are s start len p wide
 
       cause-at : firstCause (itemTests edition ps figureTag (contentAt s start len)) ≡ figureCause named ruled below (ltb levelLimit above)
@@ -114,9 +114,9 @@ module _ (s : List ℕ) (edition start len : ℕ) (fits : start + len ≤ length
           let content : List ℕ = contentAt s start len in
           let l : length (parentsIn content (parentCountIn content)) ≡ p = parents-count content (parentCountIn content) ∙ counted in
           let m = name-is s start len p (sym counted) in
-          let r₀ = content-at s start len 0 (omega arith) in
-          let r₁ = content-at s start len 1 (omega arith) in
-          let r₂ = content-at s start len 2 (omega arith) in
+          let r₀ = content-at s start len ruleAt (omega arith) in
+          let r₁ = content-at s start len keepAt (omega arith) in
+          let r₂ = content-at s start len spreadAt (omega arith) in
           let q = parents-listed in
           figure-cause edition ps content (omega arith)
           ∙ cc
@@ -132,14 +132,14 @@ module _ (s : List ℕ) (edition start len : ℕ) (fits : start + len ≤ length
       unfolding figureCause
       figure-unruled e f = judged-by 4 (cause-at ∙ rw (e, f))
 
-      module _ (e : named ≡ true) (f : ruled ≡ true) (i : ℕ) (count : length ps ≡ i) (levels : List ℕ) (at : LevelsAt levels ps) (level : ℕ) (is′ : level ≡ levelOver i levels (numbersAt s (start + 4) p)) where
+      module _ (e : named ≡ true) (f : ruled ≡ true) (i : ℕ) (count : length ps ≡ i) (levels : List ℕ) (at : LevelsAt levels ps) (level : ℕ) (is′ : level ≡ levelOver i levels (numbersAt s (start + parentsAt) p)) where
         level-cases : level ≡ cond below above 0
         unfolding levelOver
         level-cases = is′ ∙ rw (← count) (go below refl)
           where
             go : (b : Bool) → below ≡ b
-                → cond b (suc (highest (map (λ q. getD levels q 0) (numbersAt s (start + 4) p)))) 0 ≡ cond b above 0
-            go true x = ap (λ l. suc (highest l)) (levels-are levels ps at (numbersAt s (start + 4) p) x)
+                → cond b (suc (highest (map (λ q. getD levels q 0) (numbersAt s (start + parentsAt) p)))) 0 ≡ cond b above 0
+            go true x = ap (λ l. suc (highest l)) (levels-are levels ps at (numbersAt s (start + parentsAt) p) x)
             go false x = refl
 
         pub figure-above : level ≡ 0 → Fault 6 ≡ judgedItem edition ps figureTag (contentAt s start len)

@@ -10,8 +10,9 @@ use native.Mathlib.Nat.{add-suc}
 use lib.ListN.{length, getD, take, drop, set, length-append, length-drop}
 use lib.Seq.{take-suc, take-add, drop-cons, set-at, getD-drop, append-snoc}
 use Rattle.field.specs.Field.{le16At}
-use Rattle.layout.specs.Layout.{all, highest}
-use Rattle.sheet.specs.Check.{over, numbersAt}
+use Rattle.layout.specs.Layout.{all, highest, parentWidth}
+use Rattle.field.specs.Bytes.{over}
+use Rattle.sheet.specs.Check.{numbersAt}
 
 pub and-false : (b : Bool) → b && false ≡ false
 and-false true = refl
@@ -57,18 +58,18 @@ module _ (f : ℕ → Bool) where
       ∙ ap (λ b. b && all f (take (len - (k + 1)) (drop (k + 1) (drop at s)))) p
 
   -- the same of numbers of two bytes
-  pub all-numbers-more : (s : List ℕ) (at k : ℕ) → all f (numbersAt s at (k + 1)) ≡ all f (numbersAt s at k) && f (le16At s (at + 2 * k))
+  pub all-numbers-more : (s : List ℕ) (at k : ℕ) → all f (numbersAt s at (k + 1)) ≡ all f (numbersAt s at k) && f (le16At s (at + parentWidth * k))
   unfolding numbersAt
-  all-numbers-more s at k = rw add-one (all-snoc (numbersAt s at k) (le16At s (at + 2 * k)))
+  all-numbers-more s at k = rw add-one (all-snoc (numbersAt s at k) (le16At s (at + parentWidth * k)))
 
-  pub all-numbers-fail : (s : List ℕ) (at k d : ℕ) → f (le16At s (at + 2 * k)) ≡ false → all f (numbersAt s at (k + 1 + d)) ≡ false
+  pub all-numbers-fail : (s : List ℕ) (at k d : ℕ) → f (le16At s (at + parentWidth * k)) ≡ false → all f (numbersAt s at (k + 1 + d)) ≡ false
   unfolding numbersAt
   all-numbers-fail s at k zero e =
       let z : k + 1 + zero ≡ k + 1 = omega arith in
       rw z (all-numbers-more s at k ∙ ap (λ b. all f (numbersAt s at k) && b) e ∙ and-false (all f (numbersAt s at k)))
   all-numbers-fail s at k (suc d) e =
       let r = all-numbers-fail s at k d e in
-      rw (add-suc (k + 1) d, all-snoc (numbersAt s at (k + 1 + d)) (le16At s (at + 2 * (k + 1 + d))), r)
+      rw (add-suc (k + 1) d, all-snoc (numbersAt s at (k + 1 + d)) (le16At s (at + parentWidth * (k + 1 + d))), r)
 
 pub highest-snoc : (xs : List ℕ) (y : ℕ) → highest (xs ++ (y ∷ [])) ≡ max (highest xs) y
 unfolding highest
@@ -76,11 +77,11 @@ highest-snoc [] y = omega arith
 highest-snoc (x ∷ xs) y = rw (highest-snoc xs y) (omega arith)
 
 pub highest-numbers-more : (f : ℕ → ℕ) (s : List ℕ) (at k : ℕ)
-    → highest (map f (numbersAt s at (k + 1))) ≡ max (highest (map f (numbersAt s at k))) (f (le16At s (at + 2 * k)))
+    → highest (map f (numbersAt s at (k + 1))) ≡ max (highest (map f (numbersAt s at k))) (f (le16At s (at + parentWidth * k)))
 unfolding numbersAt
 highest-numbers-more f s at k =
-    rw (add-one, map-append f (numbersAt s at k) (le16At s (at + 2 * k) ∷ []))
-    (highest-snoc (map f (numbersAt s at k)) (f (le16At s (at + 2 * k))))
+    rw (add-one, map-append f (numbersAt s at k) (le16At s (at + parentWidth * k) ∷ []))
+    (highest-snoc (map f (numbersAt s at k)) (f (le16At s (at + parentWidth * k))))
 
 -- a list written over the front of another: one more element
 pub over-more : (xs ys : List ℕ) (i y : ℕ) → length xs ≡ i → i < length ys → set (over xs ys) i y ≡ over (xs ++ (y ∷ [])) ys
@@ -88,6 +89,3 @@ over-more xs ys i y e h =
     let d : drop (length xs) ys ≡ getD ys (length xs) 0 ∷ drop (suc (length xs)) ys = drop-cons ys (length xs) 0 (omega arith) in
     let n : length (xs ++ (y ∷ [])) ≡ suc (length xs) = length-append xs (y ∷ []) ∙ add-one (length xs) in
     rw (d, n, append-snoc xs y (drop (suc (length xs)) ys)) (set-at xs (getD ys (length xs) 0) (drop (suc (length xs)) ys) y i e)
-
-pub length-over : (xs ys : List ℕ) → length xs ≤ length ys → length (over xs ys) ≡ length ys
-length-over xs ys h = simp (length-append, length-drop) (omega arith)

@@ -1,18 +1,18 @@
 -- What a caller of the check knows: the array locates the items; what an answer says of the sheet. Assumes nothing.
 use mathlib.Core.Path.{_≡_, refl, sym, ap, _∙_}
-use mathlib.Core.List.{List, [], map}
-use Prim.Native.Nat.{ℕ, zero, suc, _≤_, _<_}
+use mathlib.Core.List.{List, map}
+use Prim.Native.Nat.{ℕ, zero, suc}
 use native.Mathlib.Omega.{arith}
 use lib.ListN.{length, take, length-map}
 use lib.Seq.{take-at}
 use Rattle.circuit.specs.Sheet.{size}
 use Rattle.layout.specs.Layout.{machineItem}
-use Rattle.layout.specs.Read.{Placed, going, scan, editionIn, countIn, headContent, SheetRead, opens, refused, readSheet, layoutOf}
+use Rattle.layout.specs.Read.{Placed, going, scan, countIn, headContent, SheetRead, opens, refused, readSheet}
 use Rattle.layout.specs.Opened.{placedFrom, itemsOf, sheetFrom, sheetOf, offsetsOf, Located}
-use Rattle.sheet.specs.Check.{checkedOf, soundItems, readSoFar, over}
-use Rattle.sheet.specs.declared.Checked.{Checked}
+use Rattle.field.specs.Bytes.{over}
+use Rattle.sheet.specs.Check.{checkedOf, soundItems, readSoFar}
 use Rattle.sheet.specs.declared.Checked.the-variants.{Opens, Refused}
-use Rattle.layout.proofs.Scan.{HeadRead, head-judged, Opened, opened}
+use Rattle.layout.proofs.Scan.{HeadRead, head-judged, opened}
 use Rattle.sheet.proofs.Scanned.{sound-more}
 
 sound-all : (s : List ℕ) (edition k at : ℕ) (ps : List Placed) → scan s edition k ≡ going at ps → soundItems s edition k ≡ ps

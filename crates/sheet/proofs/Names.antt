@@ -19,23 +19,23 @@ module _ (s : List ℕ) (at len : ℕ) (h : at + len ≤ length s) where
   name-empty e = simp (lt-leb 1 (length (contentAt s at len)) (omega (arith, part-length s at len h)))
 
   pub name-long : nameLimit < len → false ≡ nameAllowed (contentAt s at len)
-  unfolding nameAllowed nameLimit
+  unfolding nameAllowed
   name-long l =
       let n = part-length s at len h in
-      simp (lt-leb (length (contentAt s at len)) 16 (omega arith), le-leb 1 (length (contentAt s at len)) (omega arith))
+      simp (lt-leb (length (contentAt s at len)) nameLimit (omega arith), le-leb 1 (length (contentAt s at len)) (omega arith))
 
   pub name-fails : 1 ≤ len → len ≤ nameLimit → (k : ℕ) → k < len → nameByte (getD s (at + k) 0) ≡ false → false ≡ nameAllowed (contentAt s at len)
-  unfolding nameAllowed nameLimit
+  unfolding nameAllowed
   name-fails a b k l e =
       let n = part-length s at len h in
       simp (
-        le-leb (length (contentAt s at len)) 16 (omega arith),
+        le-leb (length (contentAt s at len)) nameLimit (omega arith),
         le-leb 1 (length (contentAt s at len)) (omega arith),
         all-part-fails nameByte s at k len h l e,
       )
 
   pub name-passes : 1 ≤ len → len ≤ nameLimit → all nameByte (contentAt s at len) ≡ true → true ≡ nameAllowed (contentAt s at len)
-  unfolding nameAllowed nameLimit
+  unfolding nameAllowed
   name-passes a b e =
       let n = part-length s at len h in
-      simp (le-leb (length (contentAt s at len)) 16 (omega arith), le-leb 1 (length (contentAt s at len)) (omega arith), e)
+      simp (le-leb (length (contentAt s at len)) nameLimit (omega arith), le-leb 1 (length (contentAt s at len)) (omega arith), e)

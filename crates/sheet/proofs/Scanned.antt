@@ -11,8 +11,9 @@ use Rattle.field.specs.Field.{cutAt}
 use Rattle.field.specs.declared.Cut.the-variants.{Field}
 use Rattle.circuit.specs.Calls.{firstCause}
 use Rattle.layout.specs.Read.{contentAt, itemIn, Placed, placed, itemLevel, itemTests, judge, going, stopped, scan, scanLast, conclude, goOn, placeField}
-use Rattle.layout.specs.Opened.{offsetsOf}
-use Rattle.sheet.specs.Check.{checkedOf, judgedOf, judgedItem, LevelsAt, levelsOf, over, latest, soundItems}
+use Rattle.layout.specs.Opened.{offsetsOf, levelsOf}
+use Rattle.field.specs.Bytes.{over}
+use Rattle.sheet.specs.Check.{checkedOf, judgedOf, judgedItem, LevelsAt, latest, soundItems}
 use Rattle.sheet.specs.declared.Checked.{Checked}
 use Rattle.sheet.specs.declared.Checked.the-variants.{Refused}
 use Rattle.sheet.specs.declared.Judged.the-variants.{Sound, Fault}

@@ -1,33 +1,27 @@
 -- The check of a whole sheet, from its first field and its items. Assumes nothing.
 use mathlib.Core.Path.{_≡_, refl, sym, ap, _∙_}
-use mathlib.Core.Bool.{true}
 use mathlib.Core.List.{List}
 use Prim.Native.Nat.{ℕ, zero, suc, _+_, _≤_}
 use native.Mathlib.Omega.{arith}
-use lib.Dec.{leb}
 use lib.ListN.{length}
-use borrow.Author.Tests.{leb-true}
-use Rattle.field.specs.Field.{cutAt, le16At}
+use Rattle.field.specs.Field.{cutAt, le16At, headerLength}
 use Rattle.field.specs.declared.Cut.the-variants.{Field}
 use Rattle.field.proofs.Cutting.{field-iff}
-use Rattle.layout.specs.Layout.{itemLimit, countAllowed}
+use Rattle.layout.specs.Layout.{editionAt, countAt, headLength, mostItems}
 use Rattle.layout.specs.Read.{editionIn, countIn, headContent, headTests, judge, scan, scanLast, scanSheet, conclude, readSheet}
-use Rattle.layout.specs.Opened.{offsetsOf}
-use Rattle.sheet.specs.Check.{checkedOf, mostItems, soundItems, readSoFar, over, levelsOf}
+use Rattle.layout.specs.Opened.{offsetsOf, levelsOf}
+use Rattle.field.specs.Bytes.{over}
+use Rattle.sheet.specs.Check.{checkedOf, soundItems, readSoFar}
 use Rattle.sheet.specs.declared.Checked.{Checked}
 use Rattle.sheet.specs.declared.Checked.the-variants.{Refused}
 use Rattle.sheet.proofs.Content.{content16}
-use Rattle.layout.proofs.Scan.{HeadRead, head-read, and-right}
+use Rattle.layout.proofs.Scan.{HeadRead, head-read, limit-most}
 
 -- what the check answers and leaves in its arrays
 abbrev pub Checks : List ℕ → Checked → (offsets offsets₀ levels levels₀ : List ℕ) → Type 0
 Checks s r offsets offsets₀ levels levels₀ =
     (r ≡ checkedOf (readSheet s))
     × ((offsets ≡ over (offsetsOf (readSoFar s)) offsets₀) × (levels ≡ over (levelsOf (readSoFar s)) levels₀))
-
-pub limit-most : (edition n : ℕ) → countAllowed edition n ≡ true → n ≤ mostItems
-unfolding countAllowed itemLimit mostItems
-limit-most edition n e = leb-true n 1024 (and-right (leb 1 n) (leb n 1024) e)
 
 -- the first field is at fault
 pub head-refused : (s : List ℕ) (k : ℕ) (offsets levels : List ℕ) → (k ≡ 0 → ⊥) → judge headTests s (cutAt s 0) ≡ k
@@ -41,21 +35,21 @@ module _ (s : List ℕ) (tag start len next : ℕ) (cut : cutAt s 0 ≡ Field ta
   read : HeadRead s
   read = head-read s e
 
-  placed-at : (start ≡ 3) × (len ≡ 4)
+  placed-at : (start ≡ headerLength) × (len ≡ headLength)
   placed-at = let h = read .head in (cc, cc)
 
-  pub head-room : start + 4 ≤ length s
+  pub head-room : start + headLength ≤ length s
   head-room =
       let f = field-iff s 0 tag start len next .0 cut in
       let p = placed-at in
       omega arith
 
-  module _ (edition count : ℕ) (e₁ : edition ≡ le16At s start) (e₂ : count ≡ le16At s (start + 2)) where
+  module _ (edition count : ℕ) (e₁ : edition ≡ le16At s start) (e₂ : count ≡ le16At s (start + countAt)) where
     edition-found : edition ≡ editionIn (headContent s)
-    edition-found = e₁ ∙ ap (le16At s) (placed-at .0) ∙ sym (content16 s 3 4 0 (omega arith))
+    edition-found = e₁ ∙ ap (le16At s) (placed-at .0) ∙ sym (content16 s headerLength headLength editionAt (omega arith))
 
     count-found : count ≡ countIn (headContent s)
-    count-found = e₂ ∙ ap (λ k. le16At s (k + 2)) (placed-at .0) ∙ sym (content16 s 3 4 2 (omega arith))
+    count-found = e₂ ∙ ap (λ k. le16At s (k + countAt)) (placed-at .0) ∙ sym (content16 s headerLength headLength countAt (omega arith))
 
     pub count-most : count ≤ mostItems
     count-most = rw count-found (limit-most (editionIn (headContent s)) (countIn (headContent s)) (read .count-fits))

@@ -1,22 +1,19 @@
 -- What the check of a sheet answers, and what it leaves in its two scratch arrays. Assumes nothing.
-use Prim.Native.Nat.{ℕ, zero, suc, _+_, _*_, _<_}
+use Prim.Native.Nat.{ℕ, zero, suc, _+_, _*_}
 use mathlib.Core.Path.{_≡_}
-use mathlib.Core.Bool.{Bool, true, false, cond}
+use mathlib.Core.Bool.{cond}
 use mathlib.Core.List.{List, [], _∷_, _++_, map}
 use lib.Dec.{ltb}
-use lib.ListN.{length, getD, take, drop}
+use lib.ListN.{length, getD, take}
+use Rattle.layout.specs.Opened.{levelsOf}
 use Rattle.field.specs.Field.{cutAt, le16At}
 use Rattle.circuit.specs.Calls.{firstCause}
-use Rattle.layout.specs.Layout.{all, highest}
-use Rattle.layout.specs.Read.{Placed, Scan, going, stopped, scan, SheetRead, opens, refused, readSheet, judge, headTests, itemTests, itemIn, itemLevel, headContent, editionIn, countIn}
-use Rattle.layout.specs.Opened.{offsetsOf}
+use Rattle.layout.specs.Layout.{all, highest, parentWidth}
+use Rattle.layout.specs.Read.{Placed, Scan, going, stopped, scan, SheetRead, opens, refused, judge, headTests, itemTests, itemIn, itemLevel, headContent, editionIn, countIn}
 use Rattle.sheet.specs.declared.Checked.{Checked}
 use Rattle.sheet.specs.declared.Checked.the-variants.{Opens, Refused}
 use Rattle.sheet.specs.declared.Judged.{Judged}
 use Rattle.sheet.specs.declared.Judged.the-variants.{Sound, Fault}
-
-abbrev pub levelsOf : List Placed → List ℕ
-levelsOf ps = map (λ p. p .level) ps
 
 -- the check's answer
 abbrev pub checkedOf : SheetRead → Checked
@@ -31,10 +28,6 @@ checkedNumber (Refused k at) = k
 abbrev pub checkedOffset : Checked → ℕ
 checkedOffset (Opens edition count) = 0
 checkedOffset (Refused k at) = at
-
--- the most items of a sheet of any edition: what the scratch arrays must hold
-unfoldable pub mostItems : ℕ
-mostItems = 1024
 
 -- a field's answer: its level, or the number of its lowest cause
 abbrev pub judgedOf : ℕ → ℕ → Judged
@@ -67,14 +60,10 @@ unfoldable pub readSoFar : List ℕ → List Placed
 readSoFar s =
     afterHead (judge headTests s (cutAt s 0)) (soundItems s (editionIn (headContent s)) (countIn (headContent s)))
 
--- xs written over the front of ys
-abbrev pub over : List ℕ → List ℕ → List ℕ
-over xs ys = xs ++ drop (length xs) ys
-
 -- the p numbers of two bytes from an offset on
 unfoldable pub numbersAt : List ℕ → ℕ → ℕ → List ℕ
 numbersAt s at zero = []
-numbersAt s at (suc p) = numbersAt s at p ++ (le16At s (at + 2 * p) ∷ [])
+numbersAt s at (suc p) = numbersAt s at p ++ (le16At s (at + parentWidth * p) ∷ [])
 
 -- one more than the highest of the parents' levels, or 0 where a parent is not below item i
 unfoldable pub levelOver : ℕ → List ℕ → List ℕ → ℕ

@@ -5,13 +5,11 @@ ghost use mathlib.Core.List.{List};
 ghost use Prim.Native.Nat.{ℕ, _+_, _*_, _≤_, max};
 ghost use lib.ListN.{length};
 ghost use Rattle.circuit.specs.Calls.{firstCause};
-ghost use Rattle.layout.specs.Layout.{figureTag, ruleAllowed, keepAllowed, spreadAllowed, nameAllowed};
+ghost use Rattle.layout.specs.Layout.{figureTag, mostItems, parentWidth, ruleAllowed, keepAllowed, spreadAllowed, nameAllowed};
 ghost use Rattle.layout.specs.Read.{Placed, contentAt, headTests, going, scan, scanLast, conclude, readSheet};
-ghost use Rattle.layout.specs.Opened.{offsetsOf};
-ghost use Rattle.sheet.specs.Check.{checkedOf, judgedItem, LevelsAt, mostItems, soundItems, readSoFar, over, levelsOf, numbersAt, levelOver};
-
-pub mod limits;
-
+ghost use Rattle.layout.specs.Opened.{offsetsOf, levelsOf};
+ghost use Rattle.field.specs.Bytes.{over};
+ghost use Rattle.sheet.specs.Check.{checkedOf, judgedItem, LevelsAt, soundItems, readSoFar, numbersAt, levelOver};
 use field::Cut;
 use limits::COUNT_AT;
 use limits::ENTRY_TAG;
@@ -41,12 +39,6 @@ pub enum Judged {
     Fault { number: u64 },
 }
 
-fn wide(x: u8) -> usize
-    ensures { λ r. ⌜ (r ≡ x) × (r ≤ 255) ⌝ }
-{
-    x as usize
-}
-
 fn greater(a: usize, b: usize) -> usize
     ensures { λ r. ⌜ r ≡ max a b ⌝ }
 {
@@ -74,7 +66,7 @@ fn name_allowed(s: &[u8], at: usize, len: usize) -> bool
 
 // One more than the highest level of the p parents that stand from an offset on, or 0 where one is not below item i.
 fn level_over(s: &[u8], at: usize, p: usize, i: usize, levels: &[u8]) -> usize
-    requires { ⌜ (at + 2 * p ≤ length (now s)) × (i ≤ length (now levels)) ⌝ }
+    requires { ⌜ (at + parentWidth * p ≤ length (now s)) × (i ≤ length (now levels)) ⌝ }
     ensures { λ r. ⌜ (r ≡ levelOver i (now (levels .entry)) (numbersAt (now (s .entry)) at p)) × (r ≤ 256) ⌝ }
 {
     let mut highest = 0;
@@ -83,7 +75,7 @@ fn level_over(s: &[u8], at: usize, p: usize, i: usize, levels: &[u8]) -> usize
         if i <= parent {
             return 0;
         }
-        highest = greater(highest, wide(levels[parent]));
+        highest = greater(highest, field::wide(levels[parent]));
     }
     highest + 1
 }
@@ -114,7 +106,7 @@ fn judge_figure(
     if len < PARENTS_AT {
         return Judged::Fault { number: 3 };
     }
-    let p = wide(s[start + PARENT_COUNT_AT]);
+    let p = field::wide(s[start + PARENT_COUNT_AT]);
     let before = PARENTS_AT + PARENT_WIDTH * p;
     if len < before {
         return Judged::Fault { number: 3 };

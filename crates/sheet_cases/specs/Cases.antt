@@ -8,8 +8,9 @@ use Rattle.field.specs.Field.{cutAt}
 use Rattle.field.specs.declared.Cut.{Cut}
 use Rattle.field.specs.declared.Cut.the-variants.{Field, Short, Absent}
 use Rattle.layout.specs.Read.{contentAt}
-use Rattle.layout.specs.Opened.{offsetsOf}
-use Rattle.sheet.specs.Check.{levelsOf, readSoFar, over}
+use Rattle.layout.specs.Opened.{offsetsOf, levelsOf}
+use Rattle.field.specs.Bytes.{over}
+use Rattle.sheet.specs.Check.{readSoFar}
 
 -- a case: its sheet, and the offset after it
 pub record Case : Type 0 where

@@ -4,7 +4,7 @@
 ghost use mathlib.Core.Path.{_≡_};
 ghost use Prim.Native.Nat.{_≤_, _<_};
 ghost use lib.ListN.{length};
-ghost use Rattle.sheet.specs.Check.{mostItems};
+ghost use Rattle.layout.specs.Layout.{mostItems};
 ghost use Rattle.sheet_cases.specs.Cases.{caseAt, Checks, Runs};
 use field::Cut;
 use libc::STDIN_FILENO;
@@ -102,8 +102,8 @@ fn run_case(cases: &[u8], at: usize, offsets: &mut [usize], levels: &mut [u8]) -
 fn run(cases: &[u8])
     ensures { λ r. ⌜ now (cases .exit) ≡ now (cases .entry) ⌝ }
 {
-    let mut offsets = [0usize; sheet::limits::ITEM_LIMIT];
-    let mut levels = [0u8; sheet::limits::ITEM_LIMIT];
+    let mut offsets = [0usize; limits::ITEM_LIMIT];
+    let mut levels = [0u8; limits::ITEM_LIMIT];
     let mut at = 0;
     while at < cases.len() {
         at = run_case(cases, at, &mut offsets, &mut levels);

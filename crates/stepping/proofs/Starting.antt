@@ -5,11 +5,13 @@ use mathlib.Core.Path.{_≡_, refl}
 use mathlib.Core.List.{List}
 use lib.IntN.{ℤ}
 use lib.ListN.{length, getD, replicate}
+use Rattle.circuit.specs.Rules.{maxParents}
+use Rattle.layout.specs.Layout.{mostItems}
 use Rattle.layout.specs.Opened.{sheetOf}
-use Rattle.item.proofs.Located.{size-most}
+use Rattle.item.proofs.Located.{size-room}
 use Rattle.looking.specs.Pass.{Lent}
 use Rattle.stepping.specs.Stepping.{Ready}
-use Rattle.children.specs.Children.{places, lists, linkAll, Linked}
+use Rattle.children.specs.Children.{lists, linkAll, Linked}
 use Rattle.children.proofs.Building.{sheet-linked}
 
 -- an array of one number
@@ -19,21 +21,22 @@ same-all z (suc n) zero = refl
 same-all z (suc n) (suc j) = same-all z n j
 
 -- arrays in which nothing is remembered
-pub fresh-ready : (s tags : List ℕ) (numbers : List ℤ) → length tags ≡ 1024 → length numbers ≡ 1024 → ((j : ℕ) → getD tags j 0 ≡ 0) → Ready s tags numbers 1
+pub fresh-ready : (s tags : List ℕ) (numbers : List ℤ) → length tags ≡ mostItems → length numbers ≡ mostItems → ((j : ℕ) → getD tags j 0 ≡ 0) → Ready s tags numbers 1
 fresh-ready s tags numbers a b z =
     record {
-      tag-room = omega (arith, size-most s);
-      number-room = omega (arith, size-most s);
+      tag-room = omega (arith, size-room s);
+      number-room = omega (arith, size-room s);
       generations = omega arith;
       older = λ j h. omega (arith, z j);
     }
 
 -- the child lists, built in empty arrays
-pub lists-linked : {s offsets t : List ℕ} → Lent s offsets t → (heads links heads₂ links₂ : List ℕ) → length heads ≡ 1024 → length links ≡ places * 1024
+pub lists-linked : {s offsets t : List ℕ} → Lent s offsets t → (heads links heads₂ links₂ : List ℕ) → length heads ≡ mostItems → length links ≡ maxParents * mostItems
     → ((p : ℕ) → getD heads p 0 ≡ 0) → heads₂ ≡ linkAll (sheetOf s) (lists heads links) .heads → links₂ ≡ linkAll (sheetOf s) (lists heads links) .links
     → Linked (sheetOf s) heads₂ links₂
+unfolding maxParents
 lists-linked {s} {offsets} {t} lent heads links heads₂ links₂ a b empty headed linked =
-    rw (headed, linked) (sheet-linked s offsets heads links (lent .located) (omega (arith, size-most s)) (omega (arith, size-most s)) (λ p low. empty p))
+    rw (headed, linked) (sheet-linked s offsets heads links (lent .located) (omega (arith, size-room s)) (omega (arith, size-room s)) (λ p low. empty p))
 
 -- a later generation may begin where the first may
 pub ready-later : {s tags : List ℕ} {numbers : List ℤ} → Ready s tags numbers 1 → (generation : ℕ) → 0 < generation → generation < 2_147_483_648 → Ready s tags numbers generation

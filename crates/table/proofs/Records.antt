@@ -1,21 +1,22 @@
 -- Records: which cells are encoded and decoded, and that the two are inverse. Assumes nothing.
 use Prim.Native.Nat.{ℕ, zero, suc, _<_}
 use mathlib.Core.Path.{_≡_, refl, ap, _∙_}
-use mathlib.Core.Bool.{Bool, true, false, cond, not, _&&_}
+use mathlib.Core.Bool.{Bool, true, false, not, _&&_}
 use mathlib.Core.List.{List, [], _∷_}
 use native.Mathlib.Omega.{arith}
-use lib.Dec.{leb, eqb, lit<}
+use lib.Dec.{leb, lit<}
 use borrow.Author.Tests.{leb-true, eqb-true}
 use lib.IntN.{ℤ, pos, negsuc}
 use lib.ListN.{length}
 use lib.Seq.{take-all}
 use mir.Syntax.{w64}
 use mir.Val.{SFits, toZ, ofZ}
-use Rattle.word.specs.Word.{Bytes, bytes64}
+use Rattle.field.specs.Bytes.{Bytes}
+use Rattle.word.specs.Word.{bytes64}
 use Rattle.word.proofs.Bytes.{leAt-drop, signed-again, bytes-again, length-bytes64, bytes-cons, bytes-leBytes}
 use Rattle.circuit.proofs.RuleLaws.{and-left, and-right}
-use Rattle.circuit.specs.Value.{Value, null, out, num, limit, inRange, sameNumber, kindOf, numberOf, ofParts, isOut, wellFormed}
-use Rattle.circuit.specs.Table.{Mark, unmarked, refresh, notice, Cell, unk, held, noticeIf, valueIn, isStored, isMarked, entryForm}
+use Rattle.circuit.specs.Value.{Value, null, out, num, limit, inRange, sameNumber, kindOf, numberOf, isOut, wellFormed}
+use Rattle.circuit.specs.Table.{Mark, unmarked, refresh, notice, Cell, unk, held, noticeIf, valueIn, entryForm}
 use Rattle.table.specs.Record.{width, kindIn, markIn, numberIn, recordOf, markCode, markCoded, cellCoded, encodeCell, decodeCell, allowed, codesForm, numberForm, recordForm, mayHold}
 
 -- a number within the range is one of 64 bits
@@ -248,39 +249,4 @@ encoded-form false (held v m) t =
     let w : wellFormed v ≡ true = holds-wellFormed false (held v m) t in
     formed-record false (kindOf v) (markCode m) (numberOf v) (number-fits v w) (entry-codes v m t) (value-number v w)
 
--- the form of a record with the bytes of a cell says no more than that the item may hold it
-pub form-cell : (figure : Bool) (c : Cell) → wellFormed (valueIn c) ≡ true → recordForm figure (encodeCell c) ≡ true → mayHold figure c ≡ true
-form-cell figure c w t = rw (decode-encode c w) at (decoded-holds figure (encodeCell c) t)
-
 -- ---- a cell's words, by the bytes of its record
-
--- a figure is stored when its kind is not 0
-pub stored-byte : (r : List ℕ) → isStored (decodeCell r) ≡ not (eqb (kindIn r) 0)
-unfolding decodeCell
-stored-byte r = go (eqb (kindIn r) 0)
-  where
-    go : (b : Bool) → isStored (cond b (unk (eqb (markIn r) 2)) (held (ofParts (kindIn r) (numberIn r)) (markCoded (markIn r)))) ≡ not b
-    go true = refl
-    go false = refl
-
-marked-parts : (figure : Bool) {k m : ℕ} (z : ℤ) → Kind k → Code m → allowed figure k m ≡ true → isMarked (cellCoded k m z) ≡ not (eqb m 0)
-marked-parts figure z unknown none may = refl
-marked-parts true z unknown again may = contradiction may
-marked-parts false z unknown again may = contradiction may
-marked-parts figure z unknown told may = refl
-marked-parts figure z nothing none may = refl
-marked-parts figure z nothing again may = refl
-marked-parts figure z nothing told may = refl
-marked-parts figure z outside none may = refl
-marked-parts figure z outside again may = refl
-marked-parts figure z outside told may = refl
-marked-parts figure z number none may = refl
-marked-parts figure z number again may = refl
-marked-parts figure z number told may = refl
-
--- an item of a record in form is marked when its mark byte is not 0
-pub marked-byte : (figure : Bool) (r : List ℕ) → recordForm figure r ≡ true → isMarked (decodeCell r) ≡ not (eqb (markIn r) 0)
-unfolding decodeCell
-marked-byte figure r t =
-    let p : Parts figure (kindIn r) (markIn r) (numberIn r) = parts figure r t in
-    marked-parts figure (numberIn r) (p .kind) (p .mark) (p .may)

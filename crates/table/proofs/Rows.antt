@@ -10,7 +10,7 @@ use borrow.Author.Tests.{eqb-true, eqb-false, ltb-true, ltb-false}
 use lib.ListN.{length, getD, take, drop, set, length-append, length-take, length-drop}
 use lib.Seq.{sets, sets-eq, length-sets, take-add, take-at, drop-at, take-all, take-append-le, drop-append-le, getD-set-other, getD-take, getD-drop, ext-getD, length-take-le}
 use Rattle.circuit.proofs.RuleLaws.{and-left, and-right}
-use Rattle.word.specs.Word.{Bytes}
+use Rattle.field.specs.Bytes.{Bytes}
 use Rattle.word.proofs.Bytes.{none-bytes, bytes-append}
 use Rattle.table.specs.Rows.{row, setRow, rowsBelow, allBelow}
 
@@ -140,10 +140,3 @@ pub true-below : (p : ℕ → Bool) (n : ℕ) → ((i : ℕ) → i < n → p i �
 unfolding allBelow
 true-below p zero all = refl
 true-below p (suc n) all = rw (true-below p n (λ i h. all i (omega arith)), all n (omega arith))
-
-pub false-below : (p : ℕ → Bool) (n i : ℕ) → i < n → p i ≡ false → allBelow p n ≡ false
-false-below p n i h fails = go (allBelow p n) refl
-  where
-    go : (b : Bool) → allBelow p n ≡ b → b ≡ false
-    go true t = sym (below-true p n t i h) ∙ fails
-    go false t = refl

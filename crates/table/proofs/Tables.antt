@@ -8,7 +8,7 @@ use native.Mathlib.Omega.{arith}
 use lib.Dec.{eqb}
 use borrow.Author.Tests.{eqb-true, eqb-false, not-true}
 use lib.ListN.{length, drop}
-use Rattle.word.specs.Word.{Bytes}
+use Rattle.field.specs.Bytes.{Bytes}
 use Rattle.word.proofs.Bytes.{bytes-take, bytes-drop}
 use Rattle.circuit.proofs.RuleLaws.{and-left, and-right}
 use Rattle.circuit.specs.Value.{null, wellFormed, isOut}
@@ -18,8 +18,8 @@ use Rattle.circuit.specs.Words.{Formed}
 use Rattle.table.specs.Rows.{row, setRow}
 use Rattle.table.specs.Record.{width, encodeCell, decodeCell, mayHold}
 use Rattle.table.specs.Bytes.{tableLength, encodeRecord, encodeTable, decodeTable, recordInForm, tableForm, Holdable}
-use Rattle.table.proofs.Rows.{bytes-rows, row-before, length-row, rows-ext, length-rows, row-rows, rows-row, row-setRow, row-setRow-other, rows-setRow, below-true, true-below}
-use Rattle.table.proofs.Records.{bytes-encodeCell, decode-encode, encode-decode, length-encodeCell, decoded-holds, encoded-form, holds-wellFormed}
+use Rattle.table.proofs.Rows.{row-before, length-row, rows-ext, length-rows, row-rows, rows-row, row-setRow, row-setRow-other, rows-setRow, below-true, true-below}
+use Rattle.table.proofs.Records.{decode-encode, encode-decode, length-encodeCell, decoded-holds, encoded-form, holds-wellFormed}
 
 -- ---- lengths and bytes
 
@@ -33,10 +33,6 @@ record-fits S bs i e h = rw e (row-before width h)
 
 bytes-row : (bs : List ℕ) (i : ℕ) → Bytes bs → Bytes (row width bs i)
 bytes-row bs i bytes = bytes-take width (drop (width * i) bs) (bytes-drop (width * i) bs bytes)
-
-pub bytes-encodeTable : (S : Sheet) (T : Table) → Bytes (encodeTable S T)
-unfolding encodeTable
-bytes-encodeTable S T = bytes-rows (encodeRecord S T) (size S) (λ i. bytes-encodeCell (T i))
 
 -- ---- encoding and decoding
 
@@ -93,17 +89,10 @@ not-out entry c t f =
     not-true (isOut (valueIn c)) (and-right (entryForm c) (not (isOut (valueIn c))) (and-left (entryForm c && not (isOut (valueIn c))) (wellFormed (valueIn c)) t))
 not-out (figure op keep spread ps) c t f = let z : _≡_ {A = ℕ} 0 1 = cc in absurd (omega arith)
 
-pub holdable-not-out : (S : Sheet) (T : Table) → Holdable S T → (i : ℕ) → i < size S → isFigure (itemAt S i) ≡ false → isOut (valueIn (T i)) ≡ false
-holdable-not-out S T holds i h = not-out (itemAt S i) (T i) (holds i h)
-
 -- the cells that an item may hold, in the machine's words
 pub may : (it : Item) (c : Cell) → cellForm it c ≡ true → wellFormed (valueIn c) ≡ true → (isFigure it ≡ false → isOut (valueIn c) ≡ false) → mayHold (isFigure it) c ≡ true
 may entry c f w o = rw (f, o refl, w)
 may (figure op keep spread ps) c f w o = w
-
--- a well formed table of numbers within the range, whose entries are not OUT
-pub formed-holdable : (S : Sheet) (T : Table) → Formed S T → ((i : ℕ) → i < size S → wellFormed (valueIn (T i)) ≡ true) → ((i : ℕ) → i < size S → isFigure (itemAt S i) ≡ false → isOut (valueIn (T i)) ≡ false) → Holdable S T
-formed-holdable S T f w o i h = may (itemAt S i) (T i) (f i h) (w i h) (o i h)
 
 -- a figure may hold every cell whose number is within the range
 pub figure-may : (it : Item) (c : Cell) → isFigure it ≡ true → wellFormed (valueIn c) ≡ true → mayHold (isFigure it) c ≡ true
@@ -146,13 +135,6 @@ setRow-form S bs i c e t h holds = true-below (recordInForm S (setRow width bs i
             rw (eqb-true j i u, row-setRow width bs i (encodeCell c) (record-fits S bs i e h) (length-encodeCell c)) (encoded-form (isFigure (itemAt S i)) c holds)
         go false u =
             rw (row-setRow-other width bs i j (encodeCell c) (length-encodeCell c) (eqb-false j i u)) (below-true (recordInForm S bs) (size S) t j hj)
-
-pub holdable-upd : (S : Sheet) (T : Table) (i : ℕ) (c : Cell) → Holdable S T → mayHold (isFigure (itemAt S i)) c ≡ true → Holdable S (upd T i c)
-holdable-upd S T i c holds m j h = go (eqb j i) refl
-  where
-    go : (b : Bool) → eqb j i ≡ b → mayHold (isFigure (itemAt S j)) (cond b c (T j)) ≡ true
-    go true t = rw (eqb-true j i t) m
-    go false t = holds j h
 
 -- ---- the openings
 

@@ -7,13 +7,14 @@ use mathlib.Core.Bool.{true}
 use mathlib.Core.List.{List}
 use lib.IntN.{ℤ}
 use lib.ListN.{length, getD}
+use Rattle.circuit.specs.Rules.{maxParents}
 use Rattle.circuit.specs.Sheet.{Sheet, Item, entry, figure, size, itemAt, isFigure, parents, parentsOf, member, isChild}
 use Rattle.circuit.specs.Table.{Table}
 use Rattle.circuit.specs.Machine.{tellChild, tellIf, tellBelow, tell}
 use Rattle.layout.specs.Opened.{sheetOf}
 use Rattle.item.proofs.Located.{sheet-ordered}
 use Rattle.table.specs.Bytes.{decodeTable}
-use Rattle.children.specs.Children.{places, NoChild, Leads, Linked}
+use Rattle.children.specs.Children.{NoChild, Leads, Linked}
 use Rattle.children.proofs.Linking.{Child, leads-child, leads-end, left, next-less, place-child}
 use Rattle.memo.specs.Memo.{Memo, NoneFrom}
 use Rattle.looking.specs.Pass.{Lent}
@@ -75,40 +76,41 @@ module _ {s offsets t₀ tags₀ : List ℕ} {numbers₀ : List ℤ} {generation
     next : Child (sheetOf s) i (inv .from) edge
     next = leads-child (inv .leads) more
 
-    pub child-low : edge / places < size (sheetOf s)
+    pub child-low : edge / maxParents < size (sheetOf s)
     child-low = next .low
 
-    child-is : isChild (sheetOf s) i (edge / places) ≡ true
-    child-is = place-child (sheetOf s) i (edge / places) (next .place) (next .listed) (next .parent-is)
+    child-is : isChild (sheetOf s) i (edge / maxParents) ≡ true
+    child-is = place-child (sheetOf s) i (edge / maxParents) (next .place) (next .listed) (next .parent-is)
 
-    pub child-figure : isFigure (itemAt (sheetOf s) (edge / places)) ≡ true
-    child-figure = member-figure (itemAt (sheetOf s) (edge / places)) i child-is
+    pub child-figure : isFigure (itemAt (sheetOf s) (edge / maxParents)) ≡ true
+    child-figure = member-figure (itemAt (sheetOf s) (edge / maxParents)) i child-is
 
-    pub child-fresh : NoneFrom (edge / places) tags generation
+    pub child-fresh : NoneFrom (edge / maxParents) tags generation
     child-fresh j h = inv .moves .fresh j (omega (arith, next .from))
 
-    module _ {heads links : List ℕ} (linked : Linked (sheetOf s) heads links) (narrow : length (parents (sheetOf s) (edge / places)) ≤ places) where
+    module _ {heads links : List ℕ} (linked : Linked (sheetOf s) heads links) (narrow : length (parents (sheetOf s) (edge / maxParents)) ≤ maxParents) where
       pub edge-low : edge < length links
+      unfolding maxParents
       edge-low = omega (arith, linked .link-room, next .low, next .edge-is, next .listed)
 
-      leads-on : Leads (sheetOf s) i (edge / places + 1) (getD links edge 0)
+      leads-on : Leads (sheetOf s) i (edge / maxParents + 1) (getD links edge 0)
       leads-on =
-          subst (λ p. Leads (sheetOf s) p (edge / places + 1) (getD links edge 0)) (next .parent-is)
-          (subst (λ e. Leads (sheetOf s) (getD (parents (sheetOf s) (edge / places)) (next .place) 0) (edge / places + 1) (getD links e 0)) (sym (next .edge-is))
-          (linked .link (edge / places) (next .place) (next .low) (next .listed)))
+          subst (λ p. Leads (sheetOf s) p (edge / maxParents + 1) (getD links edge 0)) (next .parent-is)
+          (subst (λ e. Leads (sheetOf s) (getD (parents (sheetOf s) (edge / maxParents)) (next .place) 0) (edge / maxParents + 1) (getD links e 0)) (sym (next .edge-is))
+          (linked .link (edge / maxParents) (next .place) (next .low) (next .listed)))
 
       pub telling-less : (edge₂ : ℕ) → edge₂ ≡ getD links edge 0 → left links edge₂ < left links edge
       telling-less edge₂ is = rw is (next-less links edge-low more (getD links edge 0) leads-on)
 
       pub telling-next : (t₂ tags₂ : List ℕ) (numbers₂ : List ℤ) → length t₂ ≡ length t → length tags₂ ≡ length tags → length numbers₂ ≡ length numbers
-          → Moves s generation (edge / places) (tellChild (sheetOf s) (decodeTable t) (edge / places)) t₂ tags₂ numbers₂
+          → Moves s generation (edge / maxParents) (tellChild (sheetOf s) (decodeTable t) (edge / maxParents)) t₂ tags₂ numbers₂
           → (edge₂ : ℕ) → edge₂ ≡ getD links edge 0
           → Telling s offsets t₀ tags₀ numbers₀ generation i edge₂ t₂ tags₂ numbers₂
       unfolding tellBelow
       telling-next t₂ tags₂ numbers₂ a b d moves edge₂ is =
           record {
             lent = record { located = inv .lent .located; room = inv .lent .room; length-is = a ∙ inv .lent .length-is; formed = moves .formed };
-            from = edge / places + 1;
+            from = edge / maxParents + 1;
             within = omega (arith, next .low);
             leads = rw is leads-on;
             moves =
@@ -123,11 +125,11 @@ module _ {s offsets t₀ tags₀ : List ℕ} {numbers₀ : List ℤ} {generation
             numbers-length = d ∙ inv .numbers-length;
           }
         where
-          told : tellChild (sheetOf s) (decodeTable t) (edge / places) ≡ tellBelow (sheetOf s) i (decodeTable t₀) (edge / places + 1)
+          told : tellChild (sheetOf s) (decodeTable t) (edge / maxParents) ≡ tellBelow (sheetOf s) i (decodeTable t₀) (edge / maxParents + 1)
           told =
-              ap (λ T. tellChild (sheetOf s) T (edge / places)) (inv .moves .table-is ∙ sym (tell-over (sheetOf s) i (decodeTable t₀) (inv .from) (edge / places) (next .from) (next .none-before)))
-              ∙ ap (λ x. tellIf x (sheetOf s) (tellBelow (sheetOf s) i (decodeTable t₀) (edge / places)) (edge / places)) (sym child-is)
-              ∙ ap (tellBelow (sheetOf s) i (decodeTable t₀)) (sym (add-one (edge / places)))
+              ap (λ T. tellChild (sheetOf s) T (edge / maxParents)) (inv .moves .table-is ∙ sym (tell-over (sheetOf s) i (decodeTable t₀) (inv .from) (edge / maxParents) (next .from) (next .none-before)))
+              ∙ ap (λ x. tellIf x (sheetOf s) (tellBelow (sheetOf s) i (decodeTable t₀) (edge / maxParents)) (edge / maxParents)) (sym child-is)
+              ∙ ap (tellBelow (sheetOf s) i (decodeTable t₀)) (sym (add-one (edge / maxParents)))
 
   pub telling-done : edge ≡ 0 → Moves s generation (size (sheetOf s)) (tell (sheetOf s) (decodeTable t₀) i) t tags numbers
   unfolding tell

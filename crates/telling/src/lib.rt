@@ -13,10 +13,10 @@ ghost use Rattle.children.specs.Children.{Linked};
 ghost use Rattle.memo.specs.Memo.{Memo, NoneFrom};
 ghost use Rattle.looking.specs.Pass.{Lent};
 ghost use Rattle.telling.specs.Telling.{Moves, Renewable, toldBy};
-use children::PLACES;
 use item::Spread;
 use table::Cell;
 use table::Mark;
+use value::MAX_PARENTS;
 use value::Value;
 
 // What a stored child does when it is told: it forgets its value, is to be refreshed, or is worked out anew.
@@ -149,7 +149,7 @@ pub fn tell_children(
             tags,
             numbers,
             generation,
-            edge / PLACES,
+            edge / MAX_PARENTS,
         );
         edge = wide(links[edge]);
     }

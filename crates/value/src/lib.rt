@@ -29,6 +29,9 @@ pub fn in_range(n: i64) -> bool
     LOWEST <= n && n <= LIMIT
 }
 
+// The most parents of a figure, and so the most values that a rule is given. The only place of the code that has their number.
+pub const MAX_PARENTS: usize = 16;
+
 // What a kind and a number give: a value, or nothing where they are not in form.
 pub enum Parts {
     Formed(Value),

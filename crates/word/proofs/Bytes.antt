@@ -9,9 +9,10 @@ use lib.ListN.{length, getD, take, drop, set}
 use lib.IntN.{ℤ}
 use mir.Syntax.{w64}
 use mir.Val.{SFits, ofZ}
-use mir.ValLaws.{toZ-ofZ, ofZ-toZ, ofZ-fits, toZ-fits}
+use mir.ValLaws.{toZ-ofZ, ofZ-toZ, ofZ-fits}
 use lib.Seq.{sets, getD-drop, getD-take, drop-cons}
-use Rattle.word.specs.Word.{Bytes, leAt, leBytes, le64At, bytes64}
+use Rattle.field.specs.Bytes.{Bytes}
+use Rattle.word.specs.Word.{leAt, leBytes, le64At, bytes64}
 
 -- eight bytes, each times its power
 pub le8 : (s : List ℕ) (at : ℕ) → getD s at 0 + getD s (at + 1) 0 * 0x100 + getD s (at + 2) 0 * 0x1_0000 + getD s (at + 3) 0 * 0x100_0000 + getD s (at + 4) 0 * 0x1_0000_0000 + getD s (at + 5) 0 * 0x100_0000_0000 + getD s (at + 6) 0 * 0x1_0000_0000_0000 + getD s (at + 7) 0 * 0x100_0000_0000_0000 ≡ leAt 8 s at
@@ -82,9 +83,6 @@ leAt-small (suc n) s at bytes =
     let b : getD s at 0 < 256 = bytes at in
     let less : leAt n s (at + 1) < 256 ^ n = leAt-small n s (at + 1) bytes in
     omega arith
-
-pub le64At-fits : (s : List ℕ) (at : ℕ) → Bytes s → SFits w64 (le64At s at)
-le64At-fits s at bytes = toZ-fits w64 (leAt 8 s at) (record { fits = leAt-small 8 s at bytes })
 
 -- eight bytes, read and written again
 pub bytes-again : (s : List ℕ) (at : ℕ) → Bytes s → at + 8 ≤ length s → bytes64 (le64At s at) ≡ take 8 (drop at s)

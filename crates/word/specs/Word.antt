@@ -1,14 +1,11 @@
 -- Numbers of several bytes, the low byte first. Assumes nothing.
-use Prim.Native.Nat.{ℕ, zero, suc, _+_, _*_, _/_, _%_, _<_}
+use Prim.Native.Nat.{ℕ, zero, suc, _+_, _*_, _/_, _%_}
 use mathlib.Core.List.{List, [], _∷_}
 use lib.IntN.{ℤ}
 use lib.ListN.{getD}
 use mir.Syntax.{w64}
 use mir.Val.{toZ, ofZ}
-
--- each element is a byte
-abbrev pub Bytes : List ℕ → Type 0
-Bytes s = (i : ℕ) → getD s i 0 < 256
+pub use Rattle.field.specs.Bytes.{Bytes}
 
 -- the number in the n bytes at an offset
 unfoldable pub leAt : ℕ → List ℕ → ℕ → ℕ

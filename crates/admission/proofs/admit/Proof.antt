@@ -1,8 +1,7 @@
 use Rattle.admission.proofs.Admitting.{admit-refused, admit-index, admit-table, admit-items}
 use Rattle.admission.proofs.Admission.{measured, admitted-placing}
-use Rattle.item.proofs.Located.{size-most}
+use Rattle.item.proofs.Located.{size-room}
 use borrow.Author.Tests.{not-true, not-false}
-use Rattle.sheet.specs.Check.{mostItems}
 use mathlib.Core.Path.{sym, _∙_}
 use native.Mathlib.Omega.{arith}
 use borrow.Author.Needs.{needs}
@@ -10,14 +9,13 @@ use Rattle.admission.proofs.admit.Statement.{statement}
 use Rattle.admission.proofs.admit.Tie as tie
 
 index-matches-requires : tie.Need-index-matches-requires
-unfolding mostItems
 index-matches-requires c κs =
     let a = c .before .before .before .before .before .before .before .before .before .before .before .before .before .before .before .before .args in
     let m = c .before .before .before .before .before .before .before .before .measure in
     let w = c .before .before .n .given in
     let e = sym (w .1) ∙ m .ensures .0 in
     let g = measured (a .sheet .now) (a .index .now) (a .table .now) (w .0 .0) e in
-    (omega (arith, g .count-is, size-most (a .sheet .now), m .kept .1 .1 .1 .0), g .index-length)
+    (omega (arith, g .count-is, size-room (a .sheet .now), m .kept .1 .1 .1 .0), g .index-length)
 
 returns : tie.Need-returns
 returns c =
@@ -28,7 +26,6 @@ returns c =
     (admit-index (a .sheet .now) (a .index .now) (a .table .now) _ (w .0 .0) e (m .ensures .1 .located) (c .before .index-matches .result) (c .before .index-matches .ensures) (not-true _ (c .if1 .taken)), m .ensures .1)
 
 table-formed-requires : tie.Need-table-formed-requires
-unfolding mostItems
 table-formed-requires c κs =
     let a = c .before .before .before .before .before .before .before .before .before .before .before .before .before .before .before .before .before .before .before .args in
     let m = c .before .before .before .before .before .before .before .before .before .before .before .measure in

@@ -1,6 +1,6 @@
 use Rattle.admission.proofs.Calls.{admits, refuses}
 use Rattle.circuit.specs.Call.{ask}
-use Rattle.sheet.specs.Check.{mostItems}
+use Rattle.layout.specs.Layout.{mostItems, itemLimit}
 use mathlib.Core.Path.{refl}
 use native.Mathlib.Omega.{arith}
 use borrow.Author.Needs.{needs}
@@ -8,7 +8,7 @@ use Rattle.call_ask.proofs.ask.Statement.{statement}
 use Rattle.call_ask.proofs.ask.Tie as tie
 
 ask-lent-requires : tie.Need-ask-lent-requires
-unfolding mostItems
+unfolding mostItems itemLimit
 ask-lent-requires c κs =
     let b = c .before .before .before in
     let m = b .before .before .before .before in
@@ -25,7 +25,7 @@ returns c =
     rw (refuses (a .sheet .now) (a .index .now) (a .table .now) (ask (a .item)) (m .admit .ensures .0) (b .number .given .1)) (record { number-is = r .0; offset-is = r .1; kind-is = r .2; value-is = r .3; table-is = refl })
 
 returns-2 : tie.Need-returns-2
-unfolding mostItems
+unfolding mostItems itemLimit
 returns-2 c =
     let b = c .before .before .before .before .before .before in
     let m = b .before .before .before .before in
@@ -34,7 +34,7 @@ returns-2 c =
     rw (g .call (ask (a .item))) (c .before .before .ask-lent .ensures (a .index .now))
 
 pub ask-spec : {M : Type 1} → statement M
-unfolding mostItems
+unfolding mostItems itemLimit
 ask-spec =
     tie.close
     (tie.spec

@@ -1,6 +1,7 @@
+use Rattle.layout.specs.Layout.{itemLimit, mostItems}
 use Rattle.stepping.proofs.Starting.{same-all}
 use Rattle.call_keep.proofs.Keeping.{fresh-memo, kept-stored}
-use Rattle.item.proofs.Located.{size-most}
+use Rattle.item.proofs.Located.{size-room}
 use Rattle.memo.specs.Memo.{seenMeaning}
 use Rattle.table.specs.Meaning.{markMeaning}
 use Rattle.table.specs.Bytes.{decodeTable}
@@ -13,9 +14,10 @@ use Rattle.call_keep.proofs.keep_new.Statement.{statement}
 use Rattle.call_keep.proofs.keep_new.Tie as tie
 
 look-unstored-requires : tie.Need-look-unstored-requires
+unfolding mostItems itemLimit
 look-unstored-requires c κs =
     let e = c .before .before .before .before .before .before in
-    let memo = fresh-memo (sheetOf (e .args .sheet .now)) (decodeTable (e .args .table .now)) _ _ (size-most (e .args .sheet .now)) refl refl (same-all 0 1024) in
+    let memo = fresh-memo (sheetOf (e .args .sheet .now)) (decodeTable (e .args .table .now)) _ _ (size-room (e .args .sheet .now)) refl refl (same-all 0 mostItems) in
     (e .pre .0, (memo, (e .pre .1 .0, e .pre .1 .1 .1)))
 
 returns : tie.Need-returns

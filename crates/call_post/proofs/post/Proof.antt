@@ -1,7 +1,7 @@
 use Rattle.admission.proofs.Calls.{admits, refuses}
 use Rattle.circuit.specs.Call.{post}
 use Rattle.value.proofs.Signed.{back}
-use Rattle.sheet.specs.Check.{mostItems}
+use Rattle.layout.specs.Layout.{mostItems, itemLimit}
 use mathlib.Core.Path.{refl}
 use native.Mathlib.Omega.{arith}
 use borrow.Author.Needs.{needs}
@@ -9,7 +9,7 @@ use Rattle.call_post.proofs.post.Statement.{statement}
 use Rattle.call_post.proofs.post.Tie as tie
 
 post-lent-requires : tie.Need-post-lent-requires
-unfolding mostItems
+unfolding mostItems itemLimit
 post-lent-requires c κs =
     let b = c .before .before .before in
     let m = b .before .before .before .before in
@@ -25,7 +25,7 @@ returns c =
     rw (refuses (a .sheet .now) (a .index .now) (a .table .now) (post (a .item) (a .kind) (a .number)) (m .admit .ensures .0) (b .number .given .1)) (record { number-is = c .give .ensures .0; offset-is = c .give .ensures .1; table-is = refl })
 
 returns-2 : tie.Need-returns-2
-unfolding mostItems
+unfolding mostItems itemLimit
 returns-2 c =
     let b = c .before .before .before .before .before .before in
     let m = b .before .before .before .before in
@@ -34,7 +34,7 @@ returns-2 c =
     rw (g .call (post (a .item) (a .kind) (a .number))) (rw (back (a .number) (m .before .before .before .before .before .before .before .fits .number)) at (c .before .before .post-lent .ensures (a .index .now)))
 
 pub post-spec : {M : Type 1} → statement M
-unfolding mostItems
+unfolding mostItems itemLimit
 post-spec =
     tie.close
     (tie.spec

@@ -11,10 +11,6 @@ use Rattle.children.specs.Children.{headPlaces}
 use Rattle.children.proofs.Linking.{heads-length, place-low}
 use Rattle.children.proofs.head_places.Statement.{statement}
 use Rattle.children.proofs.head_places.Tie as tie
-use Rattle.children.proofs.head_places.Reads as reads
-use Rattle.children.proofs.head_places.Lts as lts
-use Rattle.item.proofs.parent.Reads as parent-reads
-use Rattle.item.proofs.parent_count.Reads as parent-count-reads
 
 abbrev Inv-loop : tie.InvT-loop
 Inv-loop s at heads₀ first count k₀ heads k = (k ≤ count) × (heads ≡ headPlaces heads₀ first (parentsOf (fieldItem s at)) k)

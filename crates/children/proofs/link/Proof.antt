@@ -1,14 +1,11 @@
 -- `children::link` meets its contract. The loop's invariant: the lists are those of the items from c on. Assumes nothing.
 use native.Mathlib.Omega.{arith}
-use borrow.Author.Needs.{needs}
-use Rattle.item.proofs.Located.{size-most}
+use Rattle.circuit.specs.Rules.{maxParents}
+use Rattle.layout.specs.Layout.{itemLimit, mostItems}
+use Rattle.item.proofs.Located.{size-most, size-room}
 use Rattle.children.proofs.Building.{Built, built-start, item-there, parents-low, built-next, built-lengths, built-done}
 use Rattle.children.proofs.link.Statement.{statement}
 use Rattle.children.proofs.link.Tie as tie
-use Rattle.children.proofs.link.Reads as reads
-use Rattle.children.proofs.link.Lts as lts
-use Rattle.children.proofs.head_places.Reads as head-places-reads
-use Rattle.children.proofs.link_places.Reads as link-places-reads
 
 abbrev Inv-loop : tie.InvT-loop
 Inv-loop s offsets n heads₀ links₀ c₀ heads links c = Built s heads₀ links₀ n c heads links
@@ -41,6 +38,7 @@ mul-link-places c =
     omega (arith, size-most (a .args .s .now), a .pre .1 .0, c .before .before .before .before .loop .inv .within)
 
 link-places-requires : tie.Need-link-places-requires Inv-loop μ-loop
+unfolding maxParents
 link-places-requires c κs =
     let a = c .before .before .before .before .before .before .before .before .before in
     let l = c .before .before .before .before .loop in
@@ -54,18 +52,20 @@ mul-head-places c =
     omega (arith, size-most (a .args .s .now), a .pre .1 .0, c .before .before .before .before .before .before .before .before .loop .inv .within)
 
 head-places-requires : tie.Need-head-places-requires Inv-loop μ-loop
+unfolding maxParents mostItems itemLimit
 head-places-requires c κs =
     let a = c .before .before .before .before .before .before .before .before .before .before .before .before .before in
     let l = c .before .before .before .before .before .before .before .before .loop in
     let more = c .before .before .before .before .before .before .before .loop-test .taken in
     let kept = built-lengths (l .inv) in
-    (item-there (a .args .s .now) (a .args .offsets .now) (a .pre .0) (a .pre .1 .0) (l .inv .within) more, (parents-low (a .args .s .now) (a .args .offsets .now) (a .pre .0) (a .pre .1 .0) (l .inv .within) more (l .heads) (omega (arith, a .pre .1 .1 .1 .0, kept .0)), omega (arith, size-most (a .args .s .now), a .pre .1 .0, l .inv .within)))
+    (item-there (a .args .s .now) (a .args .offsets .now) (a .pre .0) (a .pre .1 .0) (l .inv .within) more, (parents-low (a .args .s .now) (a .args .offsets .now) (a .pre .0) (a .pre .1 .0) (l .inv .within) more (l .heads) (omega (arith, a .pre .1 .1 .1 .0, kept .0)), omega (arith, size-room (a .args .s .now), a .pre .1 .0, l .inv .within)))
 
 loop-less : tie.Need-loop-less Inv-loop μ-loop
 loop-less c =
     omega (arith, c .before .before .before .before .before .before .before .before .before .before .loop-test .taken)
 
 loop-again : tie.Need-loop-again Inv-loop μ-loop
+unfolding maxParents
 loop-again c =
     let a = c .before .before .before .before .before .before .before .before .before .before .before .before .before .before .before .before in
     let l = c .before .before .before .before .before .before .before .before .before .before .before .loop in

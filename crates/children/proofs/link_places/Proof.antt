@@ -11,10 +11,6 @@ use Rattle.children.specs.Children.{linkPlaces}
 use Rattle.children.proofs.Linking.{links-length, place-low}
 use Rattle.children.proofs.link_places.Statement.{statement}
 use Rattle.children.proofs.link_places.Tie as tie
-use Rattle.children.proofs.link_places.Reads as reads
-use Rattle.children.proofs.link_places.Lts as lts
-use Rattle.item.proofs.parent.Reads as parent-reads
-use Rattle.item.proofs.parent_count.Reads as parent-count-reads
 
 abbrev Inv-loop : tie.InvT-loop
 Inv-loop s at heads links₀ first count k₀ links k = (k ≤ count) × (links ≡ linkPlaces links₀ heads first (parentsOf (fieldItem s at)) k)

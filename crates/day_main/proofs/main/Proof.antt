@@ -2,7 +2,7 @@
 use native.Mathlib.Omega.{arith}
 use borrow.Author.Needs.{needs}
 use Rattle.layout.specs.Index.{indexWidth}
-use Rattle.sheet.specs.Check.{mostItems}
+use Rattle.layout.specs.Layout.{mostItems}
 use Rattle.day_main.proofs.main.Statement.{statement}
 use Rattle.day_main.proofs.main.Tie as tie
 

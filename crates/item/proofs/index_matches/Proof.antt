@@ -1,9 +1,9 @@
 -- `item::index_matches` meets its contract. The loop's invariant: the entries that are left decide. Assumes nothing.
 use native.Mathlib.Omega.{arith}
-use mathlib.Core.Path.{_≡_, refl, sym, ap, _∙_}
-use Prim.Native.Nat.{_≤_, _*_, _-_}
+use mathlib.Core.Path.{refl, sym, _∙_}
+use Prim.Native.Nat.{_≤_, _-_}
 use borrow.Author.Tests.{not-true, not-false}
-use lib.ListN.{length, take}
+use lib.ListN.{take}
 use Rattle.item.proofs.Offsets.{Compared, compared-next, compared-other, compared-done}
 use Rattle.item.proofs.index_matches.Statement.{statement}
 use Rattle.item.proofs.index_matches.Tie as tie

@@ -2,7 +2,7 @@
 use Prim.Native.Nat.{_+_, _*_}
 use lib.ListN.{getD}
 use native.Mathlib.Omega.{arith}
-use mathlib.Core.Path.{_≡_, refl, sym, ap, _∙_}
+use mathlib.Core.Path.{_≡_, ap, _∙_}
 use Rattle.item.proofs.Offsets.{number-compared}
 use borrow.Author.Needs.{needs}
 use Rattle.item.proofs.is_offset.Statement.{statement}

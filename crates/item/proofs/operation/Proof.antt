@@ -34,7 +34,7 @@ returns : tie.Need-returns
 returns c =
     let a = c .before .before .before .before .before in
     operation-read (a .args .s .now) (a .args .at) (a .pre .0) (figure-tag (a .args .s .now) (a .args .at) (a .pre .1)) (c .operation-of .result)
-    (c .operation-of .ensures ∙ ap (operationOf (ruleByte (a .args .s .now) (a .args .at))) (c .before .wide .ensures))
+    (c .operation-of .ensures ∙ ap (operationOf (ruleByte (a .args .s .now) (a .args .at))) (c .before .wide .ensures .0))
 
 pub operation-spec : {M : Type 1} → statement M
 operation-spec =

@@ -23,7 +23,7 @@ returns : tie.Need-returns
 returns c =
     let a = c .before .before .before .before .before in
     let t = c .before .before .if1 .taken in
-    rw (c .wide .ensures) (count-read (a .args .s .now) (a .args .at) (a .pre) t)
+    rw (c .wide .ensures .0) (count-read (a .args .s .now) (a .args .at) (a .pre) t)
 
 returns-2 : tie.Need-returns-2
 returns-2 c =

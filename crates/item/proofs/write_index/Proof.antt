@@ -1,8 +1,9 @@
 -- `item::write_index` meets its contract. The loop's invariant: the entries written are those of the first k offsets. Assumes nothing.
 use native.Mathlib.Omega.{arith}
-use mathlib.Core.Path.{_≡_, refl, sym, ap, _∙_}
+use mathlib.Core.Path.{_≡_, refl, ap, _∙_}
 use Prim.Native.Nat.{_≤_, _+_, _*_, _-_}
 use lib.ListN.{length, take, getD}
+use Rattle.layout.specs.Layout.{indexWidth}
 use Rattle.item.specs.Offsets.{offsetBytes}
 use Rattle.item.proofs.Offsets.{put-length, write-next, write-done}
 use Rattle.item.proofs.write_index.Statement.{statement}
@@ -10,7 +11,7 @@ use Rattle.item.proofs.write_index.Tie as tie
 
 abbrev Inv-loop : tie.InvT-loop
 Inv-loop offsets n index₀ k₀ index k =
-    (k ≤ n) × (length index ≡ 4 * n) × (take (4 * k) index ≡ offsetBytes (take k offsets))
+    (k ≤ n) × (length index ≡ indexWidth * n) × (take (indexWidth * k) index ≡ offsetBytes (take k offsets))
 
 abbrev μ-loop : tie.MeasureT-loop
 μ-loop offsets n index₀ k₀ index k = n - k
@@ -45,8 +46,8 @@ loop-again c =
     let offsets = a .args .offsets .now in
     let e = c .before .before .put-offset .ensures in (
       omega arith,
-      ap length e ∙ put-length (l .index) (4 * l .written) (getD offsets (l .written) 0) ∙ l .inv .1,
-      ap (take (4 * (l .written + 1))) e ∙ write-next offsets (l .index) (l .written) (omega arith) (omega arith) (l .inv .2),
+      ap length e ∙ put-length (l .index) (indexWidth * l .written) (getD offsets (l .written) 0) ∙ l .inv .1,
+      ap (take (indexWidth * (l .written + 1))) e ∙ write-next offsets (l .index) (l .written) (omega arith) (omega arith) (l .inv .2),
     )
 
 same-length : tie.Need-same-length Inv-loop μ-loop

@@ -4,6 +4,7 @@ use Prim.Native.Nat.{ℕ, _<_, _+_, _*_, _-_}
 use native.Mathlib.Omega.{arith}
 use mathlib.Core.Path.{refl}
 use borrow.Author.Needs.{needs}
+use Rattle.circuit.specs.Rules.{maxParents}
 use Rattle.item.proofs.Located.{size-most, located-field}
 use Rattle.memo.specs.Memo.{seenMeaning}
 use Rattle.looking.proofs.Looking.{lent-fits, known-returns, unknown-unstored, worked-figure, worked-returns}
@@ -228,6 +229,7 @@ work-out-parent-count-requires t c κs =
     located-field (e .args .sheet .now) (e .args .offsets .now) (e .pre .1 .0 .located) (e .args .i) (e .pre .1 .1 .1 .0)
 
 work-out-loop-holds : (t : ℕ) → work-out-lts.Need-loop-holds (work-out-claims t) (work-out-at t) work-out.Post work-out-Inv-loop work-out-μ-loop
+unfolding maxParents
 work-out-loop-holds t c =
     let e = c .before .before .before .before .before .before in
     let q = e .pre .1 in

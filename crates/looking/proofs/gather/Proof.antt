@@ -1,5 +1,6 @@
 use lib.ListN.{set}
 use mathlib.Core.Path.{ap, _∙_}
+use Rattle.circuit.specs.Rules.{maxParents}
 use Rattle.value.proofs.Signed.{back}
 use borrow.Author.Needs.{needs}
 use Rattle.looking.proofs.gather.Statement.{statement}
@@ -18,6 +19,7 @@ returns c =
     (c .either .ensures, (kind, amount))
 
 pub gather-spec : {M : Type 1} → statement M
+unfolding maxParents
 gather-spec =
     tie.close
     (tie.spec

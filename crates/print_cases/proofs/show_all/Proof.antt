@@ -3,7 +3,8 @@ use mathlib.Core.Path.{ap, _∙_}
 use mir.Syntax.{w64}
 use mir.ValLaws.{toZ-ofZ}
 use lib.ListN.{length}
-use Rattle.printer.specs.Printing.{partOf, withFront}
+use Rattle.printer.specs.Printing.{partOf}
+use Rattle.field.specs.Bytes.{over}
 use borrow.Author.Needs.{needs}
 use Rattle.print_cases.proofs.show_all.Statement.{statement}
 use Rattle.print_cases.proofs.show_all.Tie as tie
@@ -53,7 +54,7 @@ returns c =
     let start = call .before .before .before in
     let scratch = start .args .scratch .now in
     call .print-into .ensures .bytes
-    ∙ ap (λ z. withFront (partOf (start .args .kind) z (length scratch)) scratch) (toZ-ofZ w64 (start .args .number) (start .fits .number))
+    ∙ ap (λ z. over (partOf (start .args .kind) z (length scratch)) scratch) (toZ-ofZ w64 (start .args .number) (start .fits .number))
 
 pub show-all-spec : {M : Type 1} → statement M
 show-all-spec =

@@ -6,8 +6,9 @@ use mathlib.Core.Path.{_≡_, refl, sym, _∙_}
 use Prim.Native.Nat.{_-_, _≤_}
 use lib.ListN.{length, length-set}
 use Rattle.layout.specs.Read.{itemTests, going, scan}
-use Rattle.layout.specs.Opened.{offsetsOf}
-use Rattle.sheet.specs.Check.{over, levelsOf, soundItems}
+use Rattle.layout.specs.Opened.{offsetsOf, levelsOf}
+use Rattle.field.specs.Bytes.{over}
+use Rattle.sheet.specs.Check.{soundItems}
 use Rattle.field.proofs.Cutting.{matched-field}
 use Rattle.sheet.proofs.Fields.{missing}
 use Rattle.layout.proofs.Scan.{scan-length}

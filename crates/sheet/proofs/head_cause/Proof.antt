@@ -4,7 +4,7 @@ use mathlib.Core.Path.{_≡_, sym, ap, ap₂, _∙_}
 use mathlib.Core.Bool.{true, false}
 use Rattle.field.specs.Field.{le16At}
 use Prim.Native.Nat.{_+_}
-use Rattle.layout.specs.Layout.{editionKnown, countAllowed}
+use Rattle.layout.specs.Layout.{editionKnown, countAllowed, countAt}
 use Rattle.sheet.proofs.Fields.{head-tag, head-length, head-edition, head-count, head-sound}
 use borrow.Author.Needs.{needs}
 use Rattle.sheet.proofs.head_cause.Statement.{statement}
@@ -44,7 +44,7 @@ returns-4 c =
     let e = c .before .before .before .before .before .u16-at .ensures .0 in
     let m = c .before .before .before .before .u16-at2 .ensures .0 in
     let k : editionKnown (le16At (a .args .s .now) (a .args .start)) ≡ true = sym (ap editionKnown e) ∙ sym (c .before .before .before .edition-known .ensures) ∙ not-false _ (c .before .before .if3 .left) in
-    let n : countAllowed (le16At (a .args .s .now) (a .args .start)) (le16At (a .args .s .now) (a .args .start + 2)) ≡ false =
+    let n : countAllowed (le16At (a .args .s .now) (a .args .start)) (le16At (a .args .s .now) (a .args .start + countAt)) ≡ false =
     sym (ap₂ countAllowed e m) ∙ sym (c .before .count-allowed .ensures) ∙ not-true _ (c .if4 .taken) in
     head-count (a .args .s .now) (a .args .tag) (a .args .start) (a .args .len) (a .pre) (c .before .before .before .before .before .before .before .if1 .left) (c .before .before .before .before .before .before .if2 .left) k n
 
@@ -54,7 +54,7 @@ returns-5 c =
     let e = c .before .before .before .before .before .u16-at .ensures .0 in
     let m = c .before .before .before .before .u16-at2 .ensures .0 in
     let k : editionKnown (le16At (a .args .s .now) (a .args .start)) ≡ true = sym (ap editionKnown e) ∙ sym (c .before .before .before .edition-known .ensures) ∙ not-false _ (c .before .before .if3 .left) in
-    let n : countAllowed (le16At (a .args .s .now) (a .args .start)) (le16At (a .args .s .now) (a .args .start + 2)) ≡ true =
+    let n : countAllowed (le16At (a .args .s .now) (a .args .start)) (le16At (a .args .s .now) (a .args .start + countAt)) ≡ true =
     sym (ap₂ countAllowed e m) ∙ sym (c .before .count-allowed .ensures) ∙ not-false _ (c .if4 .left) in
     head-sound (a .args .s .now) (a .args .tag) (a .args .start) (a .args .len) (a .pre) (c .before .before .before .before .before .before .before .if1 .left) (c .before .before .before .before .before .before .if2 .left) k n
 

@@ -1,5 +1,5 @@
 -- `sheet::judge_item` meets its contract: at each `return` the tests that led there say what the field's answer is. Assumes nothing.
-use mathlib.Core.Path.{_≡_, sym, ap, _∙_}
+use mathlib.Core.Path.{sym, ap, _∙_}
 use mathlib.Core.Bool.{true, false}
 use Rattle.layout.specs.Read.{contentAt}
 use Rattle.sheet.specs.Check.{judgedItem}

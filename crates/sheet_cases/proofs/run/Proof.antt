@@ -4,27 +4,30 @@ use native.Mathlib.Omega.{arith}
 use mathlib.Core.Path.{_≡_, refl}
 use Prim.Native.Nat.{_-_}
 use lib.ListN.{length}
-use Rattle.sheet.specs.Check.{mostItems}
+use Rattle.layout.specs.Layout.{mostItems, itemLimit}
 use Rattle.sheet_cases.proofs.run.Statement.{statement}
 use Rattle.sheet_cases.proofs.run.Tie as tie
 
 abbrev Inv-loop : tie.InvT-loop
-Inv-loop cases offsets₀ levels₀ at₀ offsets levels at = (1024 ≡ length offsets) × (1024 ≡ length levels)
+Inv-loop cases offsets₀ levels₀ at₀ offsets levels at = (mostItems ≡ length offsets) × (mostItems ≡ length levels)
 
 abbrev μ-loop : tie.MeasureT-loop
 μ-loop cases offsets₀ levels₀ at₀ offsets levels at = length cases - at
 
 loop-holds : tie.Need-loop-holds Inv-loop μ-loop
+unfolding mostItems itemLimit
 loop-holds c = (refl, refl)
 
 slice-aggregate-run-case : tie.Need-slice-aggregate-run-case Inv-loop μ-loop
+unfolding mostItems itemLimit
 slice-aggregate-run-case c = search needs
 
 slice-aggregate-run-case-2 : tie.Need-slice-aggregate-run-case-2 Inv-loop μ-loop
+unfolding mostItems itemLimit
 slice-aggregate-run-case-2 c = search needs
 
 run-case-requires : tie.Need-run-case-requires Inv-loop μ-loop
-unfolding mostItems
+unfolding mostItems itemLimit
 run-case-requires c κs = omega arith
 
 loop-less : tie.Need-loop-less Inv-loop μ-loop

@@ -3,8 +3,6 @@ use borrow.Author.Needs.{needs}
 use Rattle.table.proofs.Marks.{refresh-read, notice-read, unmarked-read}
 use Rattle.table.proofs.is_marked.Statement.{statement}
 use Rattle.table.proofs.is_marked.Tie as tie
-use Rattle.table.proofs.is_marked.Reads as reads
-use Rattle.table.proofs.is_marked.Lts as lts
 
 mul-at : tie.Need-mul-at
 mul-at c = search needs

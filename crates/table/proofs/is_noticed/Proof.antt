@@ -3,8 +3,6 @@ use borrow.Author.Needs.{needs}
 use Rattle.table.proofs.Marks.{noticed-read}
 use Rattle.table.proofs.is_noticed.Statement.{statement}
 use Rattle.table.proofs.is_noticed.Tie as tie
-use Rattle.table.proofs.is_noticed.Reads as reads
-use Rattle.table.proofs.is_noticed.Lts as lts
 
 mul-result : tie.Need-mul-result
 mul-result c = search needs

@@ -1,14 +1,11 @@
 -- `table::lowest_marked` meets its contract. The loop's invariant: no item below i is marked. Assumes nothing.
 use native.Mathlib.Omega.{arith}
 use Prim.Native.Nat.{_-_}
-use mathlib.Core.Path.{_≡_, sym, _∙_}
+use mathlib.Core.Path.{sym, _∙_}
 use Rattle.table.specs.Bytes.{decodeTable}
 use Rattle.table.proofs.Marks.{Searched, search-next, search-found, search-done}
 use Rattle.table.proofs.lowest_marked.Statement.{statement}
 use Rattle.table.proofs.lowest_marked.Tie as tie
-use Rattle.table.proofs.lowest_marked.Reads as reads
-use Rattle.table.proofs.lowest_marked.Lts as lts
-use Rattle.table.proofs.is_marked.Reads as is-marked-reads
 
 abbrev Inv-loop : tie.InvT-loop
 Inv-loop table n i₀ i = Searched (decodeTable table) n i

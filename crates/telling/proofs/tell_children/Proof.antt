@@ -2,6 +2,7 @@
 -- next. Assumes nothing.
 use native.Mathlib.Omega.{arith}
 use borrow.Author.Needs.{needs}
+use Rattle.circuit.specs.Rules.{maxParents}
 use Rattle.item.proofs.Located.{size-most, located-narrow}
 use Rattle.children.proofs.Linking.{left}
 use Rattle.telling.proofs.Children.{Telling, telling-start, telling-memo, child-low, child-figure, child-fresh, edge-low, telling-less, telling-next, telling-done}
@@ -39,12 +40,14 @@ loop-holds c =
     telling-start (q .0) (q .1 .0) (q .1 .1 .0) (q .1 .1 .1 .0) (q .1 .1 .1 .1) _ (c .wide .ensures)
 
 tell-child-requires : tie.Need-tell-child-requires Inv-loop μ-loop
+unfolding maxParents
 tell-child-requires c κs =
     let inv = c .before .before .before .before .loop .inv in
     let more = c .before .before .before .loop-test .taken in
     (inv .lent, (telling-memo inv, (child-fresh inv more, (child-low inv more, child-figure inv more))))
 
 mul-wide-2 : tie.Need-mul-wide-2 Inv-loop μ-loop
+unfolding maxParents
 mul-wide-2 c =
     let a = c .before .before .before .before .before .before .before .before .before .before .before .before .before .before .before .before .before .before .before in
     let inv = c .before .before .before .before .before .before .before .before .before .before .loop .inv in
@@ -73,6 +76,7 @@ loop-less c =
     telling-less inv more (a .pre .1 .1 .1 .0) narrow _ (c .wide2 .ensures)
 
 loop-again : tie.Need-loop-again Inv-loop μ-loop
+unfolding maxParents
 loop-again c =
     let a = c .before .before .before .before .before .before .before .before .before .before .before .before .before .before .before .before .before .before .before .before .before in
     let inv = c .before .before .before .before .before .before .before .before .before .before .before .before .loop .inv in
