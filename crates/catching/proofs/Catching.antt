@@ -10,7 +10,7 @@ use Rattle.layout.specs.Opened.{sheetOf}
 use Rattle.table.specs.Bytes.{decodeTable, LowestMarked}
 use Rattle.looking.specs.Pass.{Lent}
 use Rattle.stepping.specs.Stepping.{Ready, Steps}
-use Rattle.stepping.proofs.Sweeping.{quiet-caught}
+use Rattle.stepping.proofs.Ascending.{quiet-caught}
 
 -- nothing is marked: catching up leaves the table, and the next generations may begin
 pub caught-quiet : {s offsets t tags : List ℕ} {numbers : List ℤ} {n first : ℕ} → Lent s offsets t → Ready s tags numbers 1 → n ≡ size (sheetOf s)

@@ -9,7 +9,7 @@ use borrow.Author.Tests.{leb-false, not-false}
 use Rattle.circuit.specs.Sheet.{Sheet, size, itemAt, isFigure}
 use Rattle.circuit.specs.Table.{Table, isMarked}
 use Rattle.circuit.specs.Call.{Call, post, keep, drop, step, ask}
-use Rattle.circuit.specs.Calls.{Test, test, tests, firstCause, effect, unless, perform}
+use Rattle.circuit.specs.Calls.{Test, test, tests, firstCause, effect, effectUnless, perform}
 
 -- no cause holds: the first does not, and none of the others
 pub no-cause : (k : ℕ) (b : Bool) (ts : List Test) → firstCause (test (suc k) b ∷ ts) ≡ 0 → (b ≡ false) × (firstCause ts ≡ 0)
@@ -22,7 +22,7 @@ pub number-cause : (S : Sheet) (T : Table) (c : Call) → perform S T c .number 
 unfolding perform effect
 number-cause S T c e = go (firstCause (tests S T c)) e
   where
-    go : (k : ℕ) → unless k S T c .number ≡ 0 → k ≡ 0
+    go : (k : ℕ) → effectUnless k S T c .number ≡ 0 → k ≡ 0
     go zero e′ = refl
     go (suc k) e′ = e′
 
@@ -38,12 +38,12 @@ effect-number S T (ask i) = refl
 -- a call that met no cause has its effect
 pub accepted-effect : (S : Sheet) (T : Table) (c : Call) → firstCause (tests S T c) ≡ 0 → perform S T c ≡ effect S T c
 unfolding perform
-accepted-effect S T c e = ap (λ k. unless k S T c) e
+accepted-effect S T c e = ap (λ k. effectUnless k S T c) e
 
 -- a call that met a cause leaves the table
 pub refused-table : (S : Sheet) (T : Table) (c : Call) (k : ℕ) → firstCause (tests S T c) ≡ suc k → perform S T c .table ≡ T
 unfolding perform
-refused-table S T c k e = ap (λ n. unless n S T c .table) e
+refused-table S T c k e = ap (λ n. effectUnless n S T c .table) e
 
 abbrev Passed : Sheet → Table → Call → Type 0
 Passed S T c = firstCause (tests S T c) ≡ 0

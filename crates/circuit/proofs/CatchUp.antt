@@ -14,7 +14,7 @@ use borrow.Author.Tests.{eqb-true, eqb-false}
 use Rattle.circuit.specs.Value.{Value, same}
 use Rattle.circuit.specs.Sheet.{Sheet, size, parents, Ordered}
 use Rattle.circuit.specs.Table.{Table, Cell, Mark, unmarked, refresh, notice, unk, held, isNotice, noticeIf, isMark, isMarked, markOf}
-use Rattle.circuit.specs.Machine.{work, lookUp, tell, clearCell, clearMark, stepCell, stepItem, orNext, lowestMarked, stepLowest, catchUpIn, catchUp}
+use Rattle.circuit.specs.Machine.{workOut, lookUp, tell, clearCell, clearMark, stepCell, stepItem, orNext, lowestMarked, stepLowest, catchUpIn, catchUp}
 use Rattle.circuit.specs.Ascending.{stepIf, stepMarked, ascendBelow, ascend}
 use Rattle.circuit.specs.Call.{ask}
 use Rattle.circuit.specs.Calls.{perform, effect}
@@ -126,7 +126,7 @@ module _ (S : Sheet) (ordered : Ordered S) where
   step-below T i low quiet =
       step-closed S (λ c. i ≤ c) (λ U. QuietBelow U i)
       (record {
-        works = λ U c l h. fill-quiet U (work S U c .table) i (work-right S ordered U c .fill) h;
+        works = λ U c l h. fill-quiet U (workOut S U c .table) i (work-right S ordered U c .fill) h;
         stores = λ U c x l h j m. rw (upd-other U c x j (λ e. omega arith)) (h j m);
       })
       i low (omega arith) (λ c l. omega (arith, ordered c i l)) T quiet
@@ -177,13 +177,13 @@ module _ (S : Sheet) (ordered : Ordered S) where
       go (held v unmarked) e = let m : isMarked (held v unmarked) ≡ true = rw e at marked in never (cc)
       go (held v notice) e = inl (tell-clears T i)
       go (held v refresh) e =
-          rw (upd-same (work S T i .table) i (cond (same v (work S T i .value)) (held v unmarked) (held (work S T i .value) notice)))
-          (which (same v (work S T i .value)))
+          rw (upd-same (workOut S T i .table) i (cond (same v (workOut S T i .value)) (held v unmarked) (held (workOut S T i .value) notice)))
+          (which (same v (workOut S T i .value)))
         where
           which : (b : Bool)
-              → (isMarked (cond b (held v unmarked) (held (work S T i .value) notice)) ≡ false) ⊎ ((w : Value) × (cond b (held v unmarked) (held (work S T i .value) notice) ≡ held w notice))
+              → (isMarked (cond b (held v unmarked) (held (workOut S T i .value) notice)) ≡ false) ⊎ ((w : Value) × (cond b (held v unmarked) (held (workOut S T i .value) notice) ≡ held w notice))
           which true = inl refl
-          which false = inr (work S T i .value, refl)
+          which false = inr (workOut S T i .value, refl)
 
   -- two steps of a marked item, while it is marked, leave it unmarked; they are what catching up does
   record Advance (k fuel : ℕ) (T : Table) : Type 0 where

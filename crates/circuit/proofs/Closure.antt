@@ -13,7 +13,7 @@ use Rattle.circuit.specs.Value.{Value, same}
 use Rattle.circuit.specs.Circuit.{Listed}
 use Rattle.circuit.specs.Sheet.{Sheet, Spread, defer, renew, forget, size, itemAt, parents, spreadOf, isChild, member}
 use Rattle.circuit.specs.Table.{Table, Cell, Mark, unmarked, refresh, notice, unk, held, upd, isMarked}
-use Rattle.circuit.specs.Machine.{work, tellChild, tellCell, tellStored, tellIf, tellBelow, tell, clearMark, stepItem, stepCell, renewed, orNext, lowestMarked, stepLowest, catchUpIn, catchUp}
+use Rattle.circuit.specs.Machine.{workOut, tellChild, tellCell, tellStored, tellIf, tellBelow, tell, clearMark, stepItem, stepCell, renewed, orNext, lowestMarked, stepLowest, catchUpIn, catchUp}
 
 -- a member of the list is listed
 pub member-listed : (i : ℕ) (ps : List ℕ) → member i ps ≡ true → Listed i ps
@@ -50,12 +50,12 @@ lowest-marked T (suc k) i e = go (lowestMarked T k) (isMarked (T k)) refl e (λ 
 
 -- Stores are allowed at the items of a class; looking up and working out keep the property.
 pub record Closed (S : Sheet) (Here : ℕ → Type 0) (P : Table → Type 0) : Type 0 where
-  pub works : (T : Table) (i : ℕ) → i < size S → P T → P (work S T i .table)
+  pub works : (T : Table) (i : ℕ) → i < size S → P T → P (workOut S T i .table)
   pub stores : (T : Table) (i : ℕ) (c : Cell) → Here i → P T → P (upd T i c)
 
 module _ (S : Sheet) (Here : ℕ → Type 0) (P : Table → Type 0) (closed : Closed S Here P) where
-  renewed-closed : (T : Table) (c : ℕ) (v : Value) (m : Mark) → c < size S → Here c → P T → P (renewed c v m (work S T c))
-  renewed-closed T c v m low here h = closed .stores (work S T c .table) c _ here (closed .works T c low h)
+  renewed-closed : (T : Table) (c : ℕ) (v : Value) (m : Mark) → c < size S → Here c → P T → P (renewed c v m (workOut S T c))
+  renewed-closed T c v m low here h = closed .stores (workOut S T c .table) c _ here (closed .works T c low h)
 
   tellStored-closed : (spread : Spread) (T : Table) (c : ℕ) (v : Value) (m : Mark) → c < size S → Here c → P T
       → P (tellStored spread S T c v m)

@@ -5,7 +5,7 @@ use mathlib.Core.Option.{some}
 use borrow.Author.Tests.{le-leb, lt-leb}
 use Rattle.circuit.specs.Sheet.{Sheet, size, Ordered, Entries}
 use Rattle.circuit.specs.Table.{Table}
-use Rattle.circuit.specs.Machine.{gather, workOut, lookCell, lookUp, work, lowestMarked}
+use Rattle.circuit.specs.Machine.{gather, workOutBy, lookCell, lookUp, workOut, lowestMarked}
 use Rattle.circuit.specs.Fresh.{give, freshAsk, giveItem}
 use Rattle.circuit.specs.Words.{CaughtUp, still, stepped}
 use Rattle.circuit.specs.Equations.{LookingUp, FreshGives, MarkedFirst, Lowest, Equations}
@@ -16,7 +16,7 @@ use Rattle.circuit.proofs.Closure.{lowest-marked}
 use Rattle.circuit.proofs.CatchUp.{lowest-none, lowest-some, none-quiet, some-quiet, catchUp-quiet, catchUp-ends}
 
 looking-up : (S : Sheet) → Ordered S → (T : Table) → LookingUp S T
-unfolding gather workOut work
+unfolding gather workOutBy workOut
 looking-up S ordered T =
     record {
       stored = λ i v m e. lookUp-is S ordered T i ∙ ap (lookCell (lookUp S) S T i) e;

@@ -15,7 +15,7 @@ use Rattle.circuit.specs.Value.{null}
 use Rattle.circuit.specs.Circuit.{Listed}
 use Rattle.circuit.specs.Sheet.{Sheet, Item, entry, figure, itemAt, isFigure, keptOf, parents, evaluate, Ordered}
 use Rattle.circuit.specs.Table.{Table, Cell, unk, held, upd, isNotice, noticeIf}
-use Rattle.circuit.specs.Machine.{Looked, Gathered, gather, workOut, storeIf, flagged, lookCell, lookFor, lookUp, work, keepCell, keepFigure}
+use Rattle.circuit.specs.Machine.{Looked, Gathered, gather, workOutBy, storeIf, flagged, lookCell, lookFor, lookUp, workOut, keepCell, keepFigure}
 use Rattle.circuit.proofs.Solution.{map-listed}
 use Rattle.circuit.proofs.View.{never, Seen, anyFlag, seenCell, view, result, any-ext, worked-ext, view-is, view-at, view-unique}
 
@@ -120,8 +120,8 @@ module _ (S : Sheet) (ordered : Ordered S) where
       }
 
   workOut-right : (look : Table → ℕ → Looked) (b : ℕ) → Right look b → (T : Table) (i : ℕ) → i ≤ b
-      → Looks S T (result S T i) (workOut look S T i)
-  unfolding workOut
+      → Looks S T (result S T i) (workOutBy look S T i)
+  unfolding workOutBy
   workOut-right look b right T i l =
       let g : Gathers S T (parents S i) (gather look T (parents S i))
       = gather-right look b right (parents S i) T (λ p m. let o : p < i = ordered i p m in omega arith) in
@@ -137,7 +137,7 @@ module _ (S : Sheet) (ordered : Ordered S) where
   lookCell-right look b right T i l = go (T i) refl
     where
       r : Looked
-      r = workOut look S T i
+      r = workOutBy look S T i
 
       w : Looks S T (result S T i) r
       w = workOut-right look b right T i l
@@ -176,8 +176,8 @@ module _ (S : Sheet) (ordered : Ordered S) where
   look-right T i = lookFor-right (suc i) T i (omega arith)
 
   -- so does working out, with the result by the parents
-  pub work-right : (T : Table) (i : ℕ) → Looks S T (result S T i) (work S T i)
-  unfolding work
+  pub work-right : (T : Table) (i : ℕ) → Looks S T (result S T i) (workOut S T i)
+  unfolding workOut
   work-right T i = workOut-right (lookUp S) i (λ U p l. look-right U p) T i (omega arith)
 
   -- and keeping a figure
@@ -203,7 +203,7 @@ module _ (S : Sheet) (ordered : Ordered S) where
 
   lookCell-ext : (look find : Table → ℕ → Looked) (T : Table) (i : ℕ) (c : Cell)
       → ((U : Table) (p : ℕ) → p < i → look U p ≡ find U p) → lookCell look S T i c ≡ lookCell find S T i c
-  unfolding workOut
+  unfolding workOutBy
   lookCell-ext look find T i (held v m) h = refl
   lookCell-ext look find T i (unk f) h =
       rw (gather-ext look find (parents S i) (λ U p l. h U p (ordered i p l)) T)
@@ -227,8 +227,8 @@ module _ (S : Sheet) (ordered : Ordered S) where
       lookCell-ext (lookFor i S) (lookUp S) T i (T i) (λ U p l. lookFor-is i U p l)
 
   -- and of working out, with any depth above the parents
-  pub work-is : (f : ℕ) (T : Table) (i : ℕ) → i ≤ f → workOut (lookFor f S) S T i ≡ work S T i
-  unfolding work workOut
+  pub work-is : (f : ℕ) (T : Table) (i : ℕ) → i ≤ f → workOutBy (lookFor f S) S T i ≡ workOut S T i
+  unfolding workOut workOutBy
   work-is f T i l =
       rw (gather-ext (lookFor f S) (lookUp S) (parents S i)
       (λ U p m. let o : p < i = ordered i p m in lookFor-is f U p (omega arith)) T)

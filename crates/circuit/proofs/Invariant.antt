@@ -11,7 +11,7 @@ use Rattle.circuit.specs.Value.{Value, null, same}
 use Rattle.circuit.specs.Circuit.{Listed}
 use Rattle.circuit.specs.Sheet.{Sheet, Item, entry, figure, itemAt, isFigure, parentsOf, parents, Ordered}
 use Rattle.circuit.specs.Table.{Table, Cell, Mark, unmarked, refresh, notice, unk, held, upd, isNotice, noticeIf, bareCell, openBare, openFull}
-use Rattle.circuit.specs.Machine.{Looked, work, postCell, storePosting, dropCell, dropFigure, renewed}
+use Rattle.circuit.specs.Machine.{Looked, workOut, postCell, storePosting, dropCell, dropFigure, renewed}
 use Rattle.circuit.proofs.RuleLaws.{same-true, all-null, allNull-map}
 use Rattle.circuit.proofs.View.{never, Seen, seen, anyFlag, worked, seenCell, view, result, strong, worked-ext, view-is, view-at}
 use Rattle.circuit.proofs.Fill.{upd-cases, notice-is, Filling, stays, fills, Fill, Looks, work-right}
@@ -174,11 +174,11 @@ module _ (S : Sheet) (ordered : Ordered S) where
 
   -- a stored item worked out anew, from mark m to n, where the two are notice or neither is
   pub renewed-changes : (T : Table) (i : ℕ) (v : Value) (m n : Mark) → T i ≡ held v m → isNotice n ≡ isNotice m
-      → Changes S T (renewed i v n (work S T i))
+      → Changes S T (renewed i v n (workOut S T i))
   renewed-changes T i v m n e q = store-changes T (r .table) i _ (right .fill) (go (same v (r .value)) refl)
     where
       r : Looked
-      r = work S T i
+      r = workOut S T i
 
       right : Looks S T (result S T i) r
       right = work-right S ordered T i

@@ -15,7 +15,7 @@ use Rattle.circuit.specs.Value.{Value}
 use Rattle.circuit.specs.Circuit.{Listed}
 use Rattle.circuit.specs.Sheet.{Sheet, itemAt, keptOf, parents, Ordered}
 use Rattle.circuit.specs.Table.{Table, Cell, Mark, unk, held, upd, noticeIf}
-use Rattle.circuit.specs.Machine.{Looked, looked, gathered, gather, workOut, storeIf, flagged, lookCell, lookFor, lookUp, work, catchUp}
+use Rattle.circuit.specs.Machine.{Looked, looked, gathered, gather, workOutBy, storeIf, flagged, lookCell, lookFor, lookUp, workOut, catchUp}
 use Rattle.circuit.specs.Call.{ask}
 use Rattle.circuit.specs.Calls.{readingOf, tests, effect, perform}
 use Rattle.circuit.proofs.View.{view, strong, view-below}
@@ -82,7 +82,7 @@ module _ (S : Sheet) (ordered : Ordered S) where
       rw (h p (inl refl)) (gather-still T ps (λ q l. h q (inr l)))
 
   settled-still : (T : Table) → {i : ℕ} → Settled S T i → lookUp S T i .table ≡ T
-  unfolding workOut
+  unfolding workOutBy
   settled-still T {i} (stored v m e) = ap (λ r. r .table) (lookUp-is S ordered T i) ∙ (rw e)
   settled-still T {i} (passing f e k h) =
       ap (λ r. r .table) (lookUp-is S ordered T i)
@@ -107,7 +107,7 @@ module _ (S : Sheet) (ordered : Ordered S) where
 
   -- a look-up leaves its item settled
   look-settled : (i : ℕ) (T : Table) → Settled S (lookUp S T i .table) i
-  unfolding workOut
+  unfolding workOutBy
   look-settled = strong (λ i. (T : Table) → Settled S (lookUp S T i .table) i) rise
     where
       rise : (i : ℕ) → ((p : ℕ) → p < i → (T : Table) → Settled S (lookUp S T p .table) p) → (T : Table)
@@ -123,7 +123,7 @@ module _ (S : Sheet) (ordered : Ordered S) where
           unkept f e k (fills g l q h) = stored _ _ h
 
           which : (f b : Bool) → T i ≡ unk f → keptOf (itemAt S i) ≡ b
-              → Settled S (storeIf b i (flagged f (workOut (lookUp S) S T i)) .table) i
+              → Settled S (storeIf b i (flagged f (workOutBy (lookUp S) S T i)) .table) i
           which f true e k = stored _ _ (upd-same G i _)
           which f false e k = unkept f e k (gather-fill T (parents S i) i)
 
@@ -168,8 +168,8 @@ module _ (S : Sheet) (ordered : Ordered S) where
   remember-look T i j v f e = remember-fill T (lookUp S T i .table) j v f (look-right S ordered T i .fill) e
 
   pub remember-work : (T : Table) (i j : ℕ) (v : Value) (f : Bool) → Remembered S T j v f
-      → Remembered S (work S T i .table) j v f
-  remember-work T i j v f e = remember-fill T (work S T i .table) j v f (work-right S ordered T i .fill) e
+      → Remembered S (workOut S T i .table) j v f
+  remember-work T i j v f e = remember-fill T (workOut S T i .table) j v f (work-right S ordered T i .fill) e
 
   -- and after a store at a higher item
   pub remember-store : (T : Table) (c : ℕ) (x : Cell) (j : ℕ) (v : Value) (f : Bool) → j < c → Remembered S T j v f
@@ -190,7 +190,7 @@ module _ (S : Sheet) (ordered : Ordered S) where
 
   lookFor-store : (fuel c : ℕ) (x : Cell) (T : Table) (j : ℕ) → j < c
       → lookFor fuel S (upd T c x) j ≡ beside c x (lookFor fuel S T j)
-  unfolding lookFor workOut
+  unfolding lookFor workOutBy
   lookFor-store zero c x T j l = refl
   lookFor-store (suc fuel) c x T j l =
       rw (upd-other T c x j (λ q. omega arith)) (go (T j) (λ U p m. lookFor-store fuel c x U p m))
@@ -204,10 +204,10 @@ module _ (S : Sheet) (ordered : Ordered S) where
           all = gather-store (lookFor fuel S) c x (parents S j) (λ U p m. h U p (omega (arith, ordered j p m))) T
 
           which : (b : Bool)
-              → storeIf b j (flagged f (workOut (lookFor fuel S) S (upd T c x) j)) ≡ beside c x (storeIf b j (flagged f (workOut (lookFor fuel S) S T j)))
+              → storeIf b j (flagged f (workOutBy (lookFor fuel S) S (upd T c x) j)) ≡ beside c x (storeIf b j (flagged f (workOutBy (lookFor fuel S) S T j)))
           which false = rw all
           which true =
-              let r : Looked = flagged f (workOut (lookFor fuel S) S T j) in
+              let r : Looked = flagged f (workOutBy (lookFor fuel S) S T j) in
               rw all
               (ap (λ U. looked U (r .value) (r .flag))
               (upd-upd (r .table) c j x (held (r .value) (noticeIf (r .flag))) (λ q. omega arith)))
@@ -218,8 +218,8 @@ module _ (S : Sheet) (ordered : Ordered S) where
   look-store T c x j l = lookFor-store (suc j) c x T j l
 
   -- nor a working out of an item up to c
-  pub work-store : (T : Table) (c : ℕ) (x : Cell) (j : ℕ) → j ≤ c → work S (upd T c x) j ≡ beside c x (work S T j)
-  unfolding work workOut
+  pub work-store : (T : Table) (c : ℕ) (x : Cell) (j : ℕ) → j ≤ c → workOut S (upd T c x) j ≡ beside c x (workOut S T j)
+  unfolding workOut workOutBy
   work-store T c x j l =
       rw (gather-store (lookUp S) c x (parents S j) (λ U p m. look-store U c x p (omega (arith, ordered j p m))) T)
 

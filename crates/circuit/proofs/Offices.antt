@@ -12,7 +12,7 @@ use Rattle.circuit.specs.Sheet.{Sheet, size, itemAt, beyond, isFigure, O
 use Rattle.circuit.specs.Table.{Table, opened}
 use Rattle.circuit.specs.Machine.{lookUp, catchUp}
 use Rattle.circuit.specs.Call.{Call, post, keep, drop, step, ask, Posting, Opening, bare, full}
-use Rattle.circuit.specs.Calls.{Outcome, tests, firstCause, isNone, postedValue, effect, unless, perform, run, postingOf, ifAccepted, made, postings}
+use Rattle.circuit.specs.Calls.{Outcome, tests, firstCause, isNone, postedValue, effect, effectUnless, perform, run, postingOf, ifAccepted, postingsMade, postings}
 use Rattle.circuit.specs.Fresh.{called, blank, setEntry, hear, hearAll, give, freshAsk, freshRun}
 use Rattle.circuit.proofs.Solution.{give-solves}
 use Rattle.circuit.proofs.Fresh.{setIf, hear-post}
@@ -48,12 +48,12 @@ none-made zero = refl
 none-made (suc k) = refl
 
 -- The fresh office hears in a call what the call posts, on any table.
-pub hear-made : (S : Sheet) (E : Entries) (T : Table) (c : Call) → hear S E (called c) ≡ entered E (made S T c)
-unfolding hear entered made perform tests firstCause effect
+pub hear-made : (S : Sheet) (E : Entries) (T : Table) (c : Call) → hear S E (called c) ≡ entered E (postingsMade S T c)
+unfolding hear entered postingsMade perform tests firstCause effect
 hear-made S E T (post i kind z) = hear-post S E i kind z ∙ go (beyond S i) (isFigure (itemAt S i)) (postedValue kind z)
   where
     go : (b f : Bool) (o : Option Value)
-        → cond (b || f) E (setIf E i o) ≡ entered E (ifAccepted (unless (cond b 11 (cond f 12 (cond (isNone o) 13 0))) S T (post i kind z) .number) (postingOf i o))
+        → cond (b || f) E (setIf E i o) ≡ entered E (ifAccepted (effectUnless (cond b 11 (cond f 12 (cond (isNone o) 13 0))) S T (post i kind z) .number) (postingOf i o))
     go true f o = refl
     go false true o = refl
     go false false none = refl
@@ -70,7 +70,7 @@ fresh-entered S [] E T = refl
 fresh-entered S (c ∷ cs) E T =
     fresh-entered S cs (hear S E (called c)) (perform S T c .table)
     ∙ ap (λ F. entered F (postings S (perform S T c .table) cs)) (hear-made S E T c)
-    ∙ sym (entered-append (made S T c) (postings S (perform S T c .table) cs) E)
+    ∙ sym (entered-append (postingsMade S T c) (postings S (perform S T c .table) cs) E)
 
 -- an ask of a sound table is answered as the fresh office answers
 pub ask-answers : (S : Sheet) → Ordered S → (E : Entries) (T : Table) → Sound S E T → (i : ℕ)
@@ -78,7 +78,7 @@ pub ask-answers : (S : Sheet) → Ordered S → (E : Entries) (T : Table) → So
 unfolding freshAsk perform tests firstCause effect
 ask-answers S ordered E T sound i = go (beyond S i) refl
   where
-    go : (b : Bool) → beyond S i ≡ b → Answers (cond b none (some (give S E i))) (unless (cond b 11 0) S T (ask i))
+    go : (b : Bool) → beyond S i ≡ b → Answers (cond b none (some (give S E i))) (effectUnless (cond b 11 0) S T (ask i))
     go true e = (refl, refl)
     go false e = (refl, ap some value)
       where

@@ -14,9 +14,9 @@ use Rattle.circuit.specs.Value.{Value, null}
 use Rattle.circuit.specs.Circuit.{IsSolution, Listed, LeadsTo, direct, further}
 use Rattle.circuit.specs.Sheet.{Sheet, Item, entry, figure, itemAt, isFigure, size, parents, Ordered, Entries, circuitOf, evaluate}
 use Rattle.circuit.specs.Table.{Table, Cell, unmarked, refresh, notice, unk, held, isStored, valueIn, isMarked, cellForm}
-use Rattle.circuit.specs.Machine.{lookUp, work, keepFigure, dropFigure, dropCell, stepItem, catchUp, storePosting, postCell}
+use Rattle.circuit.specs.Machine.{lookUp, workOut, keepFigure, dropFigure, dropCell, stepItem, catchUp, storePosting, postCell}
 use Rattle.circuit.specs.Call.{Call, post, keep, drop, step, ask}
-use Rattle.circuit.specs.Calls.{postedValue, postIt, postingOf, tests, firstCause, effect, unless, perform, run, made, madeBy, ifAccepted, postings, drops}
+use Rattle.circuit.specs.Calls.{postedValue, postIt, postingOf, tests, firstCause, effect, effectUnless, perform, run, postingsMade, postingBy, ifAccepted, postings, drops}
 use Rattle.circuit.specs.Words.{Formed, Quiet, Holds, droppedIn}
 use Rattle.circuit.proofs.View.{seen, anyFlag, view, result, strong, any-none, view-at}
 use Rattle.circuit.proofs.Fill.{Filling, stays, fills, Fill, upd-cases, upd-other, look-right, work-right, keep-fill}
@@ -167,8 +167,8 @@ module _ (S : Sheet) (ordered : Ordered S) (e : ℕ) (E : Entries) (m : ℕ → 
   further-closed T confined =
       record {
         works = λ U i low far.
-            further-trans T U (work S U i .table) far
-            (fill-further U (work S U i .table) (confined-further T U confined far) (work-right S ordered U i .fill));
+            further-trans T U (workOut S U i .table) far
+            (fill-further U (workOut S U i .table) (confined-further T U confined far) (work-right S ordered U i .fill));
         stores = λ U i c inside far.
             upd-cases (λ k x. k < size S → Outside S e k → Onward (m k) (T k) x) U i c
             (λ low outside. absurd (inside outside))
@@ -227,7 +227,7 @@ module _ (S : Sheet) (ordered : Ordered S) (e : ℕ) (E : Entries) (m : ℕ → 
   posted-left dropped T i (some v) confined h = let bad : _≡_ {A = ℕ} 0 1 = cc in absurd (omega arith)
 
   -- an accepted call that makes no posting
-  accepted-left : (T : Table) (c : Call) → Confined T → firstCause (tests S T c) ≡ 0 → madeBy c ≡ [] → Left (drops c) T (effect S T c .table)
+  accepted-left : (T : Table) (c : Call) → Confined T → firstCause (tests S T c) ≡ 0 → postingBy c ≡ [] → Left (drops c) T (effect S T c .table)
   unfolding effect
   accepted-left T (post i kind z) confined h none′ =
       posted-left (drops (post i kind z)) T i (postedValue kind z) confined none′
@@ -246,12 +246,12 @@ module _ (S : Sheet) (ordered : Ordered S) (e : ℕ) (E : Entries) (m : ℕ → 
       (fill-further U (lookUp S U i .table) (confined-further T U confined far) (look-right S ordered U i .fill)))
 
   -- a call that makes no posting
-  perform-left : (T : Table) (c : Call) → made S T c ≡ [] → Confined T → Left (drops c) T (perform S T c .table)
-  unfolding made perform
+  perform-left : (T : Table) (c : Call) → postingsMade S T c ≡ [] → Confined T → Left (drops c) T (perform S T c .table)
+  unfolding postingsMade perform
   perform-left T c none-made confined = go (firstCause (tests S T c)) refl none-made
     where
-      go : (n : ℕ) → firstCause (tests S T c) ≡ n → ifAccepted (unless n S T c .number) (madeBy c) ≡ []
-          → Left (drops c) T (unless n S T c .table)
+      go : (n : ℕ) → firstCause (tests S T c) ≡ n → ifAccepted (effectUnless n S T c .number) (postingBy c) ≡ []
+          → Left (drops c) T (effectUnless n S T c .table)
       go zero h none′ = accepted-left T c confined h (rw (effect-number S T c) at none′)
       go (suc n) h none′ = left-further (drops c) T T confined (λ k low outside. same)
 
@@ -260,7 +260,7 @@ module _ (S : Sheet) (ordered : Ordered S) (e : ℕ) (E : Entries) (m : ℕ → 
   unfolding postings run droppedIn
   run-left [] T none-made confined = left-further (droppedIn []) T T confined (λ k low outside. same)
   run-left (c ∷ cs) T none-made confined =
-      let parts = append-nil (made S T c) (postings S (perform S T c .table) cs) none-made in
+      let parts = append-nil (postingsMade S T c) (postings S (perform S T c .table) cs) none-made in
       let first = perform-left T c (parts .0) confined in
       let rest = run-left cs (perform S T c .table) (parts .1) (first .calm) in
       record {
@@ -292,7 +292,7 @@ post-other S T e kind z k other = go (firstCause (tests S T (post e kind z)))
     stores none = refl
     stores (some v) = upd-other T e (postCell (T e) v) k other
 
-    go : (n : ℕ) → unless n S T (post e kind z) .table k ≡ T k
+    go : (n : ℕ) → effectUnless n S T (post e kind z) .table k ≡ T k
     go zero = stores (postedValue kind z)
     go (suc n) = refl
 

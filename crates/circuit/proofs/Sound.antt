@@ -12,9 +12,9 @@ use Rattle.circuit.specs.Value.{Value, null, same}
 use Rattle.circuit.specs.Circuit.{Listed}
 use Rattle.circuit.specs.Sheet.{Sheet, Item, entry, figure, size, itemAt, beyond, isFigure, parentsOf, Ordered, Entries}
 use Rattle.circuit.specs.Table.{Table, Cell, unmarked, refresh, notice, unk, held, upd, valueIn, entryForm, cellForm, bareCell, openBare, openFull}
-use Rattle.circuit.specs.Machine.{lookUp, work, postCell, storePosting, keepFigure, dropFigure, tell, clearCell, clearMark, stepCell, stepItem, catchUp}
+use Rattle.circuit.specs.Machine.{lookUp, workOut, postCell, storePosting, keepFigure, dropFigure, tell, clearCell, clearMark, stepCell, stepItem, catchUp}
 use Rattle.circuit.specs.Call.{Call, post, keep, drop, step, ask}
-use Rattle.circuit.specs.Calls.{tests, firstCause, isNone, postedValue, effect, unless, perform, run}
+use Rattle.circuit.specs.Calls.{tests, firstCause, isNone, postedValue, effect, effectUnless, perform, run}
 use Rattle.circuit.specs.Fresh.{called, blank, setEntry, hear, hearAll, freshRun}
 use Rattle.circuit.specs.Words.{Formed, Holds}
 use Rattle.circuit.proofs.RuleLaws.{same-true}
@@ -98,7 +98,7 @@ module _ (S : Sheet) (ordered : Ordered S) (E : Entries) where
   tell-entry T i =
       tell-closed S (λ c. isFigure (itemAt S c) ≡ true) (λ U. (j : ℕ) → isFigure (itemAt S j) ≡ false → U j ≡ T j)
       (record {
-        works = λ U c l h j e. fill-entry S U (work S U c .table) (work-right S ordered U c .fill) j e ∙ h j e;
+        works = λ U c l h j e. fill-entry S U (workOut S U c .table) (work-right S ordered U c .fill) j e ∙ h j e;
         stores = λ U c x k h j e. figure-entry S U c x k j e ∙ h j e;
       })
       i (λ c l. parent-figure (itemAt S c) i l) T (λ j e. refl)
@@ -122,12 +122,12 @@ module _ (S : Sheet) (ordered : Ordered S) (E : Entries) where
       go (held v unmarked) e = kept-same (T j) (T j) refl
       go (held v notice) e = told
       go (held v refresh) e =
-          upd-cases (λ q c. isFigure (itemAt S q) ≡ false → EntryKept (T q) c) (work S T i .table) i _ unformed
-          (λ q n o. kept-same (T q) (work S T i .table q) (fill-entry S T (work S T i .table) (work-right S ordered T i .fill) q o))
+          upd-cases (λ q c. isFigure (itemAt S q) ≡ false → EntryKept (T q) c) (workOut S T i .table) i _ unformed
+          (λ q n o. kept-same (T q) (workOut S T i .table q) (fill-entry S T (workOut S T i .table) (work-right S ordered T i .fill) q o))
           j k
         where
           unformed : isFigure (itemAt S i) ≡ false
-              → EntryKept (T i) (cond (same v (work S T i .value)) (held v unmarked) (held (work S T i .value) notice))
+              → EntryKept (T i) (cond (same v (workOut S T i .value)) (held v unmarked) (held (workOut S T i .value) notice))
           unformed o form =
               let r : entryForm (held v refresh) ≡ true = rw e at form in never (cc)
 
@@ -192,7 +192,7 @@ module _ (S : Sheet) (ordered : Ordered S) (E : Entries) where
   post-heard T i kind z sound = rw (hear-post S E i kind z) (go (beyond S i) (isFigure (itemAt S i)) (postedValue kind z) refl refl)
     where
       go : (b f : Bool) (o : Option Value) → isFigure (itemAt S i) ≡ f → postedValue kind z ≡ o
-          → Sound S (cond (b || f) E (setIf E i o)) (unless (cond b 11 (cond f 12 (cond (isNone o) 13 0))) S T (post i kind z) .table)
+          → Sound S (cond (b || f) E (setIf E i o)) (effectUnless (cond b 11 (cond f 12 (cond (isNone o) 13 0))) S T (post i kind z) .table)
       go true f o e h = sound
       go false true o e h = sound
       go false false none e h = sound
@@ -204,7 +204,7 @@ module _ (S : Sheet) (ordered : Ordered S) (E : Entries) where
   unfolding perform
   heard T c sound accepted = go (firstCause (tests S T c)) refl
     where
-      go : (k : ℕ) → firstCause (tests S T c) ≡ k → Sound S E (unless k S T c .table)
+      go : (k : ℕ) → firstCause (tests S T c) ≡ k → Sound S E (effectUnless k S T c .table)
       go zero e = accepted e
       go (suc k) e = sound
 

@@ -11,7 +11,7 @@ use lib.ListN.{length}
 use Rattle.circuit.specs.Value.{Value, same}
 use Rattle.circuit.specs.Sheet.{Sheet, size, Ordered}
 use Rattle.circuit.specs.Table.{Table, Cell, unmarked, refresh, notice, unk, held, upd, isStored, isMarked, noticeIf}
-use Rattle.circuit.specs.Machine.{work, tell, clearCell, clearMark, stepItem, stepCell}
+use Rattle.circuit.specs.Machine.{workOut, tell, clearCell, clearMark, stepItem, stepCell}
 use Rattle.circuit.specs.Call.{step}
 use Rattle.circuit.specs.Calls.{perform, effect}
 use Rattle.circuit.specs.Words.{AllAccepted}
@@ -134,8 +134,8 @@ step-lowers S ordered T i marked = go (T i) refl
     go (unk false) e = let bad : _≡_ {A = ℕ} 0 1 = cc (rw e at marked) in absurd (omega arith)
     go (held v unmarked) e = let bad : _≡_ {A = ℕ} 0 1 = cc (rw e at marked) in absurd (omega arith)
     go (held v refresh) e =
-        lowered-store T (work S T i .table) i _ (λ j h. under-fill (work-right S ordered T i .fill j))
-        (rw e (renewed-digit (same v (work S T i .value)) v (work S T i .value)))
+        lowered-store T (workOut S T i .table) i _ (λ j h. under-fill (work-right S ordered T i .fill j))
+        (rw e (renewed-digit (same v (workOut S T i .value)) v (workOut S T i .value)))
     go (held v notice) e =
         lowered-store T (tell S T i) i _ told
         (rw e (cleared-held (tell S T i i) (told i (omega arith) .stored (rw e))))

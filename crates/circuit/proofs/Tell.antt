@@ -15,7 +15,7 @@ use Rattle.circuit.specs.Value.{Value, null, same}
 use Rattle.circuit.specs.Circuit.{Listed}
 use Rattle.circuit.specs.Sheet.{Sheet, Item, entry, Spread, defer, renew, forget, size, itemAt, parentsOf, parents, spreadOf, member, isChild, evaluate, Ordered}
 use Rattle.circuit.specs.Table.{Table, Cell, Mark, unmarked, refresh, notice, unk, held, upd, isNotice, noticeIf, markOf}
-use Rattle.circuit.specs.Machine.{Looked, work, renewed, refreshCleared, tellStored, tellCell, tellChild, tellIf, tellBelow, tell, clearCell, clearMark, stepCell, stepItem}
+use Rattle.circuit.specs.Machine.{Looked, workOut, renewed, refreshCleared, tellStored, tellCell, tellChild, tellIf, tellBelow, tell, clearCell, clearMark, stepCell, stepItem}
 use Rattle.circuit.proofs.Solution.{map-listed}
 use Rattle.circuit.proofs.RuleLaws.{same-true}
 use Rattle.circuit.proofs.View.{never, Seen, Flagged, seenCell, view, result, strong, any-true, any-find, view-is, view-at, result-below}
@@ -59,7 +59,7 @@ cleared-notice notice = refl
 
 module _ (S : Sheet) (ordered : Ordered S) where
   renews-one : (T : Table) (c : ℕ) (v : Value) (m n : Mark) → T c ≡ held v m → isNotice n ≡ isNotice m
-      → TellsOne S T c (renewed c v n (work S T c))
+      → TellsOne S T c (renewed c v n (workOut S T c))
   renews-one T c v m n e q =
       record {
         between = r .table;
@@ -71,7 +71,7 @@ module _ (S : Sheet) (ordered : Ordered S) where
       }
     where
       r : Looked
-      r = work S T c
+      r = workOut S T c
 
       right : Looks S T (result S T c) r
       right = work-right S ordered T c
@@ -356,5 +356,5 @@ module _ (S : Sheet) (ordered : Ordered S) where
       go (unk false) e = kept
       go (held v unmarked) e = kept
       go (held v refresh) e =
-          changes-kept S ordered T (renewed i v unmarked (work S T i)) kept (renewed-changes S ordered T i v refresh unmarked e refl)
+          changes-kept S ordered T (renewed i v unmarked (workOut S T i)) kept (renewed-changes S ordered T i v refresh unmarked e refl)
       go (held v notice) e = tell-kept T i kept (rw e)

@@ -81,13 +81,13 @@ effect S T (drop i) = outcome 0 none (dropFigure T i)
 effect S T (step i) = outcome 0 none (stepItem S T i)
 effect S T (ask i) = readingOf (lookUp S (catchUp S T) i)
 
-abbrev pub unless : ℕ → Sheet → Table → Call → Outcome
-unless zero S T c = effect S T c
-unless (suc k) S T c = outcome (suc k) none T
+abbrev pub effectUnless : ℕ → Sheet → Table → Call → Outcome
+effectUnless zero S T c = effect S T c
+effectUnless (suc k) S T c = outcome (suc k) none T
 
 -- a call: refused by its first cause, or accepted with number 0
 unfoldable pub perform : Sheet → Table → Call → Outcome
-perform S T c = unless (firstCause (tests S T c)) S T c
+perform S T c = effectUnless (firstCause (tests S T c)) S T c
 
 -- the table after a list of calls
 unfoldable pub run : Sheet → Table → List Call → Table
@@ -99,25 +99,25 @@ postingOf i none = []
 postingOf i (some v) = record { entry = i; value = v } ∷ []
 
 -- the posting of a post's arguments; the other calls make none
-abbrev pub madeBy : Call → List Posting
-madeBy (post i kind z) = postingOf i (postedValue kind z)
-madeBy (keep i) = []
-madeBy (drop i) = []
-madeBy (step i) = []
-madeBy (ask i) = []
+abbrev pub postingBy : Call → List Posting
+postingBy (post i kind z) = postingOf i (postedValue kind z)
+postingBy (keep i) = []
+postingBy (drop i) = []
+postingBy (step i) = []
+postingBy (ask i) = []
 
 abbrev pub ifAccepted : ℕ → List Posting → List Posting
 ifAccepted zero ps = ps
 ifAccepted (suc k) ps = []
 
 -- The postings that a call makes: one for a post that is accepted, that is, gives number 0.
-unfoldable pub made : Sheet → Table → Call → List Posting
-made S T c = ifAccepted (perform S T c .number) (madeBy c)
+unfoldable pub postingsMade : Sheet → Table → Call → List Posting
+postingsMade S T c = ifAccepted (perform S T c .number) (postingBy c)
 
 -- the postings that a list of calls makes, in order
 unfoldable pub postings : Sheet → Table → List Call → List Posting
 postings S T [] = []
-postings S T (c ∷ cs) = made S T c ++ postings S (perform S T c .table) cs
+postings S T (c ∷ cs) = postingsMade S T c ++ postings S (perform S T c .table) cs
 
 -- the figure k is named by a call that drops
 abbrev pub drops : Call → ℕ → Bool

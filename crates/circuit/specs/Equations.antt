@@ -11,7 +11,7 @@ use Rattle.circuit.specs.Value.{Value}
 use Rattle.circuit.specs.Rules.{Operation, apply}
 use Rattle.circuit.specs.Sheet.{Sheet, Spread, entry, figure, size, itemAt, Ordered, Entries}
 use Rattle.circuit.specs.Table.{Table, Mark, unk, held, upd, isNotice, noticeIf, isMarked}
-use Rattle.circuit.specs.Machine.{Looked, looked, Gathered, gathered, gather, lookUp, work, lowestMarked, catchUp}
+use Rattle.circuit.specs.Machine.{Looked, looked, Gathered, gathered, gather, lookUp, workOut, lowestMarked, catchUp}
 use Rattle.circuit.specs.Fresh.{give, freshAsk}
 use Rattle.circuit.specs.Words.{Quiet, CaughtUp}
 
@@ -36,7 +36,7 @@ pub record LookingUp (S : Sheet) (T : Table) : Type 0 where
   pub worked : (i : ℕ) (op : Operation) (keep : Bool) (spread : Spread) (ps : List ℕ)
       → itemAt S i ≡ figure op keep spread ps
       → let g : Gathered = gather (lookUp S) T ps in
-      work S T i ≡ looked (g .table) (apply op (g .values)) (g .flag)
+      workOut S T i ≡ looked (g .table) (apply op (g .values)) (g .flag)
   -- of no parents
   pub none-gathered : gather (lookUp S) T [] ≡ gathered T [] false
   -- of a parent and the rest, which are looked up on the table that the first left

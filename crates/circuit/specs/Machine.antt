@@ -27,20 +27,20 @@ pub record Gathered : Type 0 where
 abbrev pub gathered : Table → List Value → Bool → Gathered
 gathered T vs f = record { table = T; values = vs; flag = f }
 
-abbrev pub before : Looked → Gathered → Gathered
-before r g = gathered (g .table) (r .value ∷ g .values) (r .flag || g .flag)
+abbrev pub andThen : Looked → Gathered → Gathered
+andThen r g = gathered (g .table) (r .value ∷ g .values) (r .flag || g .flag)
 
 -- the items ps looked up in their listed order, each on the table that the one before it left
 unfoldable pub gather : (Table → ℕ → Looked) → Table → List ℕ → Gathered
 gather look T [] = gathered T [] false
-gather look T (p ∷ ps) = before (look T p) (gather look (look T p .table) ps)
+gather look T (p ∷ ps) = andThen (look T p) (gather look (look T p .table) ps)
 
 abbrev pub ruleOn : Item → Gathered → Looked
 ruleOn it g = looked (g .table) (evaluate it null (g .values)) (g .flag)
 
 -- Working out figure i: its parents are looked up and its rule applied. It is flagged if any parent was.
-unfoldable pub workOut : (Table → ℕ → Looked) → Sheet → Table → ℕ → Looked
-workOut look S T i = ruleOn (itemAt S i) (gather look T (parents S i))
+unfoldable pub workOutBy : (Table → ℕ → Looked) → Sheet → Table → ℕ → Looked
+workOutBy look S T i = ruleOn (itemAt S i) (gather look T (parents S i))
 
 -- the result is stored at i, with mark notice if it is flagged
 abbrev pub storeResult : ℕ → Looked → Table
@@ -58,7 +58,7 @@ flagged f r = looked (r .table) (r .value) (r .flag || f)
 -- notice flags it too, and the result is stored where the figure is kept.
 abbrev pub lookCell : (Table → ℕ → Looked) → Sheet → Table → ℕ → Cell → Looked
 lookCell look S T i (held v m) = looked T v (isNotice m)
-lookCell look S T i (unk f) = storeIf (keptOf (itemAt S i)) i (flagged f (workOut look S T i))
+lookCell look S T i (unk f) = storeIf (keptOf (itemAt S i)) i (flagged f (workOutBy look S T i))
 
 -- Looking up and working out call each other up the circuit; the first argument bounds how far. As parents have lower
 -- numbers, i + 1 is enough for item i.
@@ -71,8 +71,8 @@ unfoldable pub lookUp : Sheet → Table → ℕ → Looked
 lookUp S T i = lookFor (suc i) S T i
 
 -- 01's "working out"
-unfoldable pub work : Sheet → Table → ℕ → Looked
-work S T i = workOut (lookUp S) S T i
+unfoldable pub workOut : Sheet → Table → ℕ → Looked
+workOut S T i = workOutBy (lookUp S) S T i
 
 -- The storing of a posting: an equal value changes nothing, any other is stored with mark notice.
 abbrev pub postCell : Cell → Value → Cell
@@ -115,7 +115,7 @@ refreshCleared refresh = unmarked
 refreshCleared notice = notice
 
 abbrev pub renewChild : Sheet → Table → ℕ → Value → Mark → Table
-renewChild S T c v m = renewed c v (refreshCleared m) (work S T c)
+renewChild S T c v m = renewed c v (refreshCleared m) (workOut S T c)
 
 -- a stored child that defers: a refresh, or, where a notice stands, the same as renew
 abbrev pub deferChild : Sheet → Table → ℕ → Value → Mark → Table
@@ -160,7 +160,7 @@ clearMark T i = upd T i (clearCell (T i))
 -- stored with notice. Notice: the children are told, and then the mark is cleared. No mark: nothing.
 abbrev pub stepMark : Sheet → Table → ℕ → Value → Mark → Table
 stepMark S T i v unmarked = T
-stepMark S T i v refresh = renewed i v unmarked (work S T i)
+stepMark S T i v refresh = renewed i v unmarked (workOut S T i)
 stepMark S T i v notice = clearMark (tell S T i) i
 
 abbrev pub stepCell : Sheet → Table → ℕ → Cell → Table

@@ -13,7 +13,7 @@ use Rattle.layout.specs.Index.{indexWidth}
 use Rattle.table.specs.Record.{width}
 use Rattle.office.specs.Office.{Given, openOn, keeping}
 use Rattle.day_meaning.specs.Lines.{Appended, lastLine, sheetWord}
-use Rattle.day_meaning.specs.Day.{playFrom, PlayedOn, Day, ended, dayBy, dayOn, itemCount, indexSize, tableSize, runDay, Ran}
+use Rattle.day_meaning.specs.Day.{playFrom, PlayedOn, Day, ended, dayBy, dayOn, countSaid, indexSize, tableSize, runDay, Ran}
 use Rattle.day_meaning.proofs.Storing.{appended-front, appended-count}
 
 ran-as : {e e′ : Day} {out x t out′ : List ℕ} {count : ℕ} → e ≡ e′ → Ran e out count x t out′ → Ran e′ out count x t out′
@@ -79,7 +79,7 @@ module _ (l : List ℕ) (m n : ℕ) (e : m ≡ min n (length l)) where
   front-drop : drop m l ≡ drop n l
   front-drop = front (λ k. drop k l) (λ k h. drop-past l k h ∙ sym (drop-past l (length l) (omega arith)))
 
-pub ran-whole : {k m n count : ℕ} {x₁ t₁ out out′ : List ℕ} (s d x t : List ℕ) → k ≡ itemCount s → m ≡ min (indexWidth * k) (length x) → n ≡ min (width * k) (length t)
+pub ran-whole : {k m n count : ℕ} {x₁ t₁ out out′ : List ℕ} (s d x t : List ℕ) → k ≡ countSaid s → m ≡ min (indexWidth * k) (length x) → n ≡ min (width * k) (length t)
     → Ran (dayOn s d (take m x) (take n t)) out count x₁ t₁ out′ → Ran (runDay s d x t) out count (x₁ ++ drop m x) (t₁ ++ drop n t) out′
 unfolding runDay
 ran-whole {k} {m} {n} {count} {x₁} {t₁} {out} {out′} s d x t items left right r =

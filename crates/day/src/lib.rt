@@ -7,7 +7,7 @@ ghost use Rattle.value.specs.Meaning.{partsOf};
 ghost use Rattle.office.specs.Office.{callOn, keeping};
 ghost use Rattle.day_order.specs.Orders.{orderMeaning};
 ghost use Rattle.day_meaning.specs.Lines.{Appended};
-ghost use Rattle.day_meaning.specs.Day.{answerLine, readingLine, faultLine, playFrom, itemCount, dayOn, runDay, CarriedOut, PlayedOn, Ran};
+ghost use Rattle.day_meaning.specs.Day.{answerLine, readingLine, faultLine, playFrom, countSaid, dayOn, runDay, CarriedOut, PlayedOn, Ran};
 use call_ask::Reading;
 use day_order::Order;
 use day_order::Ordered;
@@ -123,7 +123,7 @@ fn day_on(sheet: &[u8], log: &[u8], index: &mut [u8], table: &mut [u8], out: &mu
 }
 
 fn item_count(sheet: &[u8]) -> usize
-    ensures { λ r. ⌜ (r ≡ itemCount (now (sheet .entry))) × (r ≤ 65535) ⌝ }
+    ensures { λ r. ⌜ (r ≡ countSaid (now (sheet .entry))) × (r ≤ 65535) ⌝ }
 {
     if sheet.len() < limits::HEAD_NEXT {
         return 0;

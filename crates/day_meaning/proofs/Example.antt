@@ -3,7 +3,7 @@ use Prim.Native.Nat.{ℕ}
 use mathlib.Core.Path.{_≡_, refl}
 use mathlib.Core.List.{List, [], _∷_}
 use Rattle.circuit.specs.Calls.{postedValue, firstCause, tests, effect}
-use Rattle.circuit.specs.Machine.{gather, workOut, lookFor, lookUp, work, storePosting, keepFigure, dropFigure, tellChild, tellBelow, tell, clearMark, stepItem, lowestMarked, catchUpIn, catchUp}
+use Rattle.circuit.specs.Machine.{gather, workOutBy, lookFor, lookUp, workOut, storePosting, keepFigure, dropFigure, tellChild, tellBelow, tell, clearMark, stepItem, lowestMarked, catchUpIn, catchUp}
 use Rattle.circuit.specs.Rules.{coded, maxParents, oneOrMore, countAllowed as parentsAllowed, operationOf, numbers, total, least, greatest, whole, anyOut, apply}
 use Rattle.circuit.specs.Sheet.{member}
 use Rattle.circuit.specs.Value.{limit, inRange}
@@ -20,7 +20,7 @@ use Rattle.printer.specs.Decimal.{digitsUpTo, digits, decimal}
 use Rattle.value.specs.Meaning.{partsOf}
 use Rattle.office.specs.Office.{callOn, openOn, keeping}
 use Rattle.item.specs.Offsets.{sameBytes}
-use Rattle.day_meaning.specs.Day.{playFrom, itemCount, dayOn, runDay}
+use Rattle.day_meaning.specs.Day.{playFrom, countSaid, dayOn, runDay}
 use Rattle.day_meaning.specs.Orders.{postIn, callIn, orderOf}
 
 -- five items: A, L and S are entries, T is the sum of A and S, B is T minus L
@@ -57,5 +57,5 @@ exampleOutput =
     ∷ 49 ∷ 50 ∷ 10 ∷ 78 ∷ 79 ∷ 32 ∷ 49 ∷ 49 ∷ 10 ∷ []
 
 pub example : runDay exampleSheet exampleDay zeros20 zeros50 .text ≡ exampleOutput
-unfolding partsOf postedValue firstCause tests effect gather workOut lookFor lookUp work storePosting keepFigure dropFigure tellChild tellBelow tell clearMark stepItem lowestMarked catchUpIn catchUp coded maxParents oneOrMore parentsAllowed operationOf numbers total least greatest whole anyOut apply member limit inRange indexBytes editionKnown itemLimit countAllowed levelLimit keepAllowed spreadAllowed nameLimit all nameAllowed highest spreadMeant machineItem parentsIn itemIn lengthOrName headTests itemTests lastTests scan scanSheet readSheet concat encodeTable tableForm encodeCell decodeCell codesForm numberForm recordForm rowsBelow allBelow leAt leBytes cutAt digitsUpTo digits decimal sameBytes callOn openOn playFrom itemCount dayOn runDay postIn callIn orderOf
+unfolding partsOf postedValue firstCause tests effect gather workOutBy lookFor lookUp workOut storePosting keepFigure dropFigure tellChild tellBelow tell clearMark stepItem lowestMarked catchUpIn catchUp coded maxParents oneOrMore parentsAllowed operationOf numbers total least greatest whole anyOut apply member limit inRange indexBytes editionKnown itemLimit countAllowed levelLimit keepAllowed spreadAllowed nameLimit all nameAllowed highest spreadMeant machineItem parentsIn itemIn lengthOrName headTests itemTests lastTests scan scanSheet readSheet concat encodeTable tableForm encodeCell decodeCell codesForm numberForm recordForm rowsBelow allBelow leAt leBytes cutAt digitsUpTo digits decimal sameBytes callOn openOn playFrom countSaid dayOn runDay postIn callIn orderOf
 example = refl

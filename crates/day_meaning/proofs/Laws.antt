@@ -24,7 +24,7 @@ use Rattle.layout.specs.Layout.{headTag}
 use Rattle.layout.proofs.Scan.{opened, opened-length}
 use Rattle.office.specs.Office.{callOn, keeping}
 use Rattle.day_meaning.specs.Orders.{orderOf}
-use Rattle.day_meaning.specs.Day.{lineOf, after, playFrom, itemCount}
+use Rattle.day_meaning.specs.Day.{lineOf, after, playFrom, countSaid}
 use Rattle.day_meaning.proofs.Playing.{play-absent, play-short, play-fault, play-call}
 
 play-none : (s x d t : List ℕ) (at : ℕ) → playFrom 0 s x d at t ≡ record { text = []; table = t }
@@ -64,8 +64,8 @@ count-at s = ap₂ le16 (at 2 (omega arith)) (at 3 (omega arith))
     at k h = getD-take 4 (ListN.drop 3 s) k 0 h ∙ getD-drop 3 s k 0
 
 -- the item count of a sheet that opens
-pub item-count : (s : List ℕ) (edition : ℕ) (ps : List Placed) → readSheet s ≡ opens edition ps → itemCount s ≡ length ps
-unfolding itemCount
+pub item-count : (s : List ℕ) (edition : ℕ) (ps : List Placed) → readSheet s ≡ opens edition ps → countSaid s ≡ length ps
+unfolding countSaid
 item-count s edition ps e =
     let w : FieldAt s 0 headTag 3 4 headNext = field-iff s 0 headTag 3 4 headNext .0 (opened s edition ps e .head) in
     rw (le-ltb (length s) headNext (w .next-in)) (sym (opened-length s edition ps e))

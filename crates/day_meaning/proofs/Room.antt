@@ -33,7 +33,7 @@ use Rattle.printer.proofs.Digits.{length-at-most}
 use Rattle.printer.proofs.Meaning.{part-small}
 use Rattle.day_meaning.specs.Lines.{noLine, askLine, lastLine, sheetWord, dayWord, space, lineEnd}
 use Rattle.day_meaning.specs.Orders.{postTag, askTag, keepTag, dropTag, stepTag, postLength, callLength, itemIn, kindIn, numberIn, kindAllowed, postIn, callIn, orderOf}
-use Rattle.day_meaning.specs.Day.{answerLine, readingLine, lineOf, faultNumber, faultLine, playFrom, dayBy, dayOn, itemCount, indexSize, tableSize, runDay, Ran}
+use Rattle.day_meaning.specs.Day.{answerLine, readingLine, lineOf, faultNumber, faultLine, playFrom, dayBy, dayOn, countSaid, indexSize, tableSize, runDay, Ran}
 use Rattle.day_meaning.specs.Room.{fileLimit, textPerByte, textBesides, outputRoom, Lent, Shown}
 use Rattle.day_meaning.proofs.Storing.{part-whole}
 use Rattle.day_meaning.proofs.Playing.{play-absent, play-short, play-fault, play-call}
@@ -266,7 +266,7 @@ pub day-opens : {s d x t out : List ℕ} {edition : ℕ} {ps : List Placed} → 
     → openOn bare s (keeping (take (indexSize s) x) (take (tableSize s) t)) .number ≡ 0
 unfolding openOn firstCause mostItems
 day-opens {s} {d} {x} {t} {out} {edition} {ps} l e =
-    let n : itemCount s ≡ length ps = item-count s edition ps e in
+    let n : countSaid s ≡ length ps = item-count s edition ps e in
     let most = opened-count s edition ps e in
     let a : length (take (indexSize s) x) ≡ indexWidth * length ps = length-take-le (indexSize s) x (omega (arith, l .index-room)) ∙ ap (λ k. indexWidth * k) n in
     let b : length (take (tableSize s) t) ≡ width * length ps = length-take-le (tableSize s) t (omega (arith, l .table-room)) ∙ ap (λ k. width * k) n in

@@ -82,16 +82,16 @@ playFrom zero s x d at t = played [] t
 playFrom (suc k) s x d at t = playCut (playFrom k s x d) s x d at t (cutAt d at)
 
 -- the item count that a sheet says in its first field, if its bytes are there
-unfoldable pub itemCount : List ℕ → ℕ
-itemCount s = cond (ltb (length s) headNext) 0 (countIn (headContent s))
+unfoldable pub countSaid : List ℕ → ℕ
+countSaid s = cond (ltb (length s) headNext) 0 (countIn (headContent s))
 
 -- The parts of the lent index and table that are lent on to the calls: the fronts that so many items take, or all of them
 -- where they are shorter, which the opening then turns back (8).
 abbrev pub indexSize : List ℕ → ℕ
-indexSize s = indexWidth * itemCount s
+indexSize s = indexWidth * countSaid s
 
 abbrev pub tableSize : List ℕ → ℕ
-tableSize s = width * itemCount s
+tableSize s = width * countSaid s
 
 -- what is printed, and index and table afterwards
 pub record Day : Type 0 where

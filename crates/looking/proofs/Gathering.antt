@@ -14,7 +14,7 @@ use Rattle.circuit.specs.WellFormed.{allWellFormed}
 use Rattle.circuit.specs.Rules.{apply, maxParents}
 use Rattle.circuit.specs.Sheet.{Item, entry, figure, size, itemAt, isFigure, parents, parentsOf, evaluate}
 use Rattle.circuit.specs.Table.{Table}
-use Rattle.circuit.specs.Machine.{Looked, Gathered, gathered, gather, before, workOut, lookUp, work}
+use Rattle.circuit.specs.Machine.{Looked, Gathered, gathered, gather, andThen, workOutBy, lookUp, workOut}
 use Rattle.circuit.proofs.RuleLaws.{allWellFormed-snoc, and-true}
 use Rattle.layout.specs.Opened.{sheetOf}
 use Rattle.item.specs.Item.{itemOperation, OperationRead, CountRead, ItemField, fieldItem}
@@ -73,7 +73,7 @@ gather-snoc look [] p T = λ i. gathered (look T p .table) (look T p .value ∷ 
     flag-is : (look T p .flag || false) ≡ (false || look T p .flag)
     flag-is = mathlib.Core.Bool.or-false (look T p .flag)
 gather-snoc look (q ∷ ps) p T =
-    ap (before (look T q)) (gather-snoc look ps p (look T q .table))
+    ap (andThen (look T q)) (gather-snoc look ps p (look T q .table))
     ∙ ap (gathered (last .table) (look T q .value ∷ (g .values ++ (last .value ∷ [])))) (sym (or-assoc (look T q .flag) (g .flag) (last .flag)))
   where
     g : Gathered
@@ -239,8 +239,8 @@ module _ {s offsets t₀ tags₀ : List ℕ} {numbers₀ : List ℤ} {generation
   -- the item is worked out
   pub going-done : count ≤ k → (op : Operation) → OperationRead (fieldItem s at) op
       → (r : Rattle.value.specs.declared.Value.Value) → Applied op (firstValues kinds amounts count) r
-      → (b : ℕ) → i ≤ b → Leaves s t₀ tags₀ generation b (work (sheetOf s) (decodeTable t₀) i) (found (meaning r) flag) t tags numbers
-  unfolding work workOut
+      → (b : ℕ) → i ≤ b → Leaves s t₀ tags₀ generation b (workOut (sheetOf s) (decodeTable t₀) i) (found (meaning r) flag) t tags numbers
+  unfolding workOut workOutBy
   going-done h op read r applies b over =
       record {
         value-is = value ∙ ap (evaluate (itemAt (sheetOf s) i) null) (inv .values-are ∙ ap (λ x. x .values) is);

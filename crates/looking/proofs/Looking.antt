@@ -13,7 +13,7 @@ use borrow.Author.Tests.{eq-eqb, eqb-true, eqb-false}
 use Rattle.circuit.specs.Value.{Value, null, out, num, wellFormed, kindOf, numberOf, ofParts}
 use Rattle.circuit.specs.Sheet.{Sheet, size, itemAt, isFigure, keptOf, Ordered}
 use Rattle.circuit.specs.Table.{Table, Cell, unk, held, upd, noticeIf, markOf, isNotice, isStored}
-use Rattle.circuit.specs.Machine.{Looked, looked, storeIf, flagged, lookCell, lookUp, work}
+use Rattle.circuit.specs.Machine.{Looked, looked, storeIf, flagged, lookCell, lookUp, workOut}
 use Rattle.circuit.proofs.View.{view}
 use Rattle.circuit.proofs.Fill.{Fill, Filling, stays, fills, Looks, upd-same, upd-cases, fill-view, look-right, work-right, lookUp-is}
 use Rattle.circuit.proofs.Memo.{remember, remember-fill, work-store}
@@ -165,10 +165,10 @@ memo-fill S ordered T U tags numbers generation fill memo =
     }
 
 -- Working an item out leaves its own cell.
-work-own : (S : Sheet) → Ordered S → (T : Table) (i : ℕ) → work S T i .table i ≡ T i
+work-own : (S : Sheet) → Ordered S → (T : Table) (i : ℕ) → workOut S T i .table i ≡ T i
 work-own S ordered T i =
-    ap (λ r. r .table i) (ap (λ X. work S X i) (sym again) ∙ work-store S ordered T i (T i) i (omega arith))
-    ∙ upd-same (work S T i .table) i (T i)
+    ap (λ r. r .table i) (ap (λ X. workOut S X i) (sym again) ∙ work-store S ordered T i (T i) i (omega arith))
+    ∙ upd-same (workOut S T i .table) i (T i)
   where
     again : upd T i (T i) ≡ T
     again = fun-ext λ j. upd-cases (λ k c. c ≡ T k) T i (T i) refl (λ k n. refl) j
@@ -176,13 +176,13 @@ work-own S ordered T i =
 -- An unstored item was worked out, which gave w. What is settled is f: the same, flagged too where the item has a notice.
 module _ {s offsets t : List ℕ} (lent : Lent s offsets t) {tags : List ℕ} {generation i : ℕ} {noticed : Bool} (low : i < size (sheetOf s))
     (unstored : decodeTable t i ≡ unk noticed) {w : Found} {t₁ tags₁ : List ℕ} {numbers₁ : List ℤ} (len : length t₁ ≡ length t)
-    (worked : (b : ℕ) → i ≤ b → Leaves s t tags generation b (work (sheetOf s) (decodeTable t) i) w t₁ tags₁ numbers₁)
+    (worked : (b : ℕ) → i ≤ b → Leaves s t tags generation b (workOut (sheetOf s) (decodeTable t) i) w t₁ tags₁ numbers₁)
     (f : Found) (found-is : f ≡ found (w .value) (w .flag || noticed)) where
   abbrev S : Sheet
   S = sheetOf s
 
   abbrev r : Looked
-  r = work S (decodeTable t) i
+  r = workOut S (decodeTable t) i
 
   abbrev cell : Cell
   cell = held (f .value) (noticeIf (f .flag))
@@ -200,7 +200,7 @@ module _ {s offsets t : List ℕ} (lent : Lent s offsets t) {tags : List ℕ} {g
   formed-f = ap (λ x. wellFormed (x .value)) found-is ∙ here .value-formed
 
   looks-worked : (kept : Bool) → kept ≡ keptOf (itemAt S i) → lookUp S (decodeTable t) i ≡ storeIf kept i (looked (r .table) (f .value) (f .flag))
-  unfolding work
+  unfolding workOut
   looks-worked kept kept-is =
       lookUp-is S (sheet-ordered s) (decodeTable t) i
       ∙ ap (λ c. lookCell (lookUp S) S (decodeTable t) i c) unstored
@@ -321,7 +321,7 @@ module _ {s offsets t : List ℕ} (lent : Lent s offsets t) {i : ℕ} (low : i <
 
   pub worked-returns : {tags : List ℕ} {generation : ℕ} (kept : Bool) → kept ≡ keptOf (fieldItem s (getD offsets i 0))
       → (w : Found) (t₁ tags₁ : List ℕ) (numbers₁ : List ℤ) → length t₁ ≡ length t
-      → ((b : ℕ) → i ≤ b → Leaves s t tags generation b (work (sheetOf s) (decodeTable t) i) w t₁ tags₁ numbers₁)
+      → ((b : ℕ) → i ≤ b → Leaves s t tags generation b (workOut (sheetOf s) (decodeTable t) i) w t₁ tags₁ numbers₁)
       → (f : Found) (t₂ tags₂ : List ℕ) (numbers₂ : List ℤ) → Settled i generation kept noticed w t₁ tags₁ numbers₁ f t₂ tags₂ numbers₂
       → (b : ℕ) → i < b → Leaves s t tags generation b (lookUp (sheetOf s) (decodeTable t) i) f t₂ tags₂ numbers₂
   worked-returns true k w t₁ tags₁ numbers₁ len worked f t₂ tags₂ numbers₂ settled b over =

@@ -8,7 +8,7 @@ ghost use Rattle.circuit.specs.Rules.{maxParents};
 ghost use Rattle.circuit.specs.Value.{kindOf, numberOf};
 ghost use Rattle.circuit.specs.Table as circuit;
 ghost use Rattle.circuit.specs.Sheet.{size, itemAt, isFigure};
-ghost use Rattle.circuit.specs.Machine.{lookUp, work};
+ghost use Rattle.circuit.specs.Machine.{lookUp, workOut};
 ghost use Rattle.layout.specs.Opened.{sheetOf};
 ghost use Rattle.value.specs.Meaning.{meaning};
 ghost use Rattle.table.specs.Bytes.{decodeTable};
@@ -156,7 +156,7 @@ pub fn work_out(
     i: usize,
 ) -> Seen
     requires { ⌜ Lent (now sheet) (now offsets) (now table) ⌝ ∗ ⌜ Memo (sheetOf (now sheet)) (decodeTable (now table)) (now tags) (now numbers) generation ⌝ ∗ ⌜ i < size (sheetOf (now sheet)) ⌝ ∗ ⌜ isFigure (itemAt (sheetOf (now sheet)) i) ≡ true ⌝ }
-    ensures { λ r. ⌜ ((b : ℕ) → i ≤ b → Leaves (now (sheet .entry)) (now (table .entry)) (now (tags .entry)) generation b (work (sheetOf (now (sheet .entry))) (decodeTable (now (table .entry))) i) (seenMeaning r) (now (table .exit)) (now (tags .exit)) (now (numbers .exit))) ⌝ }
+    ensures { λ r. ⌜ ((b : ℕ) → i ≤ b → Leaves (now (sheet .entry)) (now (table .entry)) (now (tags .entry)) generation b (workOut (sheetOf (now (sheet .entry))) (decodeTable (now (table .entry))) i) (seenMeaning r) (now (table .exit)) (now (tags .exit)) (now (numbers .exit))) ⌝ }
 {
     let at = offsets[i];
     let count = item::parent_count(sheet, at);

@@ -14,7 +14,7 @@ use Rattle.circuit.specs.Circuit.{LeadsTo}
 use Rattle.circuit.specs.Sheet.{Sheet, Ordered, Entries, size, itemAt, isFigure, circuitOf}
 use Rattle.circuit.specs.Table.{Table, Cell, Mark, unmarked, refresh, notice, unk, held, isStored, isMark, markOf, valueIn, opened}
 use Rattle.circuit.specs.Call.{Call, post, keep, drop, step, ask, Posting, Opening, bare, full}
-use Rattle.circuit.specs.Calls.{Outcome, firstCause, perform, run, made, madeBy, postings, postingOf, postedValue, ifAccepted as ifMade}
+use Rattle.circuit.specs.Calls.{Outcome, firstCause, perform, run, postingsMade, postingBy, postings, postingOf, postedValue, ifAccepted as ifMade}
 use Rattle.circuit.specs.Fresh.{blank, freshAsk, freshRun}
 use Rattle.circuit.specs.Words.{Quiet}
 use Rattle.circuit.proofs.Offices.{Agree, Answers, two-offices, opened-sound}
@@ -172,7 +172,7 @@ append-none : (ps : List Posting) → ps ++ [] ≡ ps
 append-none [] = refl
 append-none (p ∷ ps) = ap (λ r. p ∷ r) (append-none ps)
 
-post-made : (k : ℕ) (c : Call) → postingsOf (ifAccepted k (postOf c)) ≡ ifMade k (madeBy c)
+post-made : (k : ℕ) (c : Call) → postingsOf (ifAccepted k (postOf c)) ≡ ifMade k (postingBy c)
 unfolding postingsOf
 post-made zero (post i kind z) = append-none (postingOf i (postedValue kind z))
 post-made zero (keep i) = refl
@@ -277,7 +277,7 @@ module _ (s : List ℕ) (edition : ℕ) (ps : List Placed) (reads : readSheet s 
   -- the accepted posts of a list are the postings that it makes
   posts-made : (cs : List Call) (T : Table) → Holdable (sheetRead edition ps) T → Within (sheetRead edition ps) T
       → postingsOf (acceptedPosts s (at T) cs) ≡ postings (sheetRead edition ps) T cs
-  unfolding acceptedPosts postings made postingsOf
+  unfolding acceptedPosts postings postingsMade postingsOf
   posts-made [] T h w = refl
   posts-made (c ∷ cs) T h w =
       let U : Table = perform (sheetRead edition ps) T c .table in

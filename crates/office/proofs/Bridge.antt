@@ -15,7 +15,7 @@ use Rattle.circuit.specs.Sheet.{Sheet, entry, size, itemAt, Ordered}
 use Rattle.circuit.specs.Table.{Table, Cell, unk, upd}
 use Rattle.circuit.specs.Machine.{storePosting, dropFigure, stepItem, catchUp}
 use Rattle.circuit.specs.Call.{Call, post, keep, drop, step, ask}
-use Rattle.circuit.specs.Calls.{Test, test, firstCause, tests, Outcome, effect, perform, unless, run, postIt, postedValue}
+use Rattle.circuit.specs.Calls.{Test, test, firstCause, tests, Outcome, effect, perform, effectUnless, run, postIt, postedValue}
 use Rattle.circuit.proofs.Fill.{Fill, Filling, stays, fills, upd-cases, look-right, work-right, keep-fill}
 use Rattle.circuit.proofs.Closure.{Closed, step-closed, catchUp-closed}
 use Rattle.circuit.proofs.Accepted.{accepted-effect, refused-table, keep-passed, drop-passed, step-passed, post-passed}
@@ -167,7 +167,7 @@ module _ (s : List ℕ) (edition : ℕ) (ps : List Placed) (opening : readSheet 
       passed : callRead (opens edition ps) (keeping x t) c ≡ unlessRefused (firstCause (tests S T c)) (keeping x t) (effectOn S (keeping x t) (effect S T c))
       passed = rw (causes, again)
 
-      by-cause : (k : ℕ) → unlessRefused k (keeping x t) (effectOn S (keeping x t) (effect S T c)) ≡ givenBy S x (unless k S T c)
+      by-cause : (k : ℕ) → unlessRefused k (keeping x t) (effectOn S (keeping x t) (effect S T c)) ≡ givenBy S x (effectUnless k S T c)
       by-cause zero = rw (effect-number S T c)
       by-cause (suc k) = refl
 

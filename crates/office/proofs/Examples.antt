@@ -17,7 +17,7 @@ use Rattle.circuit.specs.Calls.{firstCause, tests, postedValue, effect, Outcome
 use Rattle.circuit.specs.Rules.{apply, numbers, total, anyOut}
 use Rattle.circuit.specs.Sheet.{Sheet, member}
 use Rattle.circuit.specs.Table.{Table}
-use Rattle.circuit.specs.Machine.{gather, workOut, lookFor, lookUp, work, storePosting, keepFigure, dropFigure, tellChild, tellBelow, tell, clearMark, stepItem, lowestMarked, catchUpIn, catchUp}
+use Rattle.circuit.specs.Machine.{gather, workOutBy, lookFor, lookUp, workOut, storePosting, keepFigure, dropFigure, tellChild, tellBelow, tell, clearMark, stepItem, lowestMarked, catchUpIn, catchUp}
 use Rattle.layout.specs.Layout.{spreadMeant, machineItem}
 use Rattle.layout.specs.Read.{refused, readSheet}
 use Rattle.layout.specs.Write.{concat, writeSheet}
@@ -226,7 +226,7 @@ answer number kind value = record { number = number; offset = 0; kind = kind; va
 
 -- to unfold this is to unfold all that the machine computes with
 unfoldable pub machine : Sheet → Table → Call → Outcome
-unfolding perform keepFigure dropFigure storePosting stepItem tell tellBelow tellChild clearMark lookUp lookFor work workOut gather apply numbers total anyOut member catchUp catchUpIn lowestMarked
+unfolding perform keepFigure dropFigure storePosting stepItem tell tellBelow tellChild clearMark lookUp lookFor workOut workOutBy gather apply numbers total anyOut member catchUp catchUpIn lowestMarked
 machine S T c = perform S T c
 
 -- the day of the example

@@ -13,7 +13,7 @@ use Rattle.circuit.specs.WellFormed.{allWellFormed}
 use Rattle.circuit.specs.Circuit.{Listed}
 use Rattle.circuit.specs.Sheet.{Sheet, Item, entry, figure, Spread, defer, renew, forget, size, itemAt, isFigure, parentsOf, parents, spreadOf, isChild, evaluate, Ordered}
 use Rattle.circuit.specs.Table.{Table, Cell, Mark, unmarked, refresh, notice, unk, held, upd, entryForm}
-use Rattle.circuit.specs.Machine.{lookUp, work, storePosting, postCell, keepFigure, dropFigure, dropCell, renewed, tellChild, tellCell, tellStored, tellIf, tellBelow, tell, clearMark, clearCell, stepItem, stepCell, catchUp}
+use Rattle.circuit.specs.Machine.{lookUp, workOut, storePosting, postCell, keepFigure, dropFigure, dropCell, renewed, tellChild, tellCell, tellStored, tellIf, tellBelow, tell, clearMark, clearCell, stepItem, stepCell, catchUp}
 use Rattle.circuit.specs.Call.{Call, post, keep, drop, step, ask}
 use Rattle.circuit.specs.Calls.{postedValue, effect, perform, tests, firstCause, run, postIt}
 use Rattle.circuit.proofs.Parts.{posted-some}
@@ -100,10 +100,10 @@ module _ (S : Sheet) (ordered : Ordered S) where
   pub look-formed : (T : Table) (i : ℕ) → i < size S → Holdable S T → wellFormed (lookUp S T i .value) ≡ true
   look-formed T i low h = rw (look-right S ordered T i .value) (view-formed T h i low)
 
-  pub work-holdable : (T : Table) (i : ℕ) → Holdable S T → Holdable S (work S T i .table)
+  pub work-holdable : (T : Table) (i : ℕ) → Holdable S T → Holdable S (workOut S T i .table)
   work-holdable T i h = fill-holdable T _ (work-right S ordered T i .fill) h
 
-  pub work-formed : (T : Table) (i : ℕ) → i < size S → Holdable S T → wellFormed (work S T i .value) ≡ true
+  pub work-formed : (T : Table) (i : ℕ) → i < size S → Holdable S T → wellFormed (workOut S T i .value) ≡ true
   work-formed T i low h = rw (work-right S ordered T i .value) (result-formed T h i low)
 
   pub keep-holdable : (T : Table) (i : ℕ) → isFigure (itemAt S i) ≡ true → Holdable S T → Holdable S (keepFigure S T i)
@@ -118,11 +118,11 @@ module _ (S : Sheet) (ordered : Ordered S) where
       go (held v m) = figure-unk _ _ k
 
   -- a figure is worked out anew
-  pub renewed-holdable : (T : Table) (i : ℕ) (v : Value) (m n : Mark) → isFigure (itemAt S i) ≡ true → T i ≡ held v m → Holdable S T → Holdable S (renewed i v n (work S T i))
+  pub renewed-holdable : (T : Table) (i : ℕ) (v : Value) (m n : Mark) → isFigure (itemAt S i) ≡ true → T i ≡ held v m → Holdable S T → Holdable S (renewed i v n (workOut S T i))
   renewed-holdable T i v m n k e h =
-      upd-holdable (work S T i .table) i _ (λ low. go low (same v (work S T i .value))) (work-holdable T i h)
+      upd-holdable (workOut S T i .table) i _ (λ low. go low (same v (workOut S T i .value))) (work-holdable T i h)
     where
-      go : i < size S → (b : Bool) → mayHold (isFigure (itemAt S i)) (cond b (held v n) (held (work S T i .value) notice)) ≡ true
+      go : i < size S → (b : Bool) → mayHold (isFigure (itemAt S i)) (cond b (held v n) (held (workOut S T i .value) notice)) ≡ true
       go low true =
           figure-holds _ v n k (holds-wellFormed (isFigure (itemAt S i)) (held v m) (rw e at (h i low)))
       go low false = figure-holds _ _ notice k (work-formed T i low h)

@@ -10,7 +10,7 @@ use lib.ListN.{length}
 use Rattle.circuit.specs.Value.{Value, null, out, num, same, kindOf, numberOf, wellFormed}
 use Rattle.circuit.specs.Sheet.{Sheet, Ordered, size}
 use Rattle.circuit.specs.Table.{Table, Cell, Mark, unmarked, refresh, notice, unk, held, upd, noticeIf, markOf, valueIn}
-use Rattle.circuit.specs.Machine.{work, storePosting, postCell, keepFigure, keepCell, dropFigure, dropCell, droppedMark, tell, clearMark, stepItem, stepCell, catchUp}
+use Rattle.circuit.specs.Machine.{workOut, storePosting, postCell, keepFigure, keepCell, dropFigure, dropCell, droppedMark, tell, clearMark, stepItem, stepCell, catchUp}
 use Rattle.circuit.specs.Call.{Call, post, keep, drop, step, ask}
 use Rattle.circuit.specs.Calls.{perform, effect, postIt}
 use Rattle.circuit.specs.Words.{Quiet}
@@ -278,12 +278,12 @@ module _ (s : List ℕ) (kept : Office) (lent : AcceptedLent s kept) where
             record {
               equal = λ h q.
                   let known : valueOf t i ≡ v = ap valueIn e in
-                  let alike : same v (work S T i .value) ≡ true = ap (same v) (q ∙ known) ∙ same-refl v in
-                  stepped (held v refresh) e ∙ ap (encodeTable S) (ap (λ b. upd (work S T i .table) i (cond b (held v unmarked) (held (work S T i .value) notice))) alike ∙ ap (λ w. upd (work S T i .table) i (held w unmarked)) (sym known));
+                  let alike : same v (workOut S T i .value) ≡ true = ap (same v) (q ∙ known) ∙ same-refl v in
+                  stepped (held v refresh) e ∙ ap (encodeTable S) (ap (λ b. upd (workOut S T i .table) i (cond b (held v unmarked) (held (workOut S T i .value) notice))) alike ∙ ap (λ w. upd (workOut S T i .table) i (held w unmarked)) (sym known));
               different = λ h n.
                   let known : valueOf t i ≡ v = ap valueIn e in
-                  let unlike : same v (work S T i .value) ≡ false = differs v (work S T i .value) (λ q. n (sym q ∙ sym known)) in
-                  stepped (held v refresh) e ∙ ap (encodeTable S) (ap (λ b. upd (work S T i .table) i (cond b (held v unmarked) (held (work S T i .value) notice))) unlike);
+                  let unlike : same v (workOut S T i .value) ≡ false = differs v (workOut S T i .value) (λ q. n (sym q ∙ sym known)) in
+                  stepped (held v refresh) e ∙ ap (encodeTable S) (ap (λ b. upd (workOut S T i .table) i (cond b (held v unmarked) (held (workOut S T i .value) notice))) unlike);
               tells = λ h. absurd (omega (arith, mark-of i low (held v refresh) e));
             }
 

@@ -11,7 +11,7 @@ use Rattle.circuit.specs.Value.{Value, kindOf, numberOf}
 use Rattle.circuit.specs.Circuit.{IsSolution}
 use Rattle.circuit.specs.Sheet.{Sheet, Ordered, Entries, size, itemAt, isFigure, circuitOf}
 use Rattle.circuit.specs.Table.{Table, unmarked, notice, held, upd, noticeIf, valueIn}
-use Rattle.circuit.specs.Machine.{Looked, lookUp, work, tell, clearMark}
+use Rattle.circuit.specs.Machine.{Looked, lookUp, workOut, tell, clearMark}
 use Rattle.circuit.specs.Call.{Call, post, keep, drop, step, ask, Opening, bare, full}
 use Rattle.circuit.specs.Words.{CaughtUp}
 use Rattle.field.specs.Field.{Bytes}
@@ -143,9 +143,9 @@ pub record Drops (n : ℕ) (t : List ℕ) (i : ℕ) (u : List ℕ) : Type 0 wher
 -- "For refresh, work it out anew from its parents; if equal, clear the mark and finish, else store it and set notice. For notice,
 -- tell the children, then clear the mark."
 pub record Steps (S : Sheet) (t : List ℕ) (i : ℕ) (u : List ℕ) : Type 0 where
-  pub equal : markIn (row width t i) ≡ 1 → let r : Looked = work S (decodeTable t) i in r .value ≡ valueOf t i
+  pub equal : markIn (row width t i) ≡ 1 → let r : Looked = workOut S (decodeTable t) i in r .value ≡ valueOf t i
       → Holds S u (upd (r .table) i (held (valueOf t i) unmarked))
-  pub different : markIn (row width t i) ≡ 1 → let r : Looked = work S (decodeTable t) i in ¬ (r .value ≡ valueOf t i)
+  pub different : markIn (row width t i) ≡ 1 → let r : Looked = workOut S (decodeTable t) i in ¬ (r .value ≡ valueOf t i)
       → Holds S u (upd (r .table) i (held (r .value) notice))
   pub tells : markIn (row width t i) ≡ 2 → Holds S u (clearMark (tell S (decodeTable t) i) i)
 

@@ -1,4 +1,4 @@
 pub mod Clearing
 pub mod Starting
 pub mod Stepping
-pub mod Sweeping
+pub mod Ascending

@@ -9,7 +9,7 @@ use lib.ListN.{length}
 use Rattle.circuit.specs.Value.{Value}
 use Rattle.circuit.specs.Sheet.{Sheet, size, itemAt, isFigure}
 use Rattle.circuit.specs.Table.{Table, Cell, Mark, unmarked, refresh, notice, unk, held, valueIn, markOf, isNotice}
-use Rattle.circuit.specs.Machine.{work, renewed, tell, clearCell, clearMark, stepCell, stepItem}
+use Rattle.circuit.specs.Machine.{workOut, renewed, tell, clearCell, clearMark, stepCell, stepItem}
 use Rattle.circuit.proofs.Fill.{upd-same}
 use Rattle.layout.specs.Opened.{sheetOf}
 use Rattle.item.proofs.Located.{sheet-ordered}
@@ -125,7 +125,7 @@ module _ {s offsets t tags : List ℕ} {numbers : List ℤ} {generation i : ℕ}
           holds = holds-refresh;
         }
 
-    pub step-refresh : m ≡ Refresh → {t₂ tags₂ : List ℕ} {numbers₂ : List ℤ} → Moves s generation i (renewed i (meaning v) unmarked (work (sheetOf s) (decodeTable t) i)) t₂ tags₂ numbers₂
+    pub step-refresh : m ≡ Refresh → {t₂ tags₂ : List ℕ} {numbers₂ : List ℤ} → Moves s generation i (renewed i (meaning v) unmarked (workOut (sheetOf s) (decodeTable t) i)) t₂ tags₂ numbers₂
         → Steps s generation (stepItem (sheetOf s) (decodeTable t) i) t₂ tags₂
     step-refresh e moves =
         steps-by (held (meaning v) refresh) (holds-held ∙ ap (λ x. held (meaning v) (markMeaning x)) e) _ refl

@@ -13,7 +13,7 @@ use borrow.Author.Tests.{ltb-true, ltb-false}
 use Rattle.circuit.specs.Value.{Value, same, wellFormed}
 use Rattle.circuit.specs.Sheet.{Sheet, itemAt, isFigure, Ordered}
 use Rattle.circuit.specs.Table.{Table, Cell, Mark, held, notice, upd, valueIn}
-use Rattle.circuit.specs.Machine.{work, renewed}
+use Rattle.circuit.specs.Machine.{workOut, renewed}
 use Rattle.circuit.proofs.Memo.{remember-store}
 use Rattle.layout.specs.Opened.{sheetOf}
 use Rattle.item.proofs.Located.{sheet-ordered}
@@ -58,8 +58,8 @@ figure-held false v m e h = let bad : _≡_ {A = ℕ} 0 1 = cc in absurd (omega 
 
 module _ {s offsets t tags : List ℕ} {generation i : ℕ} {v : Value} (lent : Lent s offsets t) (figured : Renewable s t i v)
     (none-from : NoneFrom i tags generation) (m : Mark) (w : Found) (t₁ tags₁ : List ℕ) (numbers₁ : List ℤ) (len : length t₁ ≡ length t)
-    (worked : (b : ℕ) → i ≤ b → Leaves s t tags generation b (work (sheetOf s) (decodeTable t) i) w t₁ tags₁ numbers₁) where
-  here : Leaves s t tags generation i (work (sheetOf s) (decodeTable t) i) w t₁ tags₁ numbers₁
+    (worked : (b : ℕ) → i ≤ b → Leaves s t tags generation b (workOut (sheetOf s) (decodeTable t) i) w t₁ tags₁ numbers₁) where
+  here : Leaves s t tags generation i (workOut (sheetOf s) (decodeTable t) i) w t₁ tags₁ numbers₁
   here = worked i (omega arith)
 
   value-formed : wellFormed v ≡ true
@@ -69,25 +69,25 @@ module _ {s offsets t tags : List ℕ} {generation i : ℕ} {v : Value} (lent : 
 
   -- a well-formed value is stored
   stores : (u : Value) (k : Mark) → wellFormed u ≡ true → (t₂ : List ℕ) → t₂ ≡ setRow width t₁ i (encodeCell (held u k))
-      → Moves s generation i (upd (work (sheetOf s) (decodeTable t) i .table) i (held u k)) t₂ tags₁ numbers₁
+      → Moves s generation i (upd (workOut (sheetOf s) (decodeTable t) i .table) i (held u k)) t₂ tags₁ numbers₁
   stores u k formed t₂ e =
       record {
         table-is = ap decodeTable e ∙ decode-setRow t₁ i (held u k) (omega (arith, lent-fits lent i (figured .low))) formed ∙ ap (λ X. upd X i (held u k)) (here .table-is);
         formed = rw e (setRow-form (sheetOf s) t₁ i (held u k) (len ∙ lent .length-is) (here .formed) (figured .low) (figure-held (isFigure (itemAt (sheetOf s) i)) u k (figured .figured) formed));
-        memo = memo-store (sheetOf s) (sheet-ordered s) (work (sheetOf s) (decodeTable t) i .table) i (held u k) tags₁ numbers₁ generation (here .fresh none-from) (here .memo);
+        memo = memo-store (sheetOf s) (sheet-ordered s) (workOut (sheetOf s) (decodeTable t) i .table) i (held u k) tags₁ numbers₁ generation (here .fresh none-from) (here .memo);
         fresh = here .fresh none-from;
       }
 
   pub renew-equal : (b : Bool) → b ≡ same v (w .value) → b ≡ true → (t₂ : List ℕ) → t₂ ≡ setRow width t₁ i (encodeCell (held v m))
-      → Moves s generation i (renewed i v m (work (sheetOf s) (decodeTable t) i)) t₂ tags₁ numbers₁
+      → Moves s generation i (renewed i v m (workOut (sheetOf s) (decodeTable t) i)) t₂ tags₁ numbers₁
   renew-equal b is agrees t₂ e =
-      subst (λ x. Moves s generation i (upd (work (sheetOf s) (decodeTable t) i .table) i (cond x (held v m) (held (work (sheetOf s) (decodeTable t) i .value) notice))) t₂ tags₁ numbers₁)
+      subst (λ x. Moves s generation i (upd (workOut (sheetOf s) (decodeTable t) i .table) i (cond x (held v m) (held (workOut (sheetOf s) (decodeTable t) i .value) notice))) t₂ tags₁ numbers₁)
       (sym agrees ∙ is ∙ ap (same v) (here .value-is)) (stores v m value-formed t₂ e)
 
   pub renew-other : (b : Bool) → b ≡ same v (w .value) → b ≡ false → (t₂ : List ℕ) → t₂ ≡ setRow width t₁ i (encodeCell (held (w .value) notice))
-      → Moves s generation i (renewed i v m (work (sheetOf s) (decodeTable t) i)) t₂ tags₁ numbers₁
+      → Moves s generation i (renewed i v m (workOut (sheetOf s) (decodeTable t) i)) t₂ tags₁ numbers₁
   renew-other b is not-same t₂ e =
-      subst (λ x. Moves s generation i (upd (work (sheetOf s) (decodeTable t) i .table) i (cond x (held v m) (held (work (sheetOf s) (decodeTable t) i .value) notice))) t₂ tags₁ numbers₁)
+      subst (λ x. Moves s generation i (upd (workOut (sheetOf s) (decodeTable t) i .table) i (cond x (held v m) (held (workOut (sheetOf s) (decodeTable t) i .value) notice))) t₂ tags₁ numbers₁)
       (sym not-same ∙ is ∙ ap (same v) (here .value-is))
-      (subst (λ u. Moves s generation i (upd (work (sheetOf s) (decodeTable t) i .table) i (held u notice)) t₂ tags₁ numbers₁) (here .value-is)
+      (subst (λ u. Moves s generation i (upd (workOut (sheetOf s) (decodeTable t) i .table) i (held u notice)) t₂ tags₁ numbers₁) (here .value-is)
       (stores (w .value) notice (here .value-formed) t₂ e))

@@ -9,7 +9,7 @@ use lib.ListN.{getD}
 use Rattle.circuit.specs.Value.{Value, wellFormed}
 use Rattle.circuit.specs.Sheet.{Sheet, Spread, defer, renew, forget, size, itemAt, isFigure, spreadOf}
 use Rattle.circuit.specs.Table.{Table, Cell, Mark, unmarked, refresh, notice, unk, held, upd, valueIn}
-use Rattle.circuit.specs.Machine.{work, renewed, refreshCleared, tellStored, tellCell, tellChild}
+use Rattle.circuit.specs.Machine.{workOut, renewed, refreshCleared, tellStored, tellCell, tellChild}
 use Rattle.layout.specs.Opened.{sheetOf}
 use Rattle.item.specs.Item.{fieldItem, spreadMeaning}
 use Rattle.item.proofs.Located.{sheet-ordered, located-item}
@@ -43,7 +43,7 @@ tell-refreshes defer notice S T c v e = let bad : _≡_ {A = ℕ} 0 1 = cc in ab
 tell-refreshes renew m S T c v e = let bad : _≡_ {A = ℕ} 0 1 = cc in absurd (omega arith)
 tell-refreshes forget m S T c v e = let bad : _≡_ {A = ℕ} 0 1 = cc in absurd (omega arith)
 
-tell-renews : (sp : Spread) (m : Mark) (S : Sheet) (T : Table) (c : ℕ) (v : Value) → toldBy sp m ≡ Renews → tellStored sp S T c v m ≡ renewed c v (refreshCleared m) (work S T c)
+tell-renews : (sp : Spread) (m : Mark) (S : Sheet) (T : Table) (c : ℕ) (v : Value) → toldBy sp m ≡ Renews → tellStored sp S T c v m ≡ renewed c v (refreshCleared m) (workOut S T c)
 tell-renews defer unmarked S T c v e = let bad : _≡_ {A = ℕ} 0 1 = cc in absurd (omega arith)
 tell-renews defer refresh S T c v e = let bad : _≡_ {A = ℕ} 0 1 = cc in absurd (omega arith)
 tell-renews defer notice S T c v e = refl
@@ -111,10 +111,10 @@ module _ {s offsets t tags : List ℕ} {numbers : List ℤ} {generation c : ℕ}
             (cell-moves (held (meaning v) refresh) v-formed t₂ stored)
 
         pub told-renews : told ≡ Renews → (k : Mark) → k ≡ refreshCleared (markMeaning m) → (t₂ tags₂ : List ℕ) (numbers₂ : List ℤ)
-            → Moves s generation c (renewed c (meaning v) k (work (sheetOf s) (decodeTable t) c)) t₂ tags₂ numbers₂
+            → Moves s generation c (renewed c (meaning v) k (workOut (sheetOf s) (decodeTable t) c)) t₂ tags₂ numbers₂
             → Moves s generation c (tellChild (sheetOf s) (decodeTable t) c) t₂ tags₂ numbers₂
         told-renews e k cleared t₂ tags₂ numbers₂ moves =
             subst (λ U. Moves s generation c U t₂ tags₂ numbers₂)
-            (ap (λ x. renewed c (meaning v) x (work (sheetOf s) (decodeTable t) c)) cleared
+            (ap (λ x. renewed c (meaning v) x (workOut (sheetOf s) (decodeTable t) c)) cleared
             ∙ sym (child-told ∙ tell-renews (spreadMeaning sp) (markMeaning m) (sheetOf s) (decodeTable t) c (meaning v) (sym tells ∙ e)))
             moves

@@ -3,7 +3,7 @@ ghost use mathlib.Core.Path.{_≡_};
 ghost use mathlib.Core.Bool.{true};
 ghost use Prim.Native.Nat.{_<_};
 ghost use Rattle.circuit.specs.Sheet.{size, itemAt, isFigure};
-ghost use Rattle.circuit.specs.Machine.{work, renewed, refreshCleared, tellChild, tell};
+ghost use Rattle.circuit.specs.Machine.{workOut, renewed, refreshCleared, tellChild, tell};
 ghost use Rattle.layout.specs.Opened.{sheetOf};
 ghost use Rattle.value.specs.Meaning.{meaning};
 ghost use Rattle.item.specs.Item.{spreadMeaning};
@@ -65,7 +65,7 @@ pub fn renew(
     mark: Mark,
 )
     requires { ⌜ Lent (now sheet) (now offsets) (now table) ⌝ ∗ ⌜ Memo (sheetOf (now sheet)) (decodeTable (now table)) (now tags) (now numbers) generation ⌝ ∗ ⌜ NoneFrom i (now tags) generation ⌝ ∗ ⌜ Renewable (now sheet) (now table) i (meaning value) ⌝ }
-    ensures { λ _. ⌜ Moves (now (sheet .entry)) generation i (renewed i (meaning value) (markMeaning mark) (work (sheetOf (now (sheet .entry))) (decodeTable (now (table .entry))) i)) (now (table .exit)) (now (tags .exit)) (now (numbers .exit)) ⌝ }
+    ensures { λ _. ⌜ Moves (now (sheet .entry)) generation i (renewed i (meaning value) (markMeaning mark) (workOut (sheetOf (now (sheet .entry))) (decodeTable (now (table .entry))) i)) (now (table .exit)) (now (tags .exit)) (now (numbers .exit)) ⌝ }
 {
     let worked = looking::work_out(sheet, offsets, table, tags, numbers, generation, i);
     let fresh = worked.value;

@@ -2,21 +2,21 @@
 use mathlib.Core.Path.{sym, _∙_}
 use native.Mathlib.Omega.{arith}
 use borrow.Author.Tests.{lt-ltb, le-ltb}
-use Rattle.day_meaning.specs.Day.{itemCount}
+use Rattle.day_meaning.specs.Day.{countSaid}
 use Rattle.day_meaning.proofs.Laws.{count-at}
 use borrow.Author.Needs.{needs}
 use Rattle.day.proofs.item_count.Statement.{statement}
 use Rattle.day.proofs.item_count.Tie as tie
 
 returns : tie.Need-returns
-unfolding itemCount
+unfolding countSaid
 returns c = (rw (lt-ltb _ _ (c .if1 .taken)), omega arith)
 
 u16-at-requires : tie.Need-u16-at-requires
 u16-at-requires c κs = search needs
 
 returns-2 : tie.Need-returns-2
-unfolding itemCount
+unfolding countSaid
 returns-2 c = (rw (le-ltb _ _ (c .before .if1 .left)) (c .u16-at .ensures .0 ∙ sym (count-at (c .before .before .before .args .sheet .now))), omega (arith, c .u16-at .ensures .1))
 
 pub item-count-spec : {M : Type 1} → statement M

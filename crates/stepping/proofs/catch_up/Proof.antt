@@ -2,13 +2,13 @@
 use Prim.Native.Nat.{_-_}
 use native.Mathlib.Omega.{arith}
 use Rattle.item.proofs.Located.{size-most}
-use Rattle.stepping.proofs.Sweeping.{Sweeping, sweeping-start, sweeping-ready, sweeping-next, sweeping-done}
+use Rattle.stepping.proofs.Ascending.{Ascending, ascending-start, ascending-ready, ascending-next, ascending-done}
 use Rattle.stepping.proofs.catch_up.Statement.{statement}
 use Rattle.stepping.proofs.catch_up.Tie as tie
 
 abbrev Inv-loop : tie.InvT-loop
 Inv-loop sheet offsets table₀ tags₀ numbers₀ heads links first n i₀ table tags numbers i =
-    Sweeping sheet offsets table₀ tags₀ numbers₀ n i table tags numbers
+    Ascending sheet offsets table₀ tags₀ numbers₀ n i table tags numbers
 
 abbrev μ-loop : tie.MeasureT-loop
 μ-loop sheet offsets table₀ tags₀ numbers₀ heads links first n i₀ table tags numbers i = n - i
@@ -16,7 +16,7 @@ abbrev μ-loop : tie.MeasureT-loop
 loop-holds : tie.Need-loop-holds Inv-loop μ-loop
 loop-holds c =
     let q = c .before .before .before .before .before .before .pre in
-    sweeping-start (q .0) (q .1 .0) (q .1 .1 .1 .0) (q .1 .1 .1 .1)
+    ascending-start (q .0) (q .1 .0) (q .1 .1 .1 .0) (q .1 .1 .1 .1)
 
 mul-generation : tie.Need-mul-generation Inv-loop μ-loop
 mul-generation c =
@@ -35,7 +35,7 @@ step-twice-requires c κs =
     let q = c .before .before .before .before .before .before .before .before .before .before .before .pre in
     let inv = c .before .before .before .before .loop .inv in
     let more = c .before .before .before .loop-test .taken in
-    (inv .lent, (sweeping-ready inv more, (inv .ready .older, (q .1 .1 .0, omega (arith, inv .n-is, more)))))
+    (inv .lent, (ascending-ready inv more, (inv .ready .older, (q .1 .1 .0, omega (arith, inv .n-is, more)))))
 
 add-i : tie.Need-add-i Inv-loop μ-loop
 add-i c =
@@ -49,7 +49,7 @@ loop-less c =
 loop-again : tie.Need-loop-again Inv-loop μ-loop
 loop-again c =
     let l = c .before .before .before .before .before .step-twice in
-    sweeping-next (c .before .before .before .before .before .before .before .before .before .before .loop .inv) (c .before .before .before .before .before .before .before .before .before .loop-test .taken) _ _ _ (l .kept .1 .1 .0) (l .kept .1 .1 .1 .0) (l .kept .1 .1 .1 .1 .0) (l .ensures)
+    ascending-next (c .before .before .before .before .before .before .before .before .before .before .loop .inv) (c .before .before .before .before .before .before .before .before .before .loop-test .taken) _ _ _ (l .kept .1 .1 .0) (l .kept .1 .1 .1 .0) (l .kept .1 .1 .1 .1 .0) (l .ensures)
 
 same-length : tie.Need-same-length Inv-loop μ-loop
 same-length c =
@@ -65,7 +65,7 @@ same-length-3 c =
 
 returns : tie.Need-returns Inv-loop μ-loop
 returns c =
-    sweeping-done (c .before .loop .inv) (c .loop-test .left)
+    ascending-done (c .before .loop .inv) (c .loop-test .left)
 
 pub catch-up-spec : {M : Type 1} → statement M
 catch-up-spec =

@@ -1,5 +1,5 @@
 -- `step::step_marked` meets its contract. Assumes nothing.
-use Rattle.stepping.proofs.Sweeping.{marked-steps, unmarked-stays}
+use Rattle.stepping.proofs.Ascending.{marked-steps, unmarked-stays}
 use borrow.Author.Needs.{needs}
 use Rattle.stepping.proofs.step_marked.Statement.{statement}
 use Rattle.stepping.proofs.step_marked.Tie as tie

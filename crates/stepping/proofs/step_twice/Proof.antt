@@ -1,5 +1,5 @@
 -- `step::step_twice` meets its contract. Assumes nothing.
-use Rattle.stepping.proofs.Sweeping.{second-lent, second-ready, stepped-twice, unmarked-twice, ready-before}
+use Rattle.stepping.proofs.Ascending.{second-lent, second-ready, stepped-twice, unmarked-twice, ready-before}
 use borrow.Author.Needs.{needs}
 use Rattle.stepping.proofs.step_twice.Statement.{statement}
 use Rattle.stepping.proofs.step_twice.Tie as tie

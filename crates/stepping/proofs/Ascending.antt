@@ -79,18 +79,18 @@ ready-after {s} {tags} {numbers} {generation} ready few =
     record { tag-room = ready .tag-room; number-room = ready .number-room; generations = few; older = still-older tags generation (ready .older) }
 
 -- below the lowest marked item the pass changes nothing
-sweep-none : (S : Sheet) (T : Table) (k : ℕ) → ((i : ℕ) → i < k → isMarked (T i) ≡ false) → ascendBelow S T k ≡ T
+ascend-none : (S : Sheet) (T : Table) (k : ℕ) → ((i : ℕ) → i < k → isMarked (T i) ≡ false) → ascendBelow S T k ≡ T
 unfolding ascendBelow stepMarked
-sweep-none S T zero none = refl
-sweep-none S T (suc k) none =
+ascend-none S T zero none = refl
+ascend-none S T (suc k) none =
     let here : isMarked (T k) ≡ false = none k (omega arith) in
-    let below : ascendBelow S T k ≡ T = sweep-none S T k (λ i h. none i (omega arith)) in
+    let below : ascendBelow S T k ≡ T = ascend-none S T k (λ i h. none i (omega arith)) in
     ap (λ U. stepIf (isMarked (stepIf (isMarked (U k)) S U k k)) S (stepIf (isMarked (U k)) S U k) k) below
     ∙ ap (λ x. stepIf (isMarked (stepIf x S T k k)) S (stepIf x S T k) k) here
     ∙ ap (λ x. stepIf x S T k) here
 
 -- the loop over the items
-pub record Sweeping (s offsets t₀ tags₀ : List ℕ) (numbers₀ : List ℤ) (n i : ℕ) (t tags : List ℕ) (numbers : List ℤ) : Type 0 where
+pub record Ascending (s offsets t₀ tags₀ : List ℕ) (numbers₀ : List ℤ) (n i : ℕ) (t tags : List ℕ) (numbers : List ℤ) : Type 0 where
   pub lent : Lent s offsets t
   pub n-is : n ≡ size (sheetOf s)
   pub within : i ≤ n
@@ -100,14 +100,14 @@ pub record Sweeping (s offsets t₀ tags₀ : List ℕ) (numbers₀ : List ℤ) 
   pub tags-length : length tags ≡ length tags₀
   pub numbers-length : length numbers ≡ length numbers₀
 
-pub sweeping-start : {s offsets t tags : List ℕ} {numbers : List ℤ} {n first : ℕ} → Lent s offsets t → Ready s tags numbers (2 * first + 1) → n ≡ size (sheetOf s)
-    → LowestMarked (decodeTable t) n first → Sweeping s offsets t tags numbers n first t tags numbers
-sweeping-start {s} {offsets} {t} {tags} {numbers} {n} {first} lent ready n-is lowest =
+pub ascending-start : {s offsets t tags : List ℕ} {numbers : List ℤ} {n first : ℕ} → Lent s offsets t → Ready s tags numbers (2 * first + 1) → n ≡ size (sheetOf s)
+    → LowestMarked (decodeTable t) n first → Ascending s offsets t tags numbers n first t tags numbers
+ascending-start {s} {offsets} {t} {tags} {numbers} {n} {first} lent ready n-is lowest =
     record {
       lent = lent;
       n-is = n-is;
       within = lowest .within;
-      table-is = sym (sweep-none (sheetOf s) (decodeTable t) first (lowest .none-below));
+      table-is = sym (ascend-none (sheetOf s) (decodeTable t) first (lowest .none-below));
       ready = ready;
       t-length = refl;
       tags-length = refl;
@@ -115,18 +115,18 @@ sweeping-start {s} {offsets} {t} {tags} {numbers} {n} {first} lent ready n-is lo
     }
 
 module _ {s offsets t₀ tags₀ : List ℕ} {numbers₀ : List ℤ} {n i : ℕ} {t tags : List ℕ} {numbers : List ℤ}
-    (inv : Sweeping s offsets t₀ tags₀ numbers₀ n i t tags numbers) (more : i < n) where
+    (inv : Ascending s offsets t₀ tags₀ numbers₀ n i t tags numbers) (more : i < n) where
   few : 2 * i + 1 + 1 + 1 < 2_147_483_648
   few = omega (arith, size-most s, inv .n-is)
 
-  pub sweeping-ready : Ready s tags numbers (2 * i + 1 + 1)
-  sweeping-ready = ready-after (inv .ready) (omega (arith, few))
+  pub ascending-ready : Ready s tags numbers (2 * i + 1 + 1)
+  ascending-ready = ready-after (inv .ready) (omega (arith, few))
 
-  pub sweeping-next : (t₂ tags₂ : List ℕ) (numbers₂ : List ℤ) → length t₂ ≡ length t → length tags₂ ≡ length tags → length numbers₂ ≡ length numbers
+  pub ascending-next : (t₂ tags₂ : List ℕ) (numbers₂ : List ℤ) → length t₂ ≡ length t → length tags₂ ≡ length tags → length numbers₂ ≡ length numbers
       → Steps s (2 * i + 1 + 1) (stepMarked (sheetOf s) (stepMarked (sheetOf s) (decodeTable t) i) i) t₂ tags₂
-      → Sweeping s offsets t₀ tags₀ numbers₀ n (i + 1) t₂ tags₂ numbers₂
+      → Ascending s offsets t₀ tags₀ numbers₀ n (i + 1) t₂ tags₂ numbers₂
   unfolding ascendBelow
-  sweeping-next t₂ tags₂ numbers₂ a b c steps =
+  ascending-next t₂ tags₂ numbers₂ a b c steps =
       record {
         lent = lent-on (inv .lent) t₂ a (steps .formed);
         n-is = inv .n-is;
@@ -135,16 +135,16 @@ module _ {s offsets t₀ tags₀ : List ℕ} {numbers₀ : List ℤ} {n i : ℕ}
             steps .table-is
             ∙ ap (λ T. stepMarked (sheetOf s) (stepMarked (sheetOf s) T i) i) (inv .table-is)
             ∙ ap (ascendBelow (sheetOf s) (decodeTable t₀)) (sym (add-one i));
-        ready = subst (Ready s tags₂ numbers₂) (omega arith) (ready-on sweeping-ready tags₂ numbers₂ b c few (steps .older));
+        ready = subst (Ready s tags₂ numbers₂) (omega arith) (ready-on ascending-ready tags₂ numbers₂ b c few (steps .older));
         t-length = a ∙ inv .t-length;
         tags-length = b ∙ inv .tags-length;
         numbers-length = c ∙ inv .numbers-length;
       }
 
-pub sweeping-done : {s offsets t₀ tags₀ : List ℕ} {numbers₀ : List ℤ} {n i : ℕ} {t tags : List ℕ} {numbers : List ℤ}
-    → Sweeping s offsets t₀ tags₀ numbers₀ n i t tags numbers → n ≤ i → Steps s (2 * n) (catchUp (sheetOf s) (decodeTable t₀)) t tags
+pub ascending-done : {s offsets t₀ tags₀ : List ℕ} {numbers₀ : List ℤ} {n i : ℕ} {t tags : List ℕ} {numbers : List ℤ}
+    → Ascending s offsets t₀ tags₀ numbers₀ n i t tags numbers → n ≤ i → Steps s (2 * n) (catchUp (sheetOf s) (decodeTable t₀)) t tags
 unfolding ascend
-sweeping-done {s} {offsets} {t₀} {tags₀} {numbers₀} {n} {i} {t} {tags} {numbers} inv h =
+ascending-done {s} {offsets} {t₀} {tags₀} {numbers₀} {n} {i} {t} {tags} {numbers} inv h =
     record {
       table-is = inv .table-is ∙ ap (ascendBelow (sheetOf s) (decodeTable t₀)) (end ∙ inv .n-is) ∙ sym (catchUp-ascends (sheetOf s) (sheet-ordered s) (decodeTable t₀));
       formed = inv .lent .formed;
@@ -160,4 +160,4 @@ pub quiet-caught : {s offsets t : List ℕ} {n first : ℕ} → Lent s offsets t
 unfolding ascend
 quiet-caught {s} {offsets} {t} {n} {first} lent n-is lowest h =
     sym (catchUp-ascends (sheetOf s) (sheet-ordered s) (decodeTable t)
-    ∙ sweep-none (sheetOf s) (decodeTable t) (size (sheetOf s)) (λ i l. lowest .none-below i (omega (arith, lowest .within))))
+    ∙ ascend-none (sheetOf s) (decodeTable t) (size (sheetOf s)) (λ i l. lowest .none-below i (omega (arith, lowest .within))))
