@@ -38,13 +38,16 @@ pub refused-open : (how : Opening) (s x t : List ℕ) (k at : ℕ) → Refused k
 unfolding openOn measuredOf firstCause
 refused-open how s x t k at e = go (readSheet s) refl e
   where
-    by : (b : Bool) (n : ℕ) (g : Given) → Refused k at ≡ itemsUnless (firstCause (test 8 b ∷ [])) n → unlessRefused (firstCause (test 8 b ∷ [])) (keeping x t) g ≡ refusal k at (keeping x t)
+    by : (b : Bool) (n : ℕ) (g : Given) → Refused k at ≡ itemsUnless (firstCause (test 8 b ∷ [])) n
+        → unlessRefused (firstCause (test 8 b ∷ [])) (keeping x t) g ≡ refusal k at (keeping x t)
     by true n g q = let a : 8 ≡ k = cc in let o : 0 ≡ at = cc in ap₂ (λ i j. refusal i j (keeping x t)) a o
     by false n g q = let z : _≡_ {A = ℕ} 0 1 = cc in absurd (omega arith)
 
     go : (r : SheetRead) → readSheet s ≡ r → Refused k at ≡ measuredBy r (length x) (length t) → openOn how s (keeping x t) ≡ refusal k at (keeping x t)
     go (refused j o) q y = let a : j ≡ k = cc in let b : o ≡ at = cc in rw q (ap₂ (λ i p. refusal i p (keeping x t)) a b)
-    go (opens edition ps) q y = rw q (by (lengthsOff (length ps) (length x) (length t)) (length ps) (accepted none (keeping (indexBytes ps) (encodeTable (sheetRead edition ps) (opened how (sheetRead edition ps))))) y)
+    go (opens edition ps) q y =
+        rw q
+        (by (lengthsOff (length ps) (length x) (length t)) (length ps) (accepted none (keeping (indexBytes ps) (encodeTable (sheetRead edition ps) (opened how (sheetRead edition ps))))) y)
 
 pub record Measured (s x t : List ℕ) (n : ℕ) : Type 0 where
   pub count-is : n ≡ size (sheetOf s)

@@ -122,7 +122,8 @@ first-two true b ts k e h = sym e
 first-two false true ts k e h = sym e
 first-two false false ts k e h = absurd (h e)
 
-pub past-two : (a b : Bool) (ts : List Test) (k : ℕ) → k ≡ firstCause (test 11 a ∷ test 12 b ∷ []) → k ≡ 0 → (a ≡ false) × (firstCause (test 11 a ∷ test 12 b ∷ ts) ≡ firstCause ts)
+pub past-two : (a b : Bool) (ts : List Test) (k : ℕ) → k ≡ firstCause (test 11 a ∷ test 12 b ∷ []) → k ≡ 0
+    → (a ≡ false) × (firstCause (test 11 a ∷ test 12 b ∷ ts) ≡ firstCause ts)
 unfolding firstCause
 past-two true b ts k e h = absurd (omega arith)
 past-two false true ts k e h = absurd (omega arith)
@@ -201,7 +202,8 @@ module _ (s x t offsets : List ℕ) (n : ℕ) (e : Items n ≡ measuredOf s (len
   unfolding firstCause
   admit-index m h q = admit-by true (tableWrong (sheetOf s) t) (index-is m h ∙ ap not q) refl
 
-  pub admit-table : (m : Bool) → m ≡ sameBytes x (offsetBytes (take n offsets)) → m ≡ true → (f : Bool) → f ≡ tableForm (sheetOf s) t → f ≡ false → Refused 10 0 ≡ admittedOf s x t
+  pub admit-table : (m : Bool) → m ≡ sameBytes x (offsetBytes (take n offsets)) → m ≡ true → (f : Bool) → f ≡ tableForm (sheetOf s) t → f ≡ false
+      → Refused 10 0 ≡ admittedOf s x t
   unfolding firstCause
   admit-table m h q f g p = admit-by false true (index-is m h ∙ ap not q) (ap not (sym g ∙ p))
 

@@ -46,13 +46,15 @@ module _ {s offsets t : List ℕ} (lent : Lent s offsets t) (x : List ℕ) (n it
       })
 
 -- the look-up after catching up is of a generation of its own
-pub caught-memo : {s tags : List ℕ} {numbers : List ℤ} → Ready s tags numbers 1 → {n : ℕ} → n ≡ size (sheetOf s) → {U : Table} {t₁ : List ℕ} (tags₁ : List ℕ) (numbers₁ : List ℤ)
+pub caught-memo : {s tags : List ℕ} {numbers : List ℤ} → Ready s tags numbers 1 → {n : ℕ} → n ≡ size (sheetOf s)
+    → {U : Table} {t₁ : List ℕ} (tags₁ : List ℕ) (numbers₁ : List ℤ)
     → length tags₁ ≡ length tags → length numbers₁ ≡ length numbers → Steps s (2 * n) U t₁ tags₁ → (T : Table) → Memo (sheetOf s) T tags₁ numbers₁ (2 * n + 1)
 caught-memo {s} {tags} {numbers} ready {n} n-is tags₁ numbers₁ a b steps T =
     ready-memo (record { tag-room = omega (arith, ready .tag-room); number-room = omega (arith, ready .number-room); generations = omega (arith, size-most s); older = steps .older }) T
 
 -- what a look-up after catching up gives
-pub caught-looked : (s : List ℕ) {t₁ : List ℕ} (T : Table) → decodeTable t₁ ≡ T → {tags : List ℕ} {generation b : ℕ} (i : ℕ) {f : Found} {t₂ tags₂ : List ℕ} {numbers₂ : List ℤ}
+pub caught-looked : (s : List ℕ) {t₁ : List ℕ} (T : Table) → decodeTable t₁ ≡ T
+    → {tags : List ℕ} {generation b : ℕ} (i : ℕ) {f : Found} {t₂ tags₂ : List ℕ} {numbers₂ : List ℤ}
     → Leaves s t₁ tags generation b (lookUp (sheetOf s) (decodeTable t₁) i) f t₂ tags₂ numbers₂ → LookedUp s (lookUp (sheetOf s) T i) (f .value) t₂
 caught-looked s {t₁} T is i {f} {t₂} looks =
     subst (λ U. LookedUp s (lookUp (sheetOf s) U i) (f .value) t₂) is (record { value-is = looks .value-is; table-is = looks .table-is; formed = looks .formed })

@@ -181,7 +181,8 @@ module _ (S : Sheet) (ordered : Ordered S) where
           (which (same v (workOut S T i .value)))
         where
           which : (b : Bool)
-              → (isMarked (cond b (held v unmarked) (held (workOut S T i .value) notice)) ≡ false) ⊎ ((w : Value) × (cond b (held v unmarked) (held (workOut S T i .value) notice) ≡ held w notice))
+              → (isMarked (cond b (held v unmarked) (held (workOut S T i .value) notice)) ≡ false) ⊎
+              ((w : Value) × (cond b (held v unmarked) (held (workOut S T i .value) notice) ≡ held w notice))
           which true = inl refl
           which false = inr (workOut S T i .value, refl)
 

@@ -6,14 +6,14 @@ use mathlib.Core.Path.{_≡_, refl}
 use mathlib.Core.Bool.{true, false}
 use mathlib.Core.List.{List, [], _∷_}
 use mathlib.Core.Option.{Option, none, some}
-use lib.IntN.{ℤ, pos, negsuc}
+use lib.IntN.{pos, negsuc}
 use Rattle.circuit.specs.Value.{Value, null, num, inRange, limit, partsOf}
 use Rattle.circuit.specs.Rules.{sum, difference, apply, numbers, total, anyOut}
 use Rattle.circuit.specs.Sheet.{Sheet, entry, figure, defer, renew, member}
-use Rattle.circuit.specs.Table.{Table, Cell, held, unk, unmarked, notice, openBare, openFull}
+use Rattle.circuit.specs.Table.{Table, held, unmarked, notice, openBare, openFull}
 use Rattle.circuit.specs.Machine.{gather, workOutBy, lookFor, lookUp, workOut, storePosting, keepFigure, dropFigure, tellChild, tellBelow, tell, clearMark, stepItem, lowestMarked, catchUpIn, catchUp}
 use Rattle.circuit.specs.Call.{Call, post, keep, drop, step, ask}
-use Rattle.circuit.specs.Calls.{Outcome, perform, run, tests, firstCause, effect, postedValue}
+use Rattle.circuit.specs.Calls.{perform, run, tests, firstCause, effect, postedValue}
 
 -- an entry, a figure that sums it, and a figure that sums the first; neither is kept, both defer
 unfoldable pub chain : Sheet

@@ -171,7 +171,8 @@ ofNumbers-wellFormed f (z ∷ zs) = ranged-wellFormed (f z zs)
 pub apply-wellFormed : (op : Operation) (vs : List Value) → allWellFormed vs ≡ true → wellFormed (apply op vs) ≡ true
 unfolding apply
 apply-wellFormed sum vs e = cond-wellFormed (anyOut vs) _ _ refl (ofNumbers-wellFormed total (numbers vs))
-apply-wellFormed difference vs e = cond-wellFormed (anyOut vs) _ _ refl (cond-wellFormed (isNull (nth vs 0) && isNull (nth vs 1)) _ _ refl (ranged-wellFormed (orZero (nth vs 0) -ℤ orZero (nth vs 1))))
+apply-wellFormed difference vs e =
+    cond-wellFormed (anyOut vs) _ _ refl (cond-wellFormed (isNull (nth vs 0) && isNull (nth vs 1)) _ _ refl (ranged-wellFormed (orZero (nth vs 0) -ℤ orZero (nth vs 1))))
 apply-wellFormed smallest vs e = cond-wellFormed (anyOut vs) _ _ refl (ofNumbers-wellFormed least (numbers vs))
 apply-wellFormed largest vs e = cond-wellFormed (anyOut vs) _ _ refl (ofNumbers-wellFormed greatest (numbers vs))
 apply-wellFormed share vs e =

@@ -53,7 +53,8 @@ ask-prints s x t i e = go (readSheet s) refl e
 
     accepts : (edition : ℕ) (ps : List Placed) (m : ℕ) → readSheet s ≡ opens edition ps → firstCause (callTests (sheetRead edition ps) ps (keeping x t) (ask i)) ≡ m
         → unlessRefused m (keeping x t) (effectOn (sheetRead edition ps) (keeping x t) (effect (sheetRead edition ps) (decodeTable t) (ask i))) .number ≡ 0
-        → lineOf (ask i) (unlessRefused m (keeping x t) (effectOn (sheetRead edition ps) (keeping x t) (effect (sheetRead edition ps) (decodeTable t) (ask i)))) ≡ askLine i (printed (asked edition ps t i))
+        → lineOf (ask i) (unlessRefused m (keeping x t) (effectOn (sheetRead edition ps) (keeping x t) (effect (sheetRead edition ps) (decodeTable t) (ask i)))) ≡
+        askLine i (printed (asked edition ps t i))
     accepts edition ps zero r h n = ap (askLine i) (value-text (asked edition ps t i) (formed edition ps r h))
     accepts edition ps (suc m) r h n = absurd (omega arith)
 

@@ -7,7 +7,7 @@ use Rattle.circuit.specs.Machine.{gather, workOutBy, lookFor, lookUp, workOut, 
 use Rattle.circuit.specs.Rules.{coded, maxParents, oneOrMore, countAllowed as parentsAllowed, operationOf, numbers, total, least, greatest, whole, anyOut, apply}
 use Rattle.circuit.specs.Sheet.{member}
 use Rattle.circuit.specs.Value.{limit, inRange}
-use Rattle.layout.specs.Index.{indexWidth, indexBytes}
+use Rattle.layout.specs.Index.{indexBytes}
 use Rattle.layout.specs.Layout.{editionKnown, itemLimit, countAllowed, levelLimit, keepAllowed, spreadAllowed, nameLimit, all, nameAllowed, highest, spreadMeant, machineItem}
 use Rattle.layout.specs.Read.{parentsIn, itemIn, lengthOrName, headTests, itemTests, lastTests, scan, scanSheet, readSheet}
 use Rattle.layout.specs.Write.{concat}
@@ -18,7 +18,7 @@ use Rattle.word.specs.Word.{leAt, leBytes}
 use Rattle.field.specs.Field.{cutAt}
 use Rattle.printer.specs.Decimal.{digitsUpTo, digits, decimal}
 use Rattle.value.specs.Meaning.{partsOf}
-use Rattle.office.specs.Office.{callOn, openOn, keeping}
+use Rattle.office.specs.Office.{callOn, openOn}
 use Rattle.item.specs.Offsets.{sameBytes}
 use Rattle.day_meaning.specs.Day.{playFrom, countSaid, dayOn, runDay}
 use Rattle.day_meaning.specs.Orders.{postIn, callIn, orderOf}

@@ -39,7 +39,8 @@ carry-answer {c} {c′} {n = n} s x t e line number table p =
     rw e (record { line = appended-as (ap answerLine number ∙ sym (line (callOn s (keeping x t) c′))) p; table-is = table })
 
 pub carry-reading : {c : Call} {t′ out out′ : List ℕ} {n kind at next : ℕ} {z : ℤ} (s x t : List ℕ) (item : ℕ) → c ≡ ask item
-    → n ≡ callOn s (keeping x t) (ask item) .number → kind ≡ callOn s (keeping x t) (ask item) .kind → z ≡ callOn s (keeping x t) (ask item) .value → t′ ≡ callOn s (keeping x t) (ask item) .after .table
+    → n ≡ callOn s (keeping x t) (ask item) .number → kind ≡ callOn s (keeping x t) (ask item) .kind → z ≡ callOn s (keeping x t) (ask item) .value → t′
+    ≡ callOn s (keeping x t) (ask item) .after .table
     → Appended (readingLine item n (textOf (partsOf kind z))) out at next out′ → CarriedOut c (callOn s (keeping x t) c) out at next t′ out′
 carry-reading {c} {n = n} {kind = kind} {z = z} s x t item e number kinds value table p =
     let g : Given = callOn s (keeping x t) (ask item) in

@@ -91,7 +91,9 @@ ordering tag content c = a (eqb tag postTag) (eqb tag askTag) (eqb tag keepTag) 
     k true b₄ b₅ h = call-ordering keep content c (λ i. refl) h
     k false b₄ b₅ h = d b₄ b₅ h
 
-    q : (b b₃ b₄ b₅ : Bool) → cond b (callIn ask content) (cond b₃ (callIn keep content) (cond b₄ (callIn drop content) (cond b₅ (callIn step content) none))) ≡ some c → Ordering content c
+    q : (b b₃ b₄ b₅ : Bool)
+        → cond b (callIn ask content) (cond b₃ (callIn keep content) (cond b₄ (callIn drop content) (cond b₅ (callIn step content) none))) ≡ some c
+        → Ordering content c
     q true b₃ b₄ b₅ h = call-ordering ask content c (λ i. refl) h
     q false b₃ b₄ b₅ h = k b₃ b₄ b₅ h
 
@@ -183,7 +185,8 @@ module _ (s x d : List ℕ) (edition : ℕ) (ps : List Placed) (r : readSheet s 
   Room f t at = length (playFrom f s x d at t .text) ≤ textPerByte * (length d - at) + textBesides
 
   call-room : (f : ℕ) (t : List ℕ) (at tag start len next : ℕ) (c : Call) → FieldAt d at tag start len next → orderOf tag (contentAt d start len) ≡ some c
-      → Room f (callOn s (keeping x t) c .after .table) next → length (lineOf c (callOn s (keeping x t) c) ++ playFrom f s x d next (callOn s (keeping x t) c .after .table) .text) ≤ textPerByte * (length d - at) + textBesides
+      → Room f (callOn s (keeping x t) c .after .table) next → length
+      (lineOf c (callOn s (keeping x t) c) ++ playFrom f s x d next (callOn s (keeping x t) c .after .table) .text) ≤ textPerByte * (length d - at) + textBesides
   call-room f t at tag start len next c w e ih =
       let o = ordering tag (contentAt d start len) c e in
       let within : length (contentAt d start len) ≤ len = omega (arith, length-take len (ListN.drop start d)) in

@@ -20,7 +20,8 @@ unfolding postIn
 post-good content item kind z y n i k e f h =
     rw (eq-eqb (length content) postLength n, k, ← e, h, ← i, f)
 
-pub post-bad : (content : List ℕ) (kind : ℕ) (z : ℤ) → length content ≡ postLength → kindIn content ≡ kind → z ≡ numberIn content → kindAllowed kind z ≡ false → none ≡ postIn content
+pub post-bad : (content : List ℕ) (kind : ℕ) (z : ℤ) → length content ≡ postLength → kindIn content ≡ kind → z ≡ numberIn content
+    → kindAllowed kind z ≡ false → none ≡ postIn content
 unfolding postIn
 post-bad content kind z n k e h = rw (eq-eqb (length content) postLength n, k, ← e, h)
 
@@ -66,6 +67,7 @@ unfolding orderOf
 order-length tag content t h =
     simp (ne-eqb tag postTag t, call-bad ask content h, call-bad keep content h, call-bad drop content h, call-bad step content h, same)
 
-pub order-unknown : (tag : ℕ) (content : List ℕ) → (tag ≡ postTag → ⊥) → (tag ≡ askTag → ⊥) → (tag ≡ keepTag → ⊥) → (tag ≡ dropTag → ⊥) → (tag ≡ stepTag → ⊥) → none ≡ orderOf tag content
+pub order-unknown : (tag : ℕ) (content : List ℕ) → (tag ≡ postTag → ⊥) → (tag ≡ askTag → ⊥) → (tag ≡ keepTag → ⊥)
+    → (tag ≡ dropTag → ⊥) → (tag ≡ stepTag → ⊥) → none ≡ orderOf tag content
 unfolding orderOf
 order-unknown tag content a b c d e = rw (ne-eqb tag postTag a, ne-eqb tag askTag b, ne-eqb tag keepTag c, ne-eqb tag dropTag d, ne-eqb tag stepTag e)

@@ -19,8 +19,8 @@ use Rattle.layout.proofs.Scan.{allowed-operation}
 use Rattle.layout.proofs.Items.{parents-count}
 use Rattle.layout.proofs.IndexLaws.{parents-most}
 use Rattle.rules.specs.Operations.{operationMeaning}
-use Rattle.rules.specs.declared.Operation.{Operation as Answer}
 use Rattle.item.specs.Item.{fieldContent, fieldItem, ruleByte, keepByte, spreadByte, countByte, ItemField, itemOperation, OperationRead, CountRead}
+use Rattle.rules.specs.declared.Operation.{Operation as Answer}
 
 -- the k-th of the first n parents
 parents-at : (content : List ℕ) (n k : ℕ) → k < n → getD (parentsIn content n) k 0 ≡ parentIn content k

@@ -3,7 +3,7 @@
 use mathlib.Core.Path.{_≡_, refl, sym, ap, ap₂, _∙_}
 use mathlib.Core.Bool.{Bool, true, false, _&&_}
 use mathlib.Core.List.{List, [], _∷_, _++_, append-assoc}
-use Prim.Native.Nat.{ℕ, suc, _+_, _*_, _/_, _%_, _-_, _≤_, _<_}
+use Prim.Native.Nat.{ℕ, suc, _+_, _*_, _/_, _%_, _≤_, _<_}
 use native.Mathlib.Omega.{arith}
 use native.Mathlib.Numerals.{add-one}
 use lib.Dec.{eqb}
@@ -106,7 +106,9 @@ drop-four l at h =
     let e₂ : at + 2 ≡ suc (suc at) = omega arith in
     let e₃ : at + 3 ≡ suc (suc (suc at)) = omega arith in
     let e₄ : at + indexWidth ≡ suc (suc (suc (suc at))) = omega arith in
-    rw (e₁, e₂, e₃, e₄, ← drop-cons l (suc (suc (suc at))) 0 (omega arith), ← drop-cons l (suc (suc at)) 0 (omega arith), ← drop-cons l (suc at) 0 (omega arith)) (drop-cons l at 0 (omega arith))
+    rw
+    (e₁, e₂, e₃, e₄, ← drop-cons l (suc (suc (suc at))) 0 (omega arith), ← drop-cons l (suc (suc at)) 0 (omega arith), ← drop-cons l (suc at) 0 (omega arith))
+    (drop-cons l at 0 (omega arith))
 
 -- the comparison of an index with the bytes of some offsets has come to offset k
 abbrev pub Compared : List ℕ → List ℕ → ℕ → Type 0

@@ -1,6 +1,6 @@
 -- Reading a sheet: its layout, or the number and the offset of its first fault. The fields are judged in order, each by a
 -- list of tests in the order of their numbers. Assumes nothing.
-use Prim.Native.Nat.{ℕ, zero, suc, _+_}
+use Prim.Native.Nat.{ℕ, zero, suc}
 use mathlib.Core.Bool.{Bool, false, cond, not, _&&_, _||_}
 use mathlib.Core.List.{List, [], _∷_, _++_, map}
 use lib.Dec.{eqb, ltb}

@@ -166,7 +166,9 @@ postingsOf (p ∷ ps) = postingOf (p .item) (postedValue (p .kind) (p .number)) 
 postings-append : (ps qs : List Posted) → postingsOf (ps ++ qs) ≡ postingsOf ps ++ postingsOf qs
 unfolding postingsOf
 postings-append [] qs = refl
-postings-append (p ∷ ps) qs = ap (λ r. postingOf (p .item) (postedValue (p .kind) (p .number)) ++ r) (postings-append ps qs) ∙ sym (append-assoc (postingOf (p .item) (postedValue (p .kind) (p .number))) (postingsOf ps) (postingsOf qs))
+postings-append (p ∷ ps) qs =
+    ap (λ r. postingOf (p .item) (postedValue (p .kind) (p .number)) ++ r) (postings-append ps qs)
+    ∙ sym (append-assoc (postingOf (p .item) (postedValue (p .kind) (p .number))) (postingsOf ps) (postingsOf qs))
 
 append-none : (ps : List Posting) → ps ++ [] ≡ ps
 append-none [] = refl
@@ -325,7 +327,8 @@ module _ (s : List ℕ) (edition : ℕ) (ps : List Placed) (reads : readSheet s 
       record {
         same = first ∙ alike ∙ sym second;
         fresh = first ∙ answer-fresh X x one (freshAsk X (freshRun X blank cs) i) (both .first i) ∙ ap (λ Y. freshAnswer (freshAsk Y (freshRun Y blank cs) i)) (sym sheet-is);
-        fresh-other = second ∙ sym alike ∙ answer-fresh X x one (freshAsk X (freshRun X blank ds) i) (both .second i) ∙ ap (λ Y. freshAnswer (freshAsk Y (freshRun Y blank ds) i)) (sym sheet-is);
+        fresh-other =
+            second ∙ sym alike ∙ answer-fresh X x one (freshAsk X (freshRun X blank ds) i) (both .second i) ∙ ap (λ Y. freshAnswer (freshAsk Y (freshRun Y blank ds) i)) (sym sheet-is);
       }
     where
       X : Sheet

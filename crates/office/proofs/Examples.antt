@@ -21,7 +21,7 @@ use Rattle.circuit.specs.Machine.{gather, workOutBy, lookFor, lookUp, workOut, 
 use Rattle.layout.specs.Layout.{spreadMeant, machineItem}
 use Rattle.layout.specs.Read.{refused, readSheet}
 use Rattle.layout.specs.Write.{concat, writeSheet}
-use Rattle.layout.specs.Index.{indexWidth, indexBytes}
+use Rattle.layout.specs.Index.{indexBytes}
 use Rattle.layout.proofs.Examples.{reading, writing, exampleBytes, head, entryA, end, figureOf, chain, gives-1, gives-2, gives-3, gives-4, gives-5, gives-6, gives-7}
 use Rattle.table.specs.Rows.{rowsBelow, allBelow}
 use Rattle.table.specs.Record.{encodeCell, decodeCell, codesForm, numberForm, recordForm}

@@ -279,7 +279,9 @@ module _ (s : List ℕ) (kept : Office) (lent : AcceptedLent s kept) where
               equal = λ h q.
                   let known : valueOf t i ≡ v = ap valueIn e in
                   let alike : same v (workOut S T i .value) ≡ true = ap (same v) (q ∙ known) ∙ same-refl v in
-                  stepped (held v refresh) e ∙ ap (encodeTable S) (ap (λ b. upd (workOut S T i .table) i (cond b (held v unmarked) (held (workOut S T i .value) notice))) alike ∙ ap (λ w. upd (workOut S T i .table) i (held w unmarked)) (sym known));
+                  stepped (held v refresh) e
+                  ∙ ap (encodeTable S)
+                  (ap (λ b. upd (workOut S T i .table) i (cond b (held v unmarked) (held (workOut S T i .value) notice))) alike ∙ ap (λ w. upd (workOut S T i .table) i (held w unmarked)) (sym known));
               different = λ h n.
                   let known : valueOf t i ≡ v = ap valueIn e in
                   let unlike : same v (workOut S T i .value) ≡ false = differs v (workOut S T i .value) (λ q. n (sym q ∙ sym known)) in

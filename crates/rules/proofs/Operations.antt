@@ -23,7 +23,8 @@ pub not-coded : (code n : ℕ) → coded code ≡ none → none ≡ operationOf 
 unfolding operationOf
 not-coded code n e = rw e
 
-pub no-code : (code : ℕ) → (code ≡ 1 → ⊥) → (code ≡ 2 → ⊥) → (code ≡ 3 → ⊥) → (code ≡ 4 → ⊥) → (code ≡ 5 → ⊥) → (code ≡ 6 → ⊥) → (code ≡ 7 → ⊥) → (code ≡ 8 → ⊥) → coded code ≡ none
+pub no-code : (code : ℕ) → (code ≡ 1 → ⊥) → (code ≡ 2 → ⊥) → (code ≡ 3 → ⊥) → (code ≡ 4 → ⊥) → (code ≡ 5 → ⊥)
+    → (code ≡ 6 → ⊥) → (code ≡ 7 → ⊥) → (code ≡ 8 → ⊥) → coded code ≡ none
 unfolding coded
 no-code code a b c d e f g h =
     rw (

@@ -83,7 +83,8 @@ module _ (a b : circuit.Value) (t : Bool) (et : t ≡ (circuit.isOut a || circui
           let k : read d ≡ (rules.orZero a -ℤ rules.orZero b) = rw (back d f, ed, first-is, second-is) in
           er ∙ rw (k, none-out, sym en ∙ h)
 
-      pub both-is : (f : ℤ → ℤ → circuit.Value) (n : Bool) → n ≡ (circuit.isNull a || circuit.isNull b) → n ≡ false → (r : circuit.Value) → r ≡ f (read x) (read y) → r ≡ bothRule f (a ∷ b ∷ [])
+      pub both-is : (f : ℤ → ℤ → circuit.Value) (n : Bool) → n ≡ (circuit.isNull a || circuit.isNull b) → n ≡ false → (r : circuit.Value)
+          → r ≡ f (read x) (read y) → r ≡ bothRule f (a ∷ b ∷ [])
       both-is f n en h r er = er ∙ rw (first-is, second-is, none-out, sym en ∙ h)
 
 -- at least, by the answer of its test

@@ -2,7 +2,7 @@
 ghost use mathlib.Core.Path.{_≡_};
 ghost use mathlib.Core.Bool.{_&&_};
 ghost use mathlib.Core.List.{List};
-ghost use Prim.Native.Nat.{ℕ, _+_, _*_, _≤_, max};
+ghost use Prim.Native.Nat.{_+_, _*_, _≤_, max};
 ghost use lib.ListN.{length};
 ghost use Rattle.circuit.specs.Calls.{firstCause};
 ghost use Rattle.layout.specs.Layout.{figureTag, mostItems, parentWidth, ruleAllowed, keepAllowed, spreadAllowed, nameAllowed};

@@ -55,7 +55,10 @@ pub clear-steps : {s t₁ tags₁ : List ℕ} {numbers₁ : List ℤ} {generatio
 unfolding clearMark
 clear-steps {s} {t₁} {tags₁} {numbers₁} {generation} {n} {i} U low len moves t₂ e =
     record {
-      table-is = ap decodeTable e ∙ decode-setRow t₁ i (clearCell (decodeTable t₁ i)) (record-fits (sheetOf s) t₁ i len low) formed ∙ ap (λ T. Rattle.circuit.specs.Table.upd T i (clearCell (T i))) (moves .table-is);
+      table-is =
+          ap decodeTable e
+          ∙ decode-setRow t₁ i (clearCell (decodeTable t₁ i)) (record-fits (sheetOf s) t₁ i len low) formed
+          ∙ ap (λ T. Rattle.circuit.specs.Table.upd T i (clearCell (T i))) (moves .table-is);
       formed = rw e (setRow-form (sheetOf s) t₁ i (clearCell (decodeTable t₁ i)) len (moves .formed) low may);
       older = memo-older (moves .memo);
     }
@@ -87,7 +90,8 @@ module _ {s offsets t tags : List ℕ} {numbers : List ℤ} {generation i : ℕ}
         older = still-older tags generation (ready .older);
       }
 
-  steps-by : (c : Cell) → decodeTable t i ≡ c → (U : Table) → stepCell (sheetOf s) (decodeTable t) i c ≡ U → {t₂ tags₂ : List ℕ} → Steps s generation U t₂ tags₂ → Steps s generation (stepItem (sheetOf s) (decodeTable t) i) t₂ tags₂
+  steps-by : (c : Cell) → decodeTable t i ≡ c → (U : Table) → stepCell (sheetOf s) (decodeTable t) i c ≡ U → {t₂ tags₂ : List ℕ}
+      → Steps s generation U t₂ tags₂ → Steps s generation (stepItem (sheetOf s) (decodeTable t) i) t₂ tags₂
   unfolding stepItem
   steps-by c e U q {t₂} {tags₂} steps = subst (λ X. Steps s generation X t₂ tags₂) (sym (ap (stepCell (sheetOf s) (decodeTable t) i) e ∙ q)) steps
 
@@ -125,7 +129,8 @@ module _ {s offsets t tags : List ℕ} {numbers : List ℤ} {generation i : ℕ}
           holds = holds-refresh;
         }
 
-    pub step-refresh : m ≡ Refresh → {t₂ tags₂ : List ℕ} {numbers₂ : List ℤ} → Moves s generation i (renewed i (meaning v) unmarked (workOut (sheetOf s) (decodeTable t) i)) t₂ tags₂ numbers₂
+    pub step-refresh : m ≡ Refresh → {t₂ tags₂ : List ℕ} {numbers₂ : List ℤ}
+        → Moves s generation i (renewed i (meaning v) unmarked (workOut (sheetOf s) (decodeTable t) i)) t₂ tags₂ numbers₂
         → Steps s generation (stepItem (sheetOf s) (decodeTable t) i) t₂ tags₂
     step-refresh e moves =
         steps-by (held (meaning v) refresh) (holds-held ∙ ap (λ x. held (meaning v) (markMeaning x)) e) _ refl

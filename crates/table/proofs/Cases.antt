@@ -22,12 +22,12 @@ use Rattle.circuit.specs.Table.{Mark, unmarked, refresh, notice, Cell, unk, hel
 use Rattle.value.specs.declared.Value as values
 use Rattle.value.specs.Meaning.{meaning}
 use Rattle.table.specs.declared.Mark as code
-use Rattle.table.specs.declared.Cell.{Cell as CellOfCode}
 use Rattle.table.specs.declared.Cell.the-variants.{Unk, Held}
 use Rattle.table.specs.Meaning.{markMeaning, cellMeaning}
 use Rattle.table.specs.Rows.{row, setRow}
 use Rattle.table.specs.Record.{width, kindIn, markIn, numberIn, recordOf, markCode, markCoded, cellCoded, encodeCell, decodeCell, codesForm, numberForm, recordForm}
 use Rattle.table.proofs.Rows.{getD-row}
+use Rattle.table.specs.declared.Cell.{Cell as CellOfCode}
 
 -- ---- codes
 
@@ -66,7 +66,8 @@ module _ (bs : List ℕ) (i : ℕ) where
     unfolding decodeCell
     read-decoded c e = rw (kind-read, mark-read, ← read-again) e
 
-    pub formed-read : (figure a b : Bool) → a ≡ codesForm figure (getD bs (i * width) 0) (getD bs (i * width + 1) 0) → a ≡ true → b ≡ numberForm (getD bs (i * width) 0) (toZ w64 (ofZ w64 z)) → b ≡ recordForm figure (row width bs i)
+    pub formed-read : (figure a b : Bool) → a ≡ codesForm figure (getD bs (i * width) 0) (getD bs (i * width + 1) 0) → a ≡ true
+        → b ≡ numberForm (getD bs (i * width) 0) (toZ w64 (ofZ w64 z)) → b ≡ recordForm figure (row width bs i)
     unfolding recordForm
     formed-read figure a b ea t eb = rw (kind-read, mark-read, ← read-again, ← ea, t) eb
 
@@ -123,7 +124,8 @@ number-zero k z fits a = rw (ne-eqb k 3 a) (zero-bits z fits)
 
 -- ---- storing
 
-pub record-stored : (s : List ℕ) (at k m : ℕ) (z : ℤ) (t : List ℕ) → SFits w64 z → t ≡ sets (set (set s at k) (at + 1) m) (at + 2) (bytes64 (toZ w64 (ofZ w64 z))) → t ≡ sets s at (recordOf k m z)
+pub record-stored : (s : List ℕ) (at k m : ℕ) (z : ℤ) (t : List ℕ) → SFits w64 z
+    → t ≡ sets (set (set s at k) (at + 1) m) (at + 2) (bytes64 (toZ w64 (ofZ w64 z))) → t ≡ sets s at (recordOf k m z)
 record-stored s at k m z t fits e = e ∙ rw (toZ-ofZ w64 z fits) (simp towards-suc)
 
 module _ (s : List ℕ) (i : ℕ) (t : List ℕ) (cell : CellOfCode) where
@@ -138,7 +140,9 @@ module _ (s : List ℕ) (i : ℕ) (t : List ℕ) (cell : CellOfCode) where
   unfolding encodeCell
   unk-unmarked b ec eb e = stored (recordOf 0 0 (pos 0)) (rw (ec, eb)) e
 
-  pub held-stored : (v : values.Value) (n : code.Mark) (k m : ℕ) (z : ℤ) → cell ≡ Held v n → k ≡ kindOf (meaning v) → m ≡ markCode (markMeaning n) → z ≡ numberOf (meaning v) → SFits w64 z → t ≡ sets s (i * width) (recordOf k m (toZ w64 (ofZ w64 z))) → t ≡ setRow width s i (encodeCell (cellMeaning cell))
+  pub held-stored : (v : values.Value) (n : code.Mark) (k m : ℕ) (z : ℤ) → cell ≡ Held v n → k ≡ kindOf (meaning v) → m ≡ markCode (markMeaning n)
+      → z ≡ numberOf (meaning v) → SFits w64 z → t ≡ sets s (i * width) (recordOf k m (toZ w64 (ofZ w64 z)))
+      → t ≡ setRow width s i (encodeCell (cellMeaning cell))
   unfolding encodeCell
   held-stored v n k m z ec ek em ez fits e =
       stored (recordOf k m z) (rw (ec, ek, em, ez)) (rw (toZ-ofZ w64 z fits) at e)

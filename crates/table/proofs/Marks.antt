@@ -64,7 +64,8 @@ module _ (bs : List ℕ) (i : ℕ) where
 
   pub unmarked-read : (getD bs (i * width + 1) 0 ≡ 1 → ⊥) → (getD bs (i * width + 1) 0 ≡ 2 → ⊥) → false ≡ isMarked (decodeCell (row width bs i))
   unfolding decodeCell
-  unmarked-read n₁ n₂ = unmarked-coded (kindIn (row width bs i)) (markIn (row width bs i)) (numberIn (row width bs i)) (λ e. n₁ (sym (mark-read bs i) ∙ e)) (λ e. n₂ (sym (mark-read bs i) ∙ e))
+  unmarked-read n₁ n₂ =
+      unmarked-coded (kindIn (row width bs i)) (markIn (row width bs i)) (numberIn (row width bs i)) (λ e. n₁ (sym (mark-read bs i) ∙ e)) (λ e. n₂ (sym (mark-read bs i) ∙ e))
 
 -- the search for the lowest marked item
 pub record Searched (T : Table) (n k : ℕ) : Type 0 where

@@ -112,7 +112,8 @@ encode-upd S T i c h =
         go true = refl
         go false = refl
 
-pub decode-setRow : (bs : List ℕ) (i : ℕ) (c : Cell) → width * i + width ≤ length bs → wellFormed (valueIn c) ≡ true → decodeTable (setRow width bs i (encodeCell c)) ≡ upd (decodeTable bs) i c
+pub decode-setRow : (bs : List ℕ) (i : ℕ) (c : Cell) → width * i + width ≤ length bs → wellFormed (valueIn c) ≡ true
+    → decodeTable (setRow width bs i (encodeCell c)) ≡ upd (decodeTable bs) i c
 decode-setRow bs i c fits w = fun-ext each
   where
     each : (j : ℕ) → decodeTable (setRow width bs i (encodeCell c)) j ≡ upd (decodeTable bs) i c j
@@ -123,7 +124,8 @@ decode-setRow bs i c fits w = fun-ext each
         go false t = rw (row-setRow-other width bs i j (encodeCell c) (length-encodeCell c) (eqb-false j i t))
 
 -- a stored cell that the item may hold keeps the form
-pub setRow-form : (S : Sheet) (bs : List ℕ) (i : ℕ) (c : Cell) → length bs ≡ tableLength S → tableForm S bs ≡ true → i < size S → mayHold (isFigure (itemAt S i)) c ≡ true → tableForm S (setRow width bs i (encodeCell c)) ≡ true
+pub setRow-form : (S : Sheet) (bs : List ℕ) (i : ℕ) (c : Cell) → length bs ≡ tableLength S → tableForm S bs ≡ true → i < size S
+    → mayHold (isFigure (itemAt S i)) c ≡ true → tableForm S (setRow width bs i (encodeCell c)) ≡ true
 unfolding tableForm
 setRow-form S bs i c e t h holds = true-below (recordInForm S (setRow width bs i (encodeCell c))) (size S) each
   where

@@ -4,7 +4,6 @@ ghost use Prim.Native.Nat.{_+_, _*_, _≤_};
 ghost use lib.ListN.{length};
 ghost use lib.Seq.{sets};
 ghost use Rattle.circuit.specs.Table.{markOf, isMarked, isNotice};
-ghost use Rattle.value.specs.Meaning.{meaning};
 ghost use Rattle.table.specs.Rows.{row, setRow};
 ghost use Rattle.table.specs.Record.{width, recordOf, markCode, markCoded, cellCoded, encodeCell, decodeCell, codesForm, numberForm, recordForm};
 ghost use Rattle.table.specs.Bytes.{decodeTable, LowestMarked};

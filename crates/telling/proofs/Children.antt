@@ -127,7 +127,8 @@ module _ {s offsets t₀ tags₀ : List ℕ} {numbers₀ : List ℤ} {generation
         where
           told : tellChild (sheetOf s) (decodeTable t) (edge / maxParents) ≡ tellBelow (sheetOf s) i (decodeTable t₀) (edge / maxParents + 1)
           told =
-              ap (λ T. tellChild (sheetOf s) T (edge / maxParents)) (inv .moves .table-is ∙ sym (tell-over (sheetOf s) i (decodeTable t₀) (inv .from) (edge / maxParents) (next .from) (next .none-before)))
+              ap (λ T. tellChild (sheetOf s) T (edge / maxParents))
+              (inv .moves .table-is ∙ sym (tell-over (sheetOf s) i (decodeTable t₀) (inv .from) (edge / maxParents) (next .from) (next .none-before)))
               ∙ ap (λ x. tellIf x (sheetOf s) (tellBelow (sheetOf s) i (decodeTable t₀) (edge / maxParents)) (edge / maxParents)) (sym child-is)
               ∙ ap (tellBelow (sheetOf s) i (decodeTable t₀)) (sym (add-one (edge / maxParents)))
 

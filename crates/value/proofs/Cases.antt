@@ -35,7 +35,8 @@ exact-out z t f e h = rw (sym (rw (back z f) at e) ∙ h)
 
 -- ---- equal values
 
-pub same-numbers : (a b : Value) (x y : ℤ) → a .amount ≡ Number x → b .amount ≡ Number y → SFits w64 x → SFits w64 y → eqb (ofZ w64 x) (ofZ w64 y) ≡ circuit.same (meaning a) (meaning b)
+pub same-numbers : (a b : Value) (x y : ℤ) → a .amount ≡ Number x → b .amount ≡ Number y → SFits w64 x → SFits w64 y
+    → eqb (ofZ w64 x) (ofZ w64 y) ≡ circuit.same (meaning a) (meaning b)
 same-numbers a b x y p q f g = rw (p, q) (same-bits x y f g)
 
 -- ---- a kind and a number
@@ -55,7 +56,8 @@ pub zero-no : (z : ℤ) → SFits w64 z → (ofZ w64 z ≡ 0 → ⊥) → circui
 zero-no (pos n) f e = ne-eqb n 0 e
 zero-no (negsuc n) f e = refl
 
-pub parts-number : (k : ℕ) (z : ℤ) → SFits w64 z → (t : Bool) (r : circuit.Value) → k ≡ 3 → t ≡ circuit.inRange (read z) → t ≡ true → r ≡ circuit.num (read z) → some r ≡ circuit.partsOf k z
+pub parts-number : (k : ℕ) (z : ℤ) → SFits w64 z → (t : Bool) (r : circuit.Value) → k ≡ 3 → t ≡ circuit.inRange (read z) → t ≡ true
+    → r ≡ circuit.num (read z) → some r ≡ circuit.partsOf k z
 unfolding circuit.partsOf
 parts-number k z f t r ek et h er = rw (ek, sym (rw (back z f) at et) ∙ h, er, back z f)
 

@@ -15,18 +15,25 @@ use Rattle.field.specs.Bytes.{Bytes}
 use Rattle.word.specs.Word.{leAt, leBytes, le64At, bytes64}
 
 -- eight bytes, each times its power
-pub le8 : (s : List ℕ) (at : ℕ) → getD s at 0 + getD s (at + 1) 0 * 0x100 + getD s (at + 2) 0 * 0x1_0000 + getD s (at + 3) 0 * 0x100_0000 + getD s (at + 4) 0 * 0x1_0000_0000 + getD s (at + 5) 0 * 0x100_0000_0000 + getD s (at + 6) 0 * 0x1_0000_0000_0000 + getD s (at + 7) 0 * 0x100_0000_0000_0000 ≡ leAt 8 s at
+pub le8 : (s : List ℕ) (at : ℕ)
+    → getD s at 0 + getD s (at + 1) 0 * 0x100 + getD s (at + 2) 0 * 0x1_0000 + getD s (at + 3) 0 * 0x100_0000 + getD s (at + 4) 0 * 0x1_0000_0000 + getD s (at + 5) 0 * 0x100_0000_0000 + getD s (at + 6) 0 * 0x1_0000_0000_0000 + getD s (at + 7) 0 * 0x100_0000_0000_0000 ≡ leAt 8 s at
 unfolding leAt
 le8 s at = simp (add-assoc at) (omega arith)
 
-pub joined8 : (s : List ℕ) (at : ℕ) {a b c d e f g h : ℕ} → a ≡ getD s at 0 → b ≡ getD s (at + 1) 0 → c ≡ getD s (at + 2) 0 → d ≡ getD s (at + 3) 0 → e ≡ getD s (at + 4) 0 → f ≡ getD s (at + 5) 0 → g ≡ getD s (at + 6) 0 → h ≡ getD s (at + 7) 0 → a + b * 0x100 + c * 0x1_0000 + d * 0x100_0000 + e * 0x1_0000_0000 + f * 0x100_0000_0000 + g * 0x1_0000_0000_0000 + h * 0x100_0000_0000_0000 ≡ leAt 8 s at
+pub joined8 : (s : List ℕ) (at : ℕ) {a b c d e f g h : ℕ} → a ≡ getD s at 0 → b ≡ getD s (at + 1) 0 → c ≡ getD s (at + 2) 0 → d ≡ getD s (at + 3) 0
+    → e ≡ getD s (at + 4) 0 → f ≡ getD s (at + 5) 0 → g ≡ getD s (at + 6) 0 → h ≡ getD s (at + 7) 0
+    → a + b * 0x100 + c * 0x1_0000 + d * 0x100_0000 + e * 0x1_0000_0000 + f * 0x100_0000_0000 + g * 0x1_0000_0000_0000 + h * 0x100_0000_0000_0000 ≡ leAt 8 s at
 joined8 s at p q r t u v w z = rw (p, q, r, t, u, v, w, z) (le8 s at)
 
 -- eight stores, one after the other
-pub stored8 : (s : List ℕ) (at a b c d e f g h : ℕ) → set (set (set (set (set (set (set (set s at a) (at + 1) b) (at + 2) c) (at + 3) d) (at + 4) e) (at + 5) f) (at + 6) g) (at + 7) h ≡ sets s at (a ∷ b ∷ c ∷ d ∷ e ∷ f ∷ g ∷ h ∷ [])
+pub stored8 : (s : List ℕ) (at a b c d e f g h : ℕ)
+    → set (set (set (set (set (set (set (set s at a) (at + 1) b) (at + 2) c) (at + 3) d) (at + 4) e) (at + 5) f) (at + 6) g) (at + 7) h ≡ sets s at (a ∷ b ∷ c ∷ d ∷ e ∷ f ∷ g ∷ h ∷ [])
 stored8 s at a b c d e f g h = simp towards-suc
 
-pub stored64 : (s : List ℕ) (at x : ℕ) {a b c d e f g h : ℕ} → a ≡ x % 256 → b ≡ x / 256 % 256 → c ≡ x / 256 / 256 % 256 → d ≡ x / 256 / 256 / 256 % 256 → e ≡ x / 256 / 256 / 256 / 256 % 256 → f ≡ x / 256 / 256 / 256 / 256 / 256 % 256 → g ≡ x / 256 / 256 / 256 / 256 / 256 / 256 % 256 → h ≡ x / 256 / 256 / 256 / 256 / 256 / 256 / 256 % 256 → set (set (set (set (set (set (set (set s at a) (at + 1) b) (at + 2) c) (at + 3) d) (at + 4) e) (at + 5) f) (at + 6) g) (at + 7) h ≡ sets s at (leBytes 8 x)
+pub stored64 : (s : List ℕ) (at x : ℕ) {a b c d e f g h : ℕ} → a ≡ x % 256 → b ≡ x / 256 % 256 → c ≡ x / 256 / 256 % 256
+    → d ≡ x / 256 / 256 / 256 % 256 → e ≡ x / 256 / 256 / 256 / 256 % 256 → f ≡ x / 256 / 256 / 256 / 256 / 256 % 256
+    → g ≡ x / 256 / 256 / 256 / 256 / 256 / 256 % 256 → h ≡ x / 256 / 256 / 256 / 256 / 256 / 256 / 256 % 256
+    → set (set (set (set (set (set (set (set s at a) (at + 1) b) (at + 2) c) (at + 3) d) (at + 4) e) (at + 5) f) (at + 6) g) (at + 7) h ≡ sets s at (leBytes 8 x)
 unfolding leBytes
 stored64 s at x {a} {b} {c} {d} {e} {f} {g} {h} p q r t u v w z =
     let bytes : _≡_ {A = List ℕ} (a ∷ b ∷ c ∷ d ∷ e ∷ f ∷ g ∷ h ∷ []) (leBytes 8 x) = cc in

@@ -23,7 +23,9 @@ returns-2 c =
     let p = c .before .before .before .before .before .before .before .pre in
     let i = c .before .before .is-figure in
     let low = c .before .before .before .before .if1 .left in
-    cause-within (sheetOf (a .sheet .now)) (a .n) (a .item) (a .figures) (p .count-is) (i .result) true true low (i .ensures ∙ ap Rattle.circuit.specs.Sheet.isFigure (located-item (a .sheet .now) (a .offsets .now) (p .located) (a .item) (omega (arith, p .count-is, low)))) (c .before .if2 .taken) (c .if3 .taken)
+    cause-within (sheetOf (a .sheet .now)) (a .n) (a .item) (a .figures) (p .count-is) (i .result) true true low
+    (i .ensures ∙ ap Rattle.circuit.specs.Sheet.isFigure (located-item (a .sheet .now) (a .offsets .now) (p .located) (a .item) (omega (arith, p .count-is, low))))
+    (c .before .if2 .taken) (c .if3 .taken)
 
 returns-3 : tie.Need-returns-3
 returns-3 c =
@@ -31,7 +33,9 @@ returns-3 c =
     let p = c .before .before .before .before .before .before .before .pre in
     let i = c .before .before .is-figure in
     let low = c .before .before .before .before .if1 .left in
-    cause-within (sheetOf (a .sheet .now)) (a .n) (a .item) (a .figures) (p .count-is) (i .result) true false low (i .ensures ∙ ap Rattle.circuit.specs.Sheet.isFigure (located-item (a .sheet .now) (a .offsets .now) (p .located) (a .item) (omega (arith, p .count-is, low)))) (c .before .if2 .taken) (c .if3 .left)
+    cause-within (sheetOf (a .sheet .now)) (a .n) (a .item) (a .figures) (p .count-is) (i .result) true false low
+    (i .ensures ∙ ap Rattle.circuit.specs.Sheet.isFigure (located-item (a .sheet .now) (a .offsets .now) (p .located) (a .item) (omega (arith, p .count-is, low))))
+    (c .before .if2 .taken) (c .if3 .left)
 
 returns-4 : tie.Need-returns-4
 returns-4 c =
@@ -39,7 +43,9 @@ returns-4 c =
     let p = c .before .before .before .before .before .before .before .pre in
     let i = c .before .before .is-figure in
     let low = c .before .before .before .before .if1 .left in
-    cause-within (sheetOf (a .sheet .now)) (a .n) (a .item) (a .figures) (p .count-is) (i .result) false true low (i .ensures ∙ ap Rattle.circuit.specs.Sheet.isFigure (located-item (a .sheet .now) (a .offsets .now) (p .located) (a .item) (omega (arith, p .count-is, low)))) (c .before .if2 .left) (c .if4 .taken)
+    cause-within (sheetOf (a .sheet .now)) (a .n) (a .item) (a .figures) (p .count-is) (i .result) false true low
+    (i .ensures ∙ ap Rattle.circuit.specs.Sheet.isFigure (located-item (a .sheet .now) (a .offsets .now) (p .located) (a .item) (omega (arith, p .count-is, low))))
+    (c .before .if2 .left) (c .if4 .taken)
 
 returns-5 : tie.Need-returns-5
 returns-5 c =
@@ -47,7 +53,9 @@ returns-5 c =
     let p = c .before .before .before .before .before .before .before .pre in
     let i = c .before .before .is-figure in
     let low = c .before .before .before .before .if1 .left in
-    cause-within (sheetOf (a .sheet .now)) (a .n) (a .item) (a .figures) (p .count-is) (i .result) false false low (i .ensures ∙ ap Rattle.circuit.specs.Sheet.isFigure (located-item (a .sheet .now) (a .offsets .now) (p .located) (a .item) (omega (arith, p .count-is, low)))) (c .before .if2 .left) (c .if4 .left)
+    cause-within (sheetOf (a .sheet .now)) (a .n) (a .item) (a .figures) (p .count-is) (i .result) false false low
+    (i .ensures ∙ ap Rattle.circuit.specs.Sheet.isFigure (located-item (a .sheet .now) (a .offsets .now) (p .located) (a .item) (omega (arith, p .count-is, low))))
+    (c .before .if2 .left) (c .if4 .left)
 
 pub item-cause-spec : {M : Type 1} → statement M
 item-cause-spec =

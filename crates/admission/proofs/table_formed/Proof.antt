@@ -42,7 +42,9 @@ returns c =
     let a = c .before .before .before .before .before .before .before .before .before .args in
     let p = c .before .before .before .before .before .before .before .before .before .pre .0 in
     let l = c .before .before .before .before .before .loop in
-    unformed-record (a .sheet .now) (a .offsets .now) (a .table .now) (p .located) (l .k) (omega (arith, p .count-is, c .before .before .before .before .loop-test .taken)) (c .before .before .is-figure .result) (c .before .record-formed .result) (c .before .before .is-figure .ensures) (c .before .record-formed .ensures) (not-true _ (c .if1 .taken))
+    unformed-record (a .sheet .now) (a .offsets .now) (a .table .now) (p .located) (l .k)
+    (omega (arith, p .count-is, c .before .before .before .before .loop-test .taken)) (c .before .before .is-figure .result) (c .before .record-formed .result)
+    (c .before .before .is-figure .ensures) (c .before .record-formed .ensures) (not-true _ (c .if1 .taken))
 
 add-k : tie.Need-add-k Inv-loop μ-loop
 add-k c = search needs

@@ -18,7 +18,8 @@ returns-2 c =
     let a = c .before .before .before .before .before .before .before .before .before .args in
     let p = c .before .before .before .before .before .before .before .before .before .pre in
     let u = c .before .before .before .caught-up in
-    ask-done (p .1) x (a .n) (a .item) (p .0 .count-is) (c .read-value .result) (c .before .before .before .before .before .if1 .left) _ _ (λ j. c .before .slice-known2 .given j .fits) (u .kept .1 .1 .0) (u .ensures) (c .read-value .ensures)
+    ask-done (p .1) x (a .n) (a .item) (p .0 .count-is) (c .read-value .result) (c .before .before .before .before .before .if1 .left) _ _
+    (λ j. c .before .slice-known2 .given j .fits) (u .kept .1 .1 .0) (u .ensures) (c .read-value .ensures)
 
 pub ask-lent-spec : {M : Type 1} → statement M
 ask-lent-spec =

@@ -31,7 +31,9 @@ look-up-requires c κs =
 returns : tie.Need-returns
 returns c =
     let a = c .before .before .before .before .before .before .before .before .before .before .before .before .before .before .before .before .before .before .before .before .args in
-    caught-looked (a .sheet .now) _ (c .before .before .before .before .before .before .before .before .before .before .before .before .before .catch-up .ensures .table-is) (a .i) (c .before .before .before .before .before .look-up .ensures (a .i + 1) (omega arith))
+    caught-looked (a .sheet .now) _
+    (c .before .before .before .before .before .before .before .before .before .before .before .before .before .catch-up .ensures .table-is) (a .i)
+    (c .before .before .before .before .before .look-up .ensures (a .i + 1) (omega arith))
 
 pub caught-up-spec : {M : Type 1} → statement M
 caught-up-spec =

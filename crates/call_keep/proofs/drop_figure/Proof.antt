@@ -21,7 +21,12 @@ returns c =
     let b = c .before .before in
     let m = b .before .before .before .before in
     let a = m .before .before .before .before .before .before .before .args in
-    rw (refuses (a .sheet .now) (a .index .now) (a .table .now) (drop (a .item)) (m .admit .ensures .0) (b .number .given .1)) (record { number-is = c .give .ensures .0; offset-is = c .give .ensures .1; table-is = refl })
+    rw (refuses (a .sheet .now) (a .index .now) (a .table .now) (drop (a .item)) (m .admit .ensures .0) (b .number .given .1)) (record {
+      number-is =
+          c .give .ensures .0;
+      offset-is = c .give .ensures .1;
+      table-is = refl;
+    })
 
 returns-2 : tie.Need-returns-2
 unfolding mostItems itemLimit

@@ -35,7 +35,11 @@ returns-2 c =
     let a = c .before .before .before .before .before .before .before .before .before .before .before .before .before .args in
     let p = c .before .before .before .before .before .before .before .before .before .before .before .before .before .pre in
     let i = c .before .before .before .before .before .before .before .before .before .item-cause in
-    drop-stored (p .1) x (a .item) (i .result) (i .ensures) (c .give2 .result) (c .give2 .ensures .1) (slice-bytes (a .table .now) (c .before .before .before .before .before .before .before .before .before .before .slice-known .given)) (c .before .before .before .before .before .before .before .before .if1 .left) _ _ (c .before .before .before .before .before .dropped-cell .ensures ∙ ap Rattle.circuit.specs.Machine.dropCell (c .before .before .before .before .before .before .read-cell .ensures)) (c .before .before .before .store-cell .ensures) (c .give2 .ensures .0)
+    drop-stored (p .1) x (a .item) (i .result) (i .ensures) (c .give2 .result) (c .give2 .ensures .1)
+    (slice-bytes (a .table .now) (c .before .before .before .before .before .before .before .before .before .before .slice-known .given))
+    (c .before .before .before .before .before .before .before .before .if1 .left) _ _
+    (c .before .before .before .before .before .dropped-cell .ensures ∙ ap Rattle.circuit.specs.Machine.dropCell (c .before .before .before .before .before .before .read-cell .ensures))
+    (c .before .before .before .store-cell .ensures) (c .give2 .ensures .0)
 
 pub drop-lent-spec : {M : Type 1} → statement M
 drop-lent-spec =

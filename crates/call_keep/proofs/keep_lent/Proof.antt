@@ -26,7 +26,9 @@ returns-2 c =
     let a = c .before .before .before .before .before .before .before .before .before .before .args in
     let p = c .before .before .before .before .before .before .before .before .before .before .pre in
     let i = c .before .before .before .before .before .before .item-cause in
-    keep-done (p .1) x (a .item) (i .result) (i .ensures) (c .give2 .result) (c .give2 .ensures .1) (c .before .before .before .before .before .if1 .left) _ (λ j. c .before .slice-known2 .given j .fits) (c .before .before .before .keep-cell .kept .1 .1 .0) (c .before .before .before .keep-cell .ensures) (c .give2 .ensures .0)
+    keep-done (p .1) x (a .item) (i .result) (i .ensures) (c .give2 .result) (c .give2 .ensures .1) (c .before .before .before .before .before .if1 .left) _
+    (λ j. c .before .slice-known2 .given j .fits) (c .before .before .before .keep-cell .kept .1 .1 .0) (c .before .before .before .keep-cell .ensures)
+    (c .give2 .ensures .0)
 
 pub keep-lent-spec : {M : Type 1} → statement M
 keep-lent-spec =

@@ -41,7 +41,9 @@ returns-2 c =
     let m = c .before .before .before .before .before .before .before .before .before .before .before .before .before .before .before .before .measure in
     let w = c .before .before .before .before .before .before .before .before .before .before .before .before .n .given in
     let e = sym (w .1) ∙ m .ensures .0 in
-    opened-written (a .filled) (a .sheet .now) (a .index .now) (a .table .now) _ _ _ (w .0 .0) e (m .ensures .1 .located) (c .before .before .before .before .before .before .before .before .write-index .ensures) (c .before .before .before .write-table .ensures) (c .give2 .result) (c .give2 .ensures .0) (c .give2 .ensures .1)
+    opened-written (a .filled) (a .sheet .now) (a .index .now) (a .table .now) _ _ _ (w .0 .0) e (m .ensures .1 .located)
+    (c .before .before .before .before .before .before .before .before .write-index .ensures) (c .before .before .before .write-table .ensures) (c .give2 .result)
+    (c .give2 .ensures .0) (c .give2 .ensures .1)
 
 pub open-by-spec : {M : Type 1} → statement M
 unfolding mostItems itemLimit

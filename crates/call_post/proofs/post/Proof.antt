@@ -22,7 +22,12 @@ returns c =
     let b = c .before .before in
     let m = b .before .before .before .before in
     let a = m .before .before .before .before .before .before .before .args in
-    rw (refuses (a .sheet .now) (a .index .now) (a .table .now) (post (a .item) (a .kind) (a .number)) (m .admit .ensures .0) (b .number .given .1)) (record { number-is = c .give .ensures .0; offset-is = c .give .ensures .1; table-is = refl })
+    rw (refuses (a .sheet .now) (a .index .now) (a .table .now) (post (a .item) (a .kind) (a .number)) (m .admit .ensures .0) (b .number .given .1)) (record {
+      number-is =
+          c .give .ensures .0;
+      offset-is = c .give .ensures .1;
+      table-is = refl;
+    })
 
 returns-2 : tie.Need-returns-2
 unfolding mostItems itemLimit
@@ -31,7 +36,8 @@ returns-2 c =
     let m = b .before .before .before .before in
     let a = m .before .before .before .before .before .before .before .args in
     let g = admits (a .sheet .now) (a .index .now) (a .table .now) _ (m .admit .ensures .0) (b .n .given .1) (m .admit .ensures .1 .located) (omega (arith, m .admit .kept .1 .1 .1 .0)) in
-    rw (g .call (post (a .item) (a .kind) (a .number))) (rw (back (a .number) (m .before .before .before .before .before .before .before .fits .number)) at (c .before .before .post-lent .ensures (a .index .now)))
+    rw (g .call (post (a .item) (a .kind) (a .number)))
+    (rw (back (a .number) (m .before .before .before .before .before .before .before .fits .number)) at (c .before .before .post-lent .ensures (a .index .now)))
 
 pub post-spec : {M : Type 1} → statement M
 unfolding mostItems itemLimit

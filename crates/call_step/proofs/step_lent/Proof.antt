@@ -26,7 +26,8 @@ returns-2 c =
     let p = c .before .before .before .before .before .before .before .before .before .before .before .pre in
     let m = c .before .before .before .before .before .before .mark-cause in
     let d = c .before .before .before .step-once in
-    step-done (p .1) x (a .n) (a .item) (m .result) (p .0 .count-is) (m .ensures) (c .give2 .result) (c .give2 .ensures .1) (c .before .before .before .before .before .if1 .left) _ (λ j. c .before .slice-known2 .given j .fits) (d .kept .1 .1 .0) (d .ensures) (c .give2 .ensures .0)
+    step-done (p .1) x (a .n) (a .item) (m .result) (p .0 .count-is) (m .ensures) (c .give2 .result) (c .give2 .ensures .1)
+    (c .before .before .before .before .before .if1 .left) _ (λ j. c .before .slice-known2 .given j .fits) (d .kept .1 .1 .0) (d .ensures) (c .give2 .ensures .0)
 
 pub step-lent-spec : {M : Type 1} → statement M
 step-lent-spec =

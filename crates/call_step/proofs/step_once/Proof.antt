@@ -14,7 +14,8 @@ refresh-once-requires c κs =
 returns : tie.Need-returns
 returns c =
     let a = c .before .before .before .before .before .before .before .before .before .before .args in
-    left-noticed (a .sheet .now) (a .table .now) (a .i) _ (c .before .before .before .before .before .is-noticed .ensures) (c .before .before .before .before .if1 .taken) _ (c .before .before .notice-once .ensures)
+    left-noticed (a .sheet .now) (a .table .now) (a .i) _ (c .before .before .before .before .before .is-noticed .ensures) (c .before .before .before .before .if1 .taken)
+    _ (c .before .before .notice-once .ensures)
 
 returns-2 : tie.Need-returns-2
 returns-2 c =

@@ -69,7 +69,9 @@ unfolding maxParents
 loop-again c =
     let a = c .before .before .before .before .before .before .before .before .before .before .before .before .before .before .before .before in
     let l = c .before .before .before .before .before .before .before .before .before .before .before .loop in
-    built-next (a .args .s .now) (a .args .offsets .now) (a .pre .0) (a .pre .1 .0) (l .inv .within) (c .before .before .before .before .before .before .before .before .before .before .loop-test .taken) (a .args .heads .now) (a .args .links .now) (l .heads) (l .links) _ _ (l .inv) (c .before .before .before .before .before .before .link-places .ensures) (c .before .before .head-places .ensures)
+    built-next (a .args .s .now) (a .args .offsets .now) (a .pre .0) (a .pre .1 .0) (l .inv .within)
+    (c .before .before .before .before .before .before .before .before .before .before .loop-test .taken) (a .args .heads .now) (a .args .links .now) (l .heads)
+    (l .links) _ _ (l .inv) (c .before .before .before .before .before .before .link-places .ensures) (c .before .before .head-places .ensures)
 
 same-length : tie.Need-same-length Inv-loop μ-loop
 same-length c =

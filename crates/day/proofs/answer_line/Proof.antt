@@ -7,25 +7,10 @@ use borrow.Author.Needs.{needs}
 use Rattle.day.proofs.answer_line.Statement.{statement}
 use Rattle.day.proofs.answer_line.Tie as tie
 
-slice-aggregate-append : tie.Need-slice-aggregate-append
-slice-aggregate-append c = search needs
-
-append-requires : tie.Need-append-requires
-append-requires c κs = search needs
-
-same-length : tie.Need-same-length
-same-length c = search needs
-
 returns : tie.Need-returns
 returns c =
     let call = c .before .before in
     appended-as (ap answerLine (sym (call .before .before .before .if1 .taken))) (call .append .ensures)
-
-no-line-requires : tie.Need-no-line-requires
-no-line-requires c κs = search needs
-
-same-length-2 : tie.Need-same-length-2
-same-length-2 c = search needs
 
 returns-2 : tie.Need-returns-2
 returns-2 c =
@@ -36,10 +21,10 @@ pub answer-line-spec : {M : Type 1} → statement M
 answer-line-spec =
     tie.close
     (tie.spec
-    slice-aggregate-append
-    append-requires
-    same-length
+    (λ c. search needs)
+    (λ c κs. search needs)
+    (λ c. search needs)
     returns
-    no-line-requires
-    same-length-2
+    (λ c κs. search needs)
+    (λ c. search needs)
     returns-2)

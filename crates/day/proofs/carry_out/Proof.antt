@@ -9,57 +9,6 @@ use borrow.Author.Needs.{needs}
 use Rattle.day.proofs.carry_out.Statement.{statement}
 use Rattle.day.proofs.carry_out.Tie as tie
 
-enum-known-order : tie.Need-enum-known-order
-enum-known-order c = search needs
-
-post-requires : tie.Need-post-requires
-post-requires c κs = search needs
-
-answer-line-requires : tie.Need-answer-line-requires
-answer-line-requires c κs = search needs
-
-enum-known-order-2 : tie.Need-enum-known-order-2
-enum-known-order-2 c = search needs
-
-keep-requires : tie.Need-keep-requires
-keep-requires c κs = search needs
-
-answer-line-requires-2 : tie.Need-answer-line-requires-2
-answer-line-requires-2 c κs = search needs
-
-enum-known-order-3 : tie.Need-enum-known-order-3
-enum-known-order-3 c = search needs
-
-drop-figure-requires : tie.Need-drop-figure-requires
-drop-figure-requires c κs = search needs
-
-answer-line-requires-3 : tie.Need-answer-line-requires-3
-answer-line-requires-3 c κs = search needs
-
-enum-known-order-4 : tie.Need-enum-known-order-4
-enum-known-order-4 c = search needs
-
-step-requires : tie.Need-step-requires
-step-requires c κs = search needs
-
-answer-line-requires-4 : tie.Need-answer-line-requires-4
-answer-line-requires-4 c κs = search needs
-
-enum-known-order-5 : tie.Need-enum-known-order-5
-enum-known-order-5 c = search needs
-
-ask-requires : tie.Need-ask-requires
-ask-requires c κs = search needs
-
-reading-line-requires : tie.Need-reading-line-requires
-reading-line-requires c κs = search needs
-
-same-length : tie.Need-same-length
-same-length c = search needs
-
-same-length-2 : tie.Need-same-length-2
-same-length-2 c = search needs
-
 returns : tie.Need-returns
 returns c =
     let line = c .before .before in
@@ -72,12 +21,6 @@ returns c =
     (call .post .ensures .table-is)
     (line .answer-line .ensures)
 
-same-length-3 : tie.Need-same-length-3
-same-length-3 c = search needs
-
-same-length-4 : tie.Need-same-length-4
-same-length-4 c = search needs
-
 returns-2 : tie.Need-returns-2
 returns-2 c =
     let line = c .before .before in
@@ -86,12 +29,6 @@ returns-2 c =
     (call .keep .ensures .number-is)
     (call .keep .ensures .table-is)
     (line .answer-line2 .ensures)
-
-same-length-5 : tie.Need-same-length-5
-same-length-5 c = search needs
-
-same-length-6 : tie.Need-same-length-6
-same-length-6 c = search needs
 
 returns-3 : tie.Need-returns-3
 returns-3 c =
@@ -102,12 +39,6 @@ returns-3 c =
     (call .drop-figure .ensures .table-is)
     (line .answer-line3 .ensures)
 
-same-length-7 : tie.Need-same-length-7
-same-length-7 c = search needs
-
-same-length-8 : tie.Need-same-length-8
-same-length-8 c = search needs
-
 returns-4 : tie.Need-returns-4
 returns-4 c =
     let line = c .before .before in
@@ -116,12 +47,6 @@ returns-4 c =
     (call .step .ensures .number-is)
     (call .step .ensures .table-is)
     (line .answer-line4 .ensures)
-
-same-length-9 : tie.Need-same-length-9
-same-length-9 c = search needs
-
-same-length-10 : tie.Need-same-length-10
-same-length-10 c = search needs
 
 returns-5 : tie.Need-returns-5
 returns-5 c =
@@ -138,33 +63,33 @@ pub carry-out-spec : {M : Type 1} → statement M
 carry-out-spec =
     tie.close
     (tie.spec
-    enum-known-order
-    post-requires
-    answer-line-requires
-    enum-known-order-2
-    keep-requires
-    answer-line-requires-2
-    enum-known-order-3
-    drop-figure-requires
-    answer-line-requires-3
-    enum-known-order-4
-    step-requires
-    answer-line-requires-4
-    enum-known-order-5
-    ask-requires
-    reading-line-requires
-    same-length
-    same-length-2
+    (λ c. search needs)
+    (λ c κs. search needs)
+    (λ c κs. search needs)
+    (λ c. search needs)
+    (λ c κs. search needs)
+    (λ c κs. search needs)
+    (λ c. search needs)
+    (λ c κs. search needs)
+    (λ c κs. search needs)
+    (λ c. search needs)
+    (λ c κs. search needs)
+    (λ c κs. search needs)
+    (λ c. search needs)
+    (λ c κs. search needs)
+    (λ c κs. search needs)
+    (λ c. search needs)
+    (λ c. search needs)
     returns
-    same-length-3
-    same-length-4
+    (λ c. search needs)
+    (λ c. search needs)
     returns-2
-    same-length-5
-    same-length-6
+    (λ c. search needs)
+    (λ c. search needs)
     returns-3
-    same-length-7
-    same-length-8
+    (λ c. search needs)
+    (λ c. search needs)
     returns-4
-    same-length-9
-    same-length-10
+    (λ c. search needs)
+    (λ c. search needs)
     returns-5)

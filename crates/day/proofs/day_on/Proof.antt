@@ -4,24 +4,6 @@ use borrow.Author.Needs.{needs}
 use Rattle.day.proofs.day_on.Statement.{statement}
 use Rattle.day.proofs.day_on.Tie as tie
 
-open-bare-requires : tie.Need-open-bare-requires
-open-bare-requires c κs = search needs
-
-slice-aggregate-last-line : tie.Need-slice-aggregate-last-line
-slice-aggregate-last-line c = search needs
-
-last-line-requires : tie.Need-last-line-requires
-last-line-requires c κs = search needs
-
-same-length : tie.Need-same-length
-same-length c = search needs
-
-same-length-2 : tie.Need-same-length-2
-same-length-2 c = search needs
-
-same-length-3 : tie.Need-same-length-3
-same-length-3 c = search needs
-
 returns : tie.Need-returns
 returns c =
     let line = c .before .before in
@@ -33,18 +15,6 @@ returns c =
     (opening .open-bare .ensures .table-is)
     (line .before .before .before .if1 .taken)
     (line .last-line .ensures)
-
-play-requires : tie.Need-play-requires
-play-requires c κs = search needs
-
-same-length-4 : tie.Need-same-length-4
-same-length-4 c = search needs
-
-same-length-5 : tie.Need-same-length-5
-same-length-5 c = search needs
-
-same-length-6 : tie.Need-same-length-6
-same-length-6 c = search needs
 
 returns-2 : tie.Need-returns-2
 returns-2 c =
@@ -61,15 +31,15 @@ pub day-on-spec : {M : Type 1} → statement M
 day-on-spec =
     tie.close
     (tie.spec
-    open-bare-requires
-    slice-aggregate-last-line
-    last-line-requires
-    same-length
-    same-length-2
-    same-length-3
+    (λ c κs. search needs)
+    (λ c. search needs)
+    (λ c κs. search needs)
+    (λ c. search needs)
+    (λ c. search needs)
+    (λ c. search needs)
     returns
-    play-requires
-    same-length-4
-    same-length-5
-    same-length-6
+    (λ c κs. search needs)
+    (λ c. search needs)
+    (λ c. search needs)
+    (λ c. search needs)
     returns-2)

@@ -12,12 +12,9 @@ returns : tie.Need-returns
 unfolding countSaid
 returns c = (rw (lt-ltb _ _ (c .if1 .taken)), omega arith)
 
-u16-at-requires : tie.Need-u16-at-requires
-u16-at-requires c κs = search needs
-
 returns-2 : tie.Need-returns-2
 unfolding countSaid
 returns-2 c = (rw (le-ltb _ _ (c .before .if1 .left)) (c .u16-at .ensures .0 ∙ sym (count-at (c .before .before .before .args .sheet .now))), omega (arith, c .u16-at .ensures .1))
 
 pub item-count-spec : {M : Type 1} → statement M
-item-count-spec = tie.close (tie.spec returns u16-at-requires returns-2)
+item-count-spec = tie.close (tie.spec returns (λ c κs. search needs) returns-2)

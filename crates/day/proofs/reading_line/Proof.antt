@@ -12,12 +12,6 @@ use borrow.Author.Needs.{needs}
 use Rattle.day.proofs.reading_line.Statement.{statement}
 use Rattle.day.proofs.reading_line.Tie as tie
 
-ask-line-requires : tie.Need-ask-line-requires
-ask-line-requires c κs = search needs
-
-same-length : tie.Need-same-length
-same-length c = search needs
-
 returns : tie.Need-returns
 returns c =
     let call = c .before .before in
@@ -27,12 +21,6 @@ returns c =
     ∙ ap (λ n. readingLine (start .args .item) n (textOf (partsOf (start .args .r .kind) (start .args .r .value)))) (sym (call .before .before .before .if1 .taken)))
     (call .ask-line .ensures)
 
-no-line-requires : tie.Need-no-line-requires
-no-line-requires c κs = search needs
-
-same-length-2 : tie.Need-same-length-2
-same-length-2 c = search needs
-
 returns-2 : tie.Need-returns-2
 returns-2 c =
     let call = c .before .before in
@@ -41,4 +29,4 @@ returns-2 c =
 pub reading-line-spec : {M : Type 1} → statement M
 reading-line-spec =
     tie.close
-    (tie.spec ask-line-requires same-length returns no-line-requires same-length-2 returns-2)
+    (tie.spec (λ c κs. search needs) (λ c. search needs) returns (λ c κs. search needs) (λ c. search needs) returns-2)

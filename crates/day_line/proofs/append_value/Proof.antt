@@ -7,18 +7,6 @@ use borrow.Author.Needs.{needs}
 use Rattle.day_line.proofs.append_value.Statement.{statement}
 use Rattle.day_line.proofs.append_value.Tie as tie
 
-slice-aggregate-print : tie.Need-slice-aggregate-print
-slice-aggregate-print c = search needs
-
-print-requires : tie.Need-print-requires
-print-requires c κs = search needs
-
-append-requires : tie.Need-append-requires
-append-requires c κs = search needs
-
-same-length : tie.Need-same-length
-same-length c = search needs
-
 returns : tie.Need-returns
 returns c =
     let call = c .before .before .before in
@@ -30,4 +18,4 @@ returns c =
 
 pub append-value-spec : {M : Type 1} → statement M
 append-value-spec =
-    tie.close (tie.spec slice-aggregate-print print-requires append-requires same-length returns)
+    tie.close (tie.spec (λ c. search needs) (λ c κs. search needs) (λ c κs. search needs) (λ c. search needs) returns)

@@ -7,26 +7,8 @@ use Rattle.day_meaning.proofs.Room.{day-shown}
 use Rattle.day_main.proofs.show_day.Statement.{statement}
 use Rattle.day_main.proofs.show_day.Tie as tie
 
-run-day-requires : tie.Need-run-day-requires
-run-day-requires c κs = search needs
-
-slice-reshare-prefix-write-all : tie.Need-slice-reshare-prefix-write-all
-slice-reshare-prefix-write-all c = search needs
-
 slice-aggregate-write-all : tie.Need-slice-aggregate-write-all
 slice-aggregate-write-all c = sym (length-take-le _ _ (slice-reshare-prefix-write-all (c .before)))
-
-write-all-requires : tie.Need-write-all-requires
-write-all-requires c κs = search needs
-
-same-length : tie.Need-same-length
-same-length c = search needs
-
-same-length-2 : tie.Need-same-length-2
-same-length-2 c = search needs
-
-same-length-3 : tie.Need-same-length-3
-same-length-3 c = search needs
 
 returns : tie.Need-returns
 returns c =
@@ -38,11 +20,11 @@ pub show-day-spec : {M : Type 1} → statement M
 show-day-spec =
     tie.close
     (tie.spec
-    run-day-requires
-    slice-reshare-prefix-write-all
+    (λ c κs. search needs)
+    (λ c. search needs)
     slice-aggregate-write-all
-    write-all-requires
-    same-length
-    same-length-2
-    same-length-3
+    (λ c κs. search needs)
+    (λ c. search needs)
+    (λ c. search needs)
+    (λ c. search needs)
     returns)

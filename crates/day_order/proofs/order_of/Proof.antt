@@ -5,17 +5,11 @@ use borrow.Author.Needs.{needs}
 use Rattle.day_order.proofs.order_of.Statement.{statement}
 use Rattle.day_order.proofs.order_of.Tie as tie
 
-post-in-requires : tie.Need-post-in-requires
-post-in-requires c κs = search needs
-
 returns : tie.Need-returns
 returns c = c .post-in .ensures ∙ sym (order-post _ _ (c .before .if1 .taken))
 
 returns-2 : tie.Need-returns-2
 returns-2 c = order-length _ _ (c .before .if1 .left) (c .if2 .taken)
-
-u16-at-requires : tie.Need-u16-at-requires
-u16-at-requires c κs = search needs
 
 returns-3 : tie.Need-returns-3
 returns-3 c = order-ask _ _ _ (c .before .before .if2 .left) (c .before .u16-at .ensures .0) (c .match .keys1)
@@ -36,10 +30,10 @@ pub order-of-spec : {M : Type 1} → statement M
 order-of-spec =
     tie.close
     (tie.spec
-    post-in-requires
+    (λ c κs. search needs)
     returns
     returns-2
-    u16-at-requires
+    (λ c κs. search needs)
     returns-3
     returns-4
     returns-5

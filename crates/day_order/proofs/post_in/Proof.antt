@@ -11,15 +11,6 @@ use Rattle.day_order.proofs.post_in.Tie as tie
 returns : tie.Need-returns
 returns c = post-length _ (c .if1 .taken)
 
-u16-at-requires : tie.Need-u16-at-requires
-u16-at-requires c κs = search needs
-
-read-i64-requires : tie.Need-read-i64-requires
-read-i64-requires c κs = search needs
-
-shared-slice-read-match : tie.Need-shared-slice-read-match
-shared-slice-read-match c = search needs
-
 returns-2 : tie.Need-returns-2
 returns-2 c =
     let read = c .before .before .before in
@@ -59,9 +50,9 @@ post-in-spec =
     tie.close
     (tie.spec
     returns
-    u16-at-requires
-    read-i64-requires
-    shared-slice-read-match
+    (λ c κs. search needs)
+    (λ c κs. search needs)
+    (λ c. search needs)
     returns-2
     returns-3
     returns-4

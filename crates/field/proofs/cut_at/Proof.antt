@@ -10,32 +10,11 @@ use Rattle.field.proofs.cut_at.Tie as tie
 returns : tie.Need-returns
 returns c = sym (cut-absent _ _ (c .if1 .taken))
 
-sub-if2 : tie.Need-sub-if2
-sub-if2 c = search needs
-
 returns-2 : tie.Need-returns-2
 returns-2 c = sym (cut-no-header _ _ (omega arith) (omega arith))
 
-add-start : tie.Need-add-start
-add-start c = search needs
-
-add-u16-at : tie.Need-add-u16-at
-add-u16-at c = search needs
-
-u16-at-requires : tie.Need-u16-at-requires
-u16-at-requires c κs = search needs
-
-sub-if3 : tie.Need-sub-if3
-sub-if3 c = search needs
-
 returns-3 : tie.Need-returns-3
 returns-3 c = sym (cut-no-content _ _ (omega arith) (omega arith))
-
-shared-slice-read-t9 : tie.Need-shared-slice-read-t9
-shared-slice-read-t9 c = search needs
-
-add-t7 : tie.Need-add-t7
-add-t7 c = search needs
 
 returns-4 : tie.Need-returns-4
 returns-4 c =
@@ -47,13 +26,13 @@ cut-at-spec =
     tie.close
     (tie.spec
     returns
-    sub-if2
+    (λ c. search needs)
     returns-2
-    add-start
-    add-u16-at
-    u16-at-requires
-    sub-if3
+    (λ c. search needs)
+    (λ c. search needs)
+    (λ c κs. search needs)
+    (λ c. search needs)
     returns-3
-    shared-slice-read-t9
-    add-t7
+    (λ c. search needs)
+    (λ c. search needs)
     returns-4)

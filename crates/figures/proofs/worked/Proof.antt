@@ -9,51 +9,6 @@ use Rattle.figures.proofs.ThreeValues.{first-kept, firstOf-formed}
 use Rattle.figures.proofs.worked.Statement.{statement}
 use Rattle.figures.proofs.worked.Tie as tie
 
-in-form-requires : tie.Need-in-form-requires
-in-form-requires c κs = search needs
-
-in-form-requires-2 : tie.Need-in-form-requires-2
-in-form-requires-2 c κs = search needs
-
-in-form-requires-3 : tie.Need-in-form-requires-3
-in-form-requires-3 c κs = search needs
-
-kind-requires : tie.Need-kind-requires
-kind-requires c κs = search needs
-
-array-write-kinds : tie.Need-array-write-kinds
-array-write-kinds c = search needs
-
-number-or-zero-requires : tie.Need-number-or-zero-requires
-number-or-zero-requires c κs = search needs
-
-array-set-from-numbers : tie.Need-array-set-from-numbers
-array-set-from-numbers c = search needs
-
-kind-requires-2 : tie.Need-kind-requires-2
-kind-requires-2 c κs = search needs
-
-array-write-kinds-2 : tie.Need-array-write-kinds-2
-array-write-kinds-2 c = search needs
-
-number-or-zero-requires-2 : tie.Need-number-or-zero-requires-2
-number-or-zero-requires-2 c κs = search needs
-
-array-set-from-numbers-2 : tie.Need-array-set-from-numbers-2
-array-set-from-numbers-2 c = search needs
-
-kind-requires-3 : tie.Need-kind-requires-3
-kind-requires-3 c κs = search needs
-
-array-write-kinds-3 : tie.Need-array-write-kinds-3
-array-write-kinds-3 c = search needs
-
-number-or-zero-requires-3 : tie.Need-number-or-zero-requires-3
-number-or-zero-requires-3 c κs = search needs
-
-array-set-from-numbers-3 : tie.Need-array-set-from-numbers-3
-array-set-from-numbers-3 c = search needs
-
 apply-requires : tie.Need-apply-requires
 apply-requires c κs =
     let third = c .before .before in
@@ -88,20 +43,20 @@ pub worked-spec : {M : Type 1} → statement M
 worked-spec =
     tie.close
     (tie.spec
-    in-form-requires
-    in-form-requires-2
-    in-form-requires-3
-    kind-requires
-    array-write-kinds
-    number-or-zero-requires
-    array-set-from-numbers
-    kind-requires-2
-    array-write-kinds-2
-    number-or-zero-requires-2
-    array-set-from-numbers-2
-    kind-requires-3
-    array-write-kinds-3
-    number-or-zero-requires-3
-    array-set-from-numbers-3
+    (λ c κs. search needs)
+    (λ c κs. search needs)
+    (λ c κs. search needs)
+    (λ c κs. search needs)
+    (λ c. search needs)
+    (λ c κs. search needs)
+    (λ c. search needs)
+    (λ c κs. search needs)
+    (λ c. search needs)
+    (λ c κs. search needs)
+    (λ c. search needs)
+    (λ c κs. search needs)
+    (λ c. search needs)
+    (λ c κs. search needs)
+    (λ c. search needs)
     apply-requires
     returns)

@@ -34,7 +34,8 @@ returns : tie.Need-returns Inv-loop μ-loop
 returns c =
     let a = c .before .before .before .before .before .before .before in
     let l = c .before .before .before .before .loop in
-    compared-other (a .args .index .now) (a .args .offsets .now) (a .args .n) (l .matched) (omega arith) (omega arith) (omega arith) (l .inv .1) (sym (not-true _ (c .if1 .taken)) ∙ c .before .is-offset .ensures)
+    compared-other (a .args .index .now) (a .args .offsets .now) (a .args .n) (l .matched) (omega arith) (omega arith) (omega arith) (l .inv .1)
+    (sym (not-true _ (c .if1 .taken)) ∙ c .before .is-offset .ensures)
 
 add-matched : tie.Need-add-matched Inv-loop μ-loop
 add-matched c = omega arith

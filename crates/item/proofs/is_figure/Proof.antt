@@ -5,13 +5,10 @@ use Rattle.item.proofs.Fields.{tag-figure}
 use Rattle.item.proofs.is_figure.Statement.{statement}
 use Rattle.item.proofs.is_figure.Tie as tie
 
-shared-slice-read-result : tie.Need-shared-slice-read-result
-shared-slice-read-result c = search needs
-
 returns : tie.Need-returns
 returns c =
     let a = c .before in
     sym (tag-figure (a .args .s .now) (a .args .at))
 
 pub is-figure-spec : {M : Type 1} → statement M
-is-figure-spec = tie.close (tie.spec shared-slice-read-result returns)
+is-figure-spec = tie.close (tie.spec (λ c. search needs) returns)

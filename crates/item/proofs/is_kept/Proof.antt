@@ -5,12 +5,6 @@ use Rattle.item.proofs.Fields.{figure-within, kept-read, kept-not}
 use Rattle.item.proofs.is_kept.Statement.{statement}
 use Rattle.item.proofs.is_kept.Tie as tie
 
-shared-slice-read-if1 : tie.Need-shared-slice-read-if1
-shared-slice-read-if1 c = search needs
-
-add-result : tie.Need-add-result
-add-result c = search needs
-
 shared-slice-read-result : tie.Need-shared-slice-read-result
 shared-slice-read-result c =
     let a = c .before .before .before in
@@ -29,4 +23,4 @@ returns-2 c =
 pub is-kept-spec : {M : Type 1} → statement M
 is-kept-spec =
     tie.close
-    (tie.spec shared-slice-read-if1 add-result shared-slice-read-result returns returns-2)
+    (tie.spec (λ c. search needs) (λ c. search needs) shared-slice-read-result returns returns-2)

@@ -8,27 +8,15 @@ use Rattle.item.proofs.Fields.{figure-tag, figure-within, operation-rea
 use Rattle.item.proofs.operation.Statement.{statement}
 use Rattle.item.proofs.operation.Tie as tie
 
-add-operation-of : tie.Need-add-operation-of
-add-operation-of c = search needs
-
 shared-slice-read-operation-of : tie.Need-shared-slice-read-operation-of
 shared-slice-read-operation-of c =
     let a = c .before .before in
     omega (arith, figure-within (a .args .s .now) (a .args .at) (a .pre .0) (figure-tag (a .args .s .now) (a .args .at) (a .pre .1)))
 
-add-wide : tie.Need-add-wide
-add-wide c = search needs
-
 shared-slice-read-wide : tie.Need-shared-slice-read-wide
 shared-slice-read-wide c =
     let a = c .before .before .before in
     omega (arith, figure-within (a .args .s .now) (a .args .at) (a .pre .0) (figure-tag (a .args .s .now) (a .args .at) (a .pre .1)))
-
-wide-requires : tie.Need-wide-requires
-wide-requires c κs = search needs
-
-operation-of-requires : tie.Need-operation-of-requires
-operation-of-requires c κs = search needs
 
 returns : tie.Need-returns
 returns c =
@@ -40,10 +28,10 @@ pub operation-spec : {M : Type 1} → statement M
 operation-spec =
     tie.close
     (tie.spec
-    add-operation-of
+    (λ c. search needs)
     shared-slice-read-operation-of
-    add-wide
+    (λ c. search needs)
     shared-slice-read-wide
-    wide-requires
-    operation-of-requires
+    (λ c κs. search needs)
+    (λ c κs. search needs)
     returns)

@@ -6,9 +6,6 @@ use Rattle.item.proofs.Fields.{figure-within, parent-tag, parent-counte
 use Rattle.item.proofs.parent.Statement.{statement}
 use Rattle.item.proofs.parent.Tie as tie
 
-add-u16-at : tie.Need-add-u16-at
-add-u16-at c = search needs
-
 mul-u16-at : tie.Need-mul-u16-at
 mul-u16-at c =
     let a = c .before in
@@ -35,7 +32,9 @@ returns c =
     let a = c .before .before in
     let f = a .pre .0 in
     let h = a .pre .1 in
-    c .u16-at .ensures .0 ∙ parent-read (a .args .s .now) (a .args .at) f (parent-tag (a .args .s .now) (a .args .at) f (a .args .k) h) (a .args .k) (parent-counted (a .args .s .now) (a .args .at) f (a .args .k) h)
+    c .u16-at .ensures .0
+    ∙ parent-read (a .args .s .now) (a .args .at) f (parent-tag (a .args .s .now) (a .args .at) f (a .args .k) h) (a .args .k)
+    (parent-counted (a .args .s .now) (a .args .at) f (a .args .k) h)
 
 pub parent-spec : {M : Type 1} → statement M
-parent-spec = tie.close (tie.spec add-u16-at mul-u16-at add-u16-at-2 u16-at-requires returns)
+parent-spec = tie.close (tie.spec (λ c. search needs) mul-u16-at add-u16-at-2 u16-at-requires returns)

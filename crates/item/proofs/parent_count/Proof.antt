@@ -5,19 +5,10 @@ use Rattle.item.proofs.Fields.{figure-within, count-read, count-not}
 use Rattle.item.proofs.parent_count.Statement.{statement}
 use Rattle.item.proofs.parent_count.Tie as tie
 
-shared-slice-read-if1 : tie.Need-shared-slice-read-if1
-shared-slice-read-if1 c = search needs
-
-add-wide : tie.Need-add-wide
-add-wide c = search needs
-
 shared-slice-read-wide : tie.Need-shared-slice-read-wide
 shared-slice-read-wide c =
     let a = c .before .before .before .before in
     omega (arith, figure-within (a .args .s .now) (a .args .at) (a .pre) (c .before .if1 .taken))
-
-wide-requires : tie.Need-wide-requires
-wide-requires c κs = search needs
 
 returns : tie.Need-returns
 returns c =
@@ -34,9 +25,9 @@ pub parent-count-spec : {M : Type 1} → statement M
 parent-count-spec =
     tie.close
     (tie.spec
-    shared-slice-read-if1
-    add-wide
+    (λ c. search needs)
+    (λ c. search needs)
     shared-slice-read-wide
-    wide-requires
+    (λ c κs. search needs)
     returns
     returns-2)

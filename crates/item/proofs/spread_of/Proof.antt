@@ -7,12 +7,6 @@ use native.Mathlib.Omega.{arith}
 use Rattle.item.proofs.spread_of.Statement.{statement}
 use Rattle.item.proofs.spread_of.Tie as tie
 
-shared-slice-read-if1 : tie.Need-shared-slice-read-if1
-shared-slice-read-if1 c = search needs
-
-add-match : tie.Need-add-match
-add-match c = search needs
-
 shared-slice-read-match : tie.Need-shared-slice-read-match
 shared-slice-read-match c =
     let a = c .before .before .before in
@@ -42,8 +36,8 @@ pub spread-of-spec : {M : Type 1} → statement M
 spread-of-spec =
     tie.close
     (tie.spec
-    shared-slice-read-if1
-    add-match
+    (λ c. search needs)
+    (λ c. search needs)
     shared-slice-read-match
     returns
     returns-2

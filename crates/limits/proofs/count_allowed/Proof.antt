@@ -5,9 +5,6 @@ use Rattle.layout.specs.Layout.{countAllowed}
 use Rattle.limits.proofs.count_allowed.Statement.{statement}
 use Rattle.limits.proofs.count_allowed.Tie as tie
 
-item-limit-requires : tie.Need-item-limit-requires
-item-limit-requires c κs = search needs
-
 returns : tie.Need-returns
 unfolding countAllowed
 returns c = simp (le-leb _ _ (c .before .if1 .taken), c .item-limit .ensures)
@@ -17,4 +14,4 @@ unfolding countAllowed
 returns-2 c = simp (lt-leb _ _ (c .if1 .left))
 
 pub count-allowed-spec : {M : Type 1} → statement M
-count-allowed-spec = tie.close (tie.spec item-limit-requires returns returns-2)
+count-allowed-spec = tie.close (tie.spec (λ c κs. search needs) returns returns-2)

@@ -5,11 +5,6 @@ use Rattle.value.proofs.Signed.{back}
 use borrow.Author.Needs.{needs}
 use Rattle.looking.proofs.gather.Statement.{statement}
 use Rattle.looking.proofs.gather.Tie as tie
-use Rattle.looking.proofs.gather.Reads as reads
-use Rattle.looking.proofs.gather.Lts as lts
-use Rattle.looking.proofs.either.Reads as either-reads
-use Rattle.value.proofs.Value.kind.Reads as kind-reads
-use Rattle.value.proofs.Value.number_or_zero.Reads as number-or-zero-reads
 
 returns : tie.Need-returns
 returns c =

@@ -2,12 +2,6 @@ use Rattle.looking.proofs.Settling.{settled-kept, settled-remembered}
 use borrow.Author.Needs.{needs}
 use Rattle.looking.proofs.settle.Statement.{statement}
 use Rattle.looking.proofs.settle.Tie as tie
-use Rattle.looking.proofs.settle.Reads as reads
-use Rattle.looking.proofs.settle.Lts as lts
-use Rattle.looking.proofs.either.Reads as either-reads
-use Rattle.looking.proofs.notice_if.Reads as notice-if-reads
-use Rattle.memo.proofs.remember.Reads as remember-reads
-use Rattle.table.proofs.store_cell.Reads as store-cell-reads
 
 returns : tie.Need-returns
 returns c =

@@ -6,30 +6,6 @@ use borrow.Author.Needs.{needs}
 use Rattle.memo.proofs.remember.Statement.{statement}
 use Rattle.memo.proofs.remember.Tie as tie
 
-tag-of-requires : tie.Need-tag-of-requires
-tag-of-requires c κs = search needs
-
-mul-tags : tie.Need-mul-tags
-mul-tags c = search needs
-
-slice-write-tags : tie.Need-slice-write-tags
-slice-write-tags c = search needs
-
-number-or-zero-requires : tie.Need-number-or-zero-requires
-number-or-zero-requires c κs = search needs
-
-mul-t8 : tie.Need-mul-t8
-mul-t8 c = search needs
-
-slice-set-from-numbers : tie.Need-slice-set-from-numbers
-slice-set-from-numbers c = search needs
-
-same-length : tie.Need-same-length
-same-length c = search needs
-
-same-length-2 : tie.Need-same-length-2
-same-length-2 c = search needs
-
 returns : tie.Need-returns
 returns c =
     let a = c .before .before .before .before .args in
@@ -39,12 +15,12 @@ pub remember-spec : {M : Type 1} → statement M
 remember-spec =
     tie.close
     (tie.spec
-    tag-of-requires
-    mul-tags
-    slice-write-tags
-    number-or-zero-requires
-    mul-t8
-    slice-set-from-numbers
-    same-length
-    same-length-2
+    (λ c κs. search needs)
+    (λ c. search needs)
+    (λ c. search needs)
+    (λ c κs. search needs)
+    (λ c. search needs)
+    (λ c. search needs)
+    (λ c. search needs)
+    (λ c. search needs)
     returns)

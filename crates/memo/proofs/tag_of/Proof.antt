@@ -5,24 +5,6 @@ use borrow.Author.Needs.{needs}
 use Rattle.memo.proofs.tag_of.Statement.{statement}
 use Rattle.memo.proofs.tag_of.Tie as tie
 
-mul-code : tie.Need-mul-code
-mul-code c = search needs
-
-kind-requires : tie.Need-kind-requires
-kind-requires c κs = search needs
-
-wide-requires : tie.Need-wide-requires
-wide-requires c κs = search needs
-
-mul-code-2 : tie.Need-mul-code-2
-mul-code-2 c = search needs
-
-add-code : tie.Need-add-code
-add-code c = search needs
-
-add-result : tie.Need-add-result
-add-result c = search needs
-
 returns : tie.Need-returns
 returns c =
     let a = c .before .before .before .before .args in
@@ -37,11 +19,11 @@ pub tag-of-spec : {M : Type 1} → statement M
 tag-of-spec =
     tie.close
     (tie.spec
-    mul-code
-    kind-requires
-    wide-requires
-    mul-code-2
-    add-code
-    add-result
+    (λ c. search needs)
+    (λ c κs. search needs)
+    (λ c κs. search needs)
+    (λ c. search needs)
+    (λ c. search needs)
+    (λ c. search needs)
     returns
     returns-2)

@@ -44,9 +44,6 @@ returns c =
     ∙ sym (neg c .size)
     ∙ ap natAbs (toZ-ofZ w64 (c .before .args .z) (c .before .fits .z))
 
-returns-2 : tie.Need-returns-2
-returns-2 c = search needs
-
 pub magnitude-spec : {M : Type 1} → statement M
 magnitude-spec =
-    tie.close (tie.spec sub-result cast-result add-result cast-result-2 returns returns-2)
+    tie.close (tie.spec sub-result cast-result add-result cast-result-2 returns (λ c. search needs))

@@ -29,21 +29,9 @@ no-part : {x z : ℤ} {a : Printed} (kind cause : ℕ) (s s′ : List ℕ) → x
 no-part {x} {z} {a} kind cause s s′ e p l =
     ap (λ k. take k s′) (sym (ap lengthOf l)) ∙ part-front kind x s a s′ p ∙ ap (λ y. partOf kind y (length s)) e
 
-print-into-requires : tie.Need-print-into-requires
-print-into-requires c κs = search needs
-
-enum-known-n : tie.Need-enum-known-n
-enum-known-n c = search needs
-
 slice-aggregate-result : tie.Need-slice-aggregate-result
 slice-aggregate-result c =
     count _ _ _ _ (c .before .before .before .before .before .before .print-into .ensures) (c .before .before .n .given .1)
-
-enum-told : tie.Need-enum-told
-enum-told c = search needs
-
-slice-aggregate-result-2 : tie.Need-slice-aggregate-result-2
-slice-aggregate-result-2 c = search needs
 
 returns : tie.Need-returns
 returns c =
@@ -65,10 +53,10 @@ pub print-spec : {M : Type 1} → statement M
 print-spec =
     tie.close
     (tie.spec
-    print-into-requires
-    enum-known-n
+    (λ c κs. search needs)
+    (λ c. search needs)
     slice-aggregate-result
-    enum-told
-    slice-aggregate-result-2
+    (λ c. search needs)
+    (λ c. search needs)
     returns
     returns-2)

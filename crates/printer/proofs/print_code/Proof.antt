@@ -12,20 +12,11 @@ use borrow.Author.Needs.{needs}
 use Rattle.printer.proofs.print_code.Statement.{statement}
 use Rattle.printer.proofs.print_code.Tie as tie
 
-print-into-requires : tie.Need-print-into-requires
-print-into-requires c κs = search needs
-
-enum-known-n : tie.Need-enum-known-n
-enum-known-n c = search needs
-
 cast-result : tie.Need-cast-result
 cast-result c =
     let at-start = c .before .before .before .before .before .before .before .before in
     let read = toZ-ofZ w64 (at-start .args .number) (at-start .fits .number) in
     code-length _ _ _ _ read (c .before .before .before .before .before .print-into .ensures) (c .before .n .given .1)
-
-enum-known-cause : tie.Need-enum-known-cause
-enum-known-cause c = search needs
 
 small : (c : tie.After-known-told2) → c .before .cause .given .0 .0 ≤ 15
 small c =
@@ -39,18 +30,12 @@ cast-result-2 c = record { sfits = omega (arith, small c) }
 sub-result : tie.Need-sub-result
 sub-result c = let q = negated (c .before .cause .given .0 .0) (small c) in rw (q .0) (q .1)
 
-same-length : tie.Need-same-length
-same-length c = search needs
-
 returns : tie.Need-returns
 returns c =
     let at-start = c .before .before .before .before .before .before .before .before in
     let read = toZ-ofZ w64 (at-start .args .number) (at-start .fits .number) in
     coded _ _ _ _ read (c .before .before .before .before .before .print-into .ensures)
     (ap codeOf (c .before .n .given .1) ∙ sym (toZ-ofZ w64 (pos (c .before .n .given .0 .0)) (cast-result c)))
-
-same-length-2 : tie.Need-same-length-2
-same-length-2 c = search needs
 
 returns-2 : tie.Need-returns-2
 returns-2 c =
@@ -64,13 +49,13 @@ pub print-code-spec : {M : Type 1} → statement M
 print-code-spec =
     tie.close
     (tie.spec
-    print-into-requires
-    enum-known-n
+    (λ c κs. search needs)
+    (λ c. search needs)
     cast-result
-    enum-known-cause
+    (λ c. search needs)
     cast-result-2
     sub-result
-    same-length
+    (λ c. search needs)
     returns
-    same-length-2
+    (λ c. search needs)
     returns-2)

@@ -7,15 +7,6 @@ use borrow.Author.Needs.{needs}
 use Rattle.printer.proofs.print_into.Statement.{statement}
 use Rattle.printer.proofs.print_into.Tie as tie
 
-from-parts-requires : tie.Need-from-parts-requires
-from-parts-requires c κs = search needs
-
-enum-told : tie.Need-enum-told
-enum-told c = search needs
-
-enum-known-v : tie.Need-enum-known-v
-enum-known-v c = search needs
-
 returns : tie.Need-returns
 returns c =
     let at-start = c .before .before .before .before .before .before in
@@ -37,9 +28,6 @@ returns-2 c =
     refused-value (at-start .args .kind) (at-start .args .number) (at-start .args .scratch .now)
     (unformed (at-start .args .kind) read (c .before .before .from-parts .ensures) (c .enum-told .given .1))
 
-same-length : tie.Need-same-length
-same-length c = search needs
-
 returns-3 : tie.Need-returns-3
 returns-3 c =
     let at-start = c .before .before .before .before .before .before .before .before .before .before in
@@ -53,11 +41,11 @@ pub print-into-spec : {M : Type 1} → statement M
 print-into-spec =
     tie.close
     (tie.spec
-    from-parts-requires
-    enum-told
-    enum-known-v
+    (λ c κs. search needs)
+    (λ c. search needs)
+    (λ c. search needs)
     returns
     put-value-requires
     returns-2
-    same-length
+    (λ c. search needs)
     returns-3)

@@ -76,7 +76,8 @@ loop-again : tie.Need-loop-again Inv-loop μ-loop
 loop-again c =
     let at-start = c .before .before .before .before .before in
     let at-loop = c .before .before in (
-      step (at-start .args .m) (at-start .args .at) (at-start .args .scratch .now) (at-loop .loop .scratch) (at-loop .loop .rest) (at-loop .loop .left) (at-loop .loop .place) _ (at-loop .loop .inv .0) (in-scratch c) (omega arith) (is-power c),
+      step (at-start .args .m) (at-start .args .at) (at-start .args .scratch .now) (at-loop .loop .scratch) (at-loop .loop .rest) (at-loop .loop .left)
+          (at-loop .loop .place) _ (at-loop .loop .inv .0) (in-scratch c) (omega arith) (is-power c),
       omega arith,
       omega arith,
     )
@@ -113,7 +114,8 @@ returns : tie.Need-returns Inv-loop μ-loop
 returns c =
     let at-start = c .before .before .before .before in
     let at-loop = c .before in
-    last-digit (at-start .args .m) (at-start .args .at) (at-start .args .scratch .now) (at-loop .loop .scratch) (at-loop .loop .rest) (at-loop .loop .left) (at-loop .loop .place) (at-loop .loop .inv .0) (last-place c) (one-left c)
+    last-digit (at-start .args .m) (at-start .args .at) (at-start .args .scratch .now) (at-loop .loop .scratch) (at-loop .loop .rest) (at-loop .loop .left)
+    (at-loop .loop .place) (at-loop .loop .inv .0) (last-place c) (one-left c)
 
 pub put-by-powers-spec : {M : Type 1} → statement M
 put-by-powers-spec =

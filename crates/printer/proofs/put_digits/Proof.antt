@@ -7,24 +7,6 @@ use Rattle.printer.proofs.Writing.{one-digit}
 use borrow.Author.Needs.{needs}
 use Rattle.printer.proofs.put_digits.Statement.{statement}
 use Rattle.printer.proofs.put_digits.Tie as tie
-use Rattle.printer.proofs.put_digits.Reads as reads
-use Rattle.printer.proofs.put_digits.Lts as lts
-use Rattle.printer.proofs.put_by_powers.Reads as put-by-powers-reads
-
-add-scratch : tie.Need-add-scratch
-add-scratch c = search needs
-
-cast-scratch : tie.Need-cast-scratch
-cast-scratch c = search needs
-
-slice-write-scratch : tie.Need-slice-write-scratch
-slice-write-scratch c = search needs
-
-add-result : tie.Need-add-result
-add-result c = search needs
-
-same-length : tie.Need-same-length
-same-length c = search needs
 
 returns : tie.Need-returns
 returns c =
@@ -35,22 +17,16 @@ put-by-powers-requires : tie.Need-put-by-powers-requires
 put-by-powers-requires c κs =
     (search needs, search needs, powers-of-ten _ refl tt)
 
-same-length-2 : tie.Need-same-length-2
-same-length-2 c = search needs
-
-returns-2 : tie.Need-returns-2
-returns-2 c = search needs
-
 pub put-digits-spec : {M : Type 1} → statement M
 put-digits-spec =
     tie.close
     (tie.spec
-    add-scratch
-    cast-scratch
-    slice-write-scratch
-    add-result
-    same-length
+    (λ c. search needs)
+    (λ c. search needs)
+    (λ c. search needs)
+    (λ c. search needs)
+    (λ c. search needs)
     returns
     put-by-powers-requires
-    same-length-2
-    returns-2)
+    (λ c. search needs)
+    (λ c. search needs))

@@ -11,12 +11,6 @@ use borrow.Author.Needs.{needs}
 use Rattle.printer.proofs.put_number.Statement.{statement}
 use Rattle.printer.proofs.put_number.Tie as tie
 
-magnitude-requires : tie.Need-magnitude-requires
-magnitude-requires c κs = search needs
-
-slice-write-scratch : tie.Need-slice-write-scratch
-slice-write-scratch c = search needs
-
 put-digits-requires : tie.Need-put-digits-requires
 put-digits-requires c κs =
     let at-start = c .before .before .before .before in
@@ -44,9 +38,6 @@ put-digits-requires-2 c κs =
     let m = c .before .before .magnitude .ensures ∙ ap natAbs (toZ-ofZ w64 (at-start .args .z) (at-start .fits .z)) in
     (omega (arith, m, at-start .pre .0), omega (arith, at-start .pre .1))
 
-same-length-2 : tie.Need-same-length-2
-same-length-2 c = search needs
-
 returns-2 : tie.Need-returns-2
 returns-2 c =
     let at-start = c .before .before .before .before .before .before .before in
@@ -60,11 +51,11 @@ pub put-number-spec : {M : Type 1} → statement M
 put-number-spec =
     tie.close
     (tie.spec
-    magnitude-requires
-    slice-write-scratch
+    (λ c κs. search needs)
+    (λ c. search needs)
     put-digits-requires
     same-length
     returns
     put-digits-requires-2
-    same-length-2
+    (λ c. search needs)
     returns-2)

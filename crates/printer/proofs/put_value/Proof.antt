@@ -7,27 +7,6 @@ use borrow.Author.Needs.{needs}
 use Rattle.printer.proofs.put_value.Statement.{statement}
 use Rattle.printer.proofs.put_value.Tie as tie
 
-enum-told : tie.Need-enum-told
-enum-told c = search needs
-
-slice-aggregate-put-mark : tie.Need-slice-aggregate-put-mark
-slice-aggregate-put-mark c = search needs
-
-put-mark-requires : tie.Need-put-mark-requires
-put-mark-requires c κs = search needs
-
-enum-told-2 : tie.Need-enum-told-2
-enum-told-2 c = search needs
-
-slice-aggregate-put-mark-2 : tie.Need-slice-aggregate-put-mark-2
-slice-aggregate-put-mark-2 c = search needs
-
-put-mark-requires-2 : tie.Need-put-mark-requires-2
-put-mark-requires-2 c κs = search needs
-
-enum-known-a : tie.Need-enum-known-a
-enum-known-a c = search needs
-
 put-number-requires : tie.Need-put-number-requires
 put-number-requires c κs =
     let at-start = c .before .before .before .before .before in
@@ -37,24 +16,15 @@ put-number-requires c κs =
       omega (arith, at-start .pre .1),
     )
 
-same-length : tie.Need-same-length
-same-length c = search needs
-
 returns : tie.Need-returns
 returns c =
     let at-start = c .before .before .before .before .before .before .before .before in
     of-amount (at-start .args .scratch .now) _ _ (c .before .before .before .before .before .enum-told .given .1) (c .before .before .put-mark .ensures)
 
-same-length-2 : tie.Need-same-length-2
-same-length-2 c = search needs
-
 returns-2 : tie.Need-returns-2
 returns-2 c =
     let at-start = c .before .before .before .before .before .before .before .before in
     of-amount (at-start .args .scratch .now) _ _ (c .before .before .before .before .before .enum-told2 .given .1) (c .before .before .put-mark2 .ensures)
-
-same-length-3 : tie.Need-same-length-3
-same-length-3 c = search needs
 
 returns-3 : tie.Need-returns-3
 returns-3 c =
@@ -67,17 +37,17 @@ pub put-value-spec : {M : Type 1} → statement M
 put-value-spec =
     tie.close
     (tie.spec
-    enum-told
-    slice-aggregate-put-mark
-    put-mark-requires
-    enum-told-2
-    slice-aggregate-put-mark-2
-    put-mark-requires-2
-    enum-known-a
+    (λ c. search needs)
+    (λ c. search needs)
+    (λ c κs. search needs)
+    (λ c. search needs)
+    (λ c. search needs)
+    (λ c κs. search needs)
+    (λ c. search needs)
     put-number-requires
-    same-length
+    (λ c. search needs)
     returns
-    same-length-2
+    (λ c. search needs)
     returns-2
-    same-length-3
+    (λ c. search needs)
     returns-3)

@@ -8,12 +8,6 @@ use Rattle.admission.specs.Answers.{Answered}
 use Rattle.rozhinal.proofs.rozhinal_post.Statement.{statement}
 use Rattle.rozhinal.proofs.rozhinal_post.Tie as tie
 
-post-requires : tie.Need-post-requires
-post-requires c κs = search needs
-
-same-length : tie.Need-same-length
-same-length c = search needs
-
 returns : tie.Need-returns
 returns c =
     let a = c .before .before .before .before .before .before .before .args in
@@ -21,4 +15,4 @@ returns c =
     (back (a .number) (search needs)) (c .before .before .post .ensures)
 
 pub rozhinal-post-spec : {M : Type 1} → statement M
-rozhinal-post-spec = tie.close (tie.spec post-requires same-length returns)
+rozhinal-post-spec = tie.close (tie.spec (λ c κs. search needs) (λ c. search needs) returns)

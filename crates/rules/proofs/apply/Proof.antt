@@ -8,21 +8,9 @@ use Rattle.rules.proofs.Applying.{many-ask, applied-all, formed-at, app
 use Rattle.rules.proofs.apply.Statement.{statement}
 use Rattle.rules.proofs.apply.Tie as tie
 
-enum-told : tie.Need-enum-told
-enum-told c = search needs
-
 sum-requires : tie.Need-sum-requires
 unfolding rules.countAllowed
 sum-requires c κs = let s = c .before .before in many-ask _ _ (c .enum-told .given .1) rules.sum refl _ _ _ (s .pre .0) (s .pre .1) refl
-
-enum-told-2 : tie.Need-enum-told-2
-enum-told-2 c = search needs
-
-value-at-requires : tie.Need-value-at-requires
-value-at-requires c κs = search needs
-
-value-at-requires-2 : tie.Need-value-at-requires-2
-value-at-requires-2 c κs = search needs
 
 difference-requires : tie.Need-difference-requires
 unfolding rules.countAllowed
@@ -32,28 +20,13 @@ difference-requires c κs =
     let formed = formed-at _ _ (told .enum-told2 .given .1) rules.difference refl _ _ _ (s .pre .0) (s .pre .1) refl in
     (formed 0 (omega arith) _ (c .before .value-at .ensures), formed 1 (omega arith) _ (c .value-at2 .ensures))
 
-enum-told-3 : tie.Need-enum-told-3
-enum-told-3 c = search needs
-
 smallest-requires : tie.Need-smallest-requires
 unfolding rules.countAllowed
 smallest-requires c κs = let s = c .before .before in many-ask _ _ (c .enum-told3 .given .1) rules.smallest refl _ _ _ (s .pre .0) (s .pre .1) refl
 
-enum-told-4 : tie.Need-enum-told-4
-enum-told-4 c = search needs
-
 largest-requires : tie.Need-largest-requires
 unfolding rules.countAllowed
 largest-requires c κs = let s = c .before .before in many-ask _ _ (c .enum-told4 .given .1) rules.largest refl _ _ _ (s .pre .0) (s .pre .1) refl
-
-enum-told-5 : tie.Need-enum-told-5
-enum-told-5 c = search needs
-
-value-at-requires-3 : tie.Need-value-at-requires-3
-value-at-requires-3 c κs = search needs
-
-value-at-requires-4 : tie.Need-value-at-requires-4
-value-at-requires-4 c κs = search needs
 
 share-requires : tie.Need-share-requires
 unfolding rules.countAllowed
@@ -62,42 +35,9 @@ share-requires c κs =
     let s = told .before .before in
     formed-at _ _ (told .enum-told5 .given .1) rules.share refl _ _ _ (s .pre .0) (s .pre .1) refl 0 (omega arith) (meaning (c .before .value-at3 .result)) (c .before .value-at3 .ensures)
 
-enum-told-6 : tie.Need-enum-told-6
-enum-told-6 c = search needs
-
-value-at-requires-5 : tie.Need-value-at-requires-5
-value-at-requires-5 c κs = search needs
-
-value-at-requires-6 : tie.Need-value-at-requires-6
-value-at-requires-6 c κs = search needs
-
-value-at-requires-7 : tie.Need-value-at-requires-7
-value-at-requires-7 c κs = search needs
-
-choice-requires : tie.Need-choice-requires
-choice-requires c κs = search needs
-
-enum-told-7 : tie.Need-enum-told-7
-enum-told-7 c = search needs
-
 count-requires : tie.Need-count-requires
 unfolding rules.countAllowed
 count-requires c κs = let s = c .before .before in many-ask _ _ (c .enum-told7 .given .1) rules.count refl _ _ _ (s .pre .0) (s .pre .1) refl
-
-enum-told-8 : tie.Need-enum-told-8
-enum-told-8 c = search needs
-
-value-at-requires-8 : tie.Need-value-at-requires-8
-value-at-requires-8 c κs = search needs
-
-value-at-requires-9 : tie.Need-value-at-requires-9
-value-at-requires-9 c κs = search needs
-
-at-least-requires : tie.Need-at-least-requires
-at-least-requires c κs = search needs
-
-enum-told-9 : tie.Need-enum-told-9
-enum-told-9 c = search needs
 
 returns : tie.Need-returns
 returns c =
@@ -160,32 +100,32 @@ pub apply-spec : {M : Type 1} → statement M
 apply-spec =
     tie.close
     (tie.spec
-    enum-told
+    (λ c. search needs)
     sum-requires
-    enum-told-2
-    value-at-requires
-    value-at-requires-2
+    (λ c. search needs)
+    (λ c κs. search needs)
+    (λ c κs. search needs)
     difference-requires
-    enum-told-3
+    (λ c. search needs)
     smallest-requires
-    enum-told-4
+    (λ c. search needs)
     largest-requires
-    enum-told-5
-    value-at-requires-3
-    value-at-requires-4
+    (λ c. search needs)
+    (λ c κs. search needs)
+    (λ c κs. search needs)
     share-requires
-    enum-told-6
-    value-at-requires-5
-    value-at-requires-6
-    value-at-requires-7
-    choice-requires
-    enum-told-7
+    (λ c. search needs)
+    (λ c κs. search needs)
+    (λ c κs. search needs)
+    (λ c κs. search needs)
+    (λ c κs. search needs)
+    (λ c. search needs)
     count-requires
-    enum-told-8
-    value-at-requires-8
-    value-at-requires-9
-    at-least-requires
-    enum-told-9
+    (λ c. search needs)
+    (λ c κs. search needs)
+    (λ c κs. search needs)
+    (λ c κs. search needs)
+    (λ c. search needs)
     returns
     returns-2
     returns-3

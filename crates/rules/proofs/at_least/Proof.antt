@@ -6,30 +6,12 @@ use Rattle.rules.proofs.Pairs.{two-out, either-null, both-is, at-least-
 use Rattle.rules.proofs.at_least.Statement.{statement}
 use Rattle.rules.proofs.at_least.Tie as tie
 
-either-out-requires : tie.Need-either-out-requires
-either-out-requires c κs = search needs
-
 returns : tie.Need-returns
 returns c = two-out _ _ _ (c .before .either-out .ensures) rules.atLeast (c .if1 .taken)
-
-either-null-requires : tie.Need-either-null-requires
-either-null-requires c κs = search needs
 
 returns-2 : tie.Need-returns-2
 unfolding rules.apply
 returns-2 c = let out = c .before .before in either-null _ _ _ (out .before .either-out .ensures) (out .if1 .left) rules.atLeastOf _ (c .before .either-null .ensures) (c .if2 .taken)
-
-number-or-zero-requires : tie.Need-number-or-zero-requires
-number-or-zero-requires c κs = search needs
-
-number-or-zero-requires-2 : tie.Need-number-or-zero-requires-2
-number-or-zero-requires-2 c κs = search needs
-
-exact-requires : tie.Need-exact-requires
-exact-requires c κs = search needs
-
-exact-requires-2 : tie.Need-exact-requires-2
-exact-requires-2 c κs = search needs
 
 returns-3 : tie.Need-returns-3
 unfolding rules.apply
@@ -55,13 +37,13 @@ pub at-least-spec : {M : Type 1} → statement M
 at-least-spec =
     tie.close
     (tie.spec
-    either-out-requires
+    (λ c κs. search needs)
     returns
-    either-null-requires
+    (λ c κs. search needs)
     returns-2
-    number-or-zero-requires
-    number-or-zero-requires-2
-    exact-requires
-    exact-requires-2
+    (λ c κs. search needs)
+    (λ c κs. search needs)
+    (λ c κs. search needs)
+    (λ c κs. search needs)
     returns-3
     returns-4)

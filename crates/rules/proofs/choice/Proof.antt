@@ -5,22 +5,13 @@ use Rattle.rules.proofs.Pairs.{first-out, later-out, choice-null, choic
 use Rattle.rules.proofs.choice.Statement.{statement}
 use Rattle.rules.proofs.choice.Tie as tie
 
-is-out-requires : tie.Need-is-out-requires
-is-out-requires c κs = search needs
-
 returns : tie.Need-returns
 returns c =
     first-out _ _ _ _ _ (c .before .is-out .ensures) refl (c .if1 .taken)
 
-either-out-requires : tie.Need-either-out-requires
-either-out-requires c κs = search needs
-
 returns-2 : tie.Need-returns-2
 returns-2 c =
     later-out _ _ _ _ _ (c .before .before .before .is-out .ensures) (c .before .either-out .ensures) (c .before .before .if1 .left) (c .if2 .taken)
-
-is-null-requires : tie.Need-is-null-requires
-is-null-requires c κs = search needs
 
 returns-3 : tie.Need-returns-3
 returns-3 c =
@@ -28,9 +19,6 @@ returns-3 c =
     let first = later .before .before in
     choice-null _ _ _ _ _ (first .before .is-out .ensures) (later .before .either-out .ensures) (first .if1 .left) (later .if2 .left)
     _ (c .before .is-null .ensures) (c .if3 .taken)
-
-number-or-zero-requires : tie.Need-number-or-zero-requires
-number-or-zero-requires c κs = search needs
 
 returns-4 : tie.Need-returns-4
 returns-4 c =
@@ -52,12 +40,12 @@ pub choice-spec : {M : Type 1} → statement M
 choice-spec =
     tie.close
     (tie.spec
-    is-out-requires
+    (λ c κs. search needs)
     returns
-    either-out-requires
+    (λ c κs. search needs)
     returns-2
-    is-null-requires
+    (λ c κs. search needs)
     returns-3
-    number-or-zero-requires
+    (λ c κs. search needs)
     returns-4
     returns-5)

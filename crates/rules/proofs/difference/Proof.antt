@@ -6,25 +6,13 @@ use Rattle.rules.proofs.Pairs.{two-out, difference-null, difference-is,
 use Rattle.rules.proofs.difference.Statement.{statement}
 use Rattle.rules.proofs.difference.Tie as tie
 
-either-out-requires : tie.Need-either-out-requires
-either-out-requires c κs = search needs
-
 returns : tie.Need-returns
 returns c = two-out _ _ _ (c .before .either-out .ensures) rules.difference (c .if1 .taken)
-
-both-null-requires : tie.Need-both-null-requires
-both-null-requires c κs = search needs
 
 returns-2 : tie.Need-returns-2
 returns-2 c =
     let out = c .before .before in
     difference-null _ _ _ (out .before .either-out .ensures) (out .if1 .left) _ (c .before .both-null .ensures) (c .if2 .taken)
-
-number-or-zero-requires : tie.Need-number-or-zero-requires
-number-or-zero-requires c κs = search needs
-
-number-or-zero-requires-2 : tie.Need-number-or-zero-requires-2
-number-or-zero-requires-2 c κs = search needs
 
 minus-requires : tie.Need-minus-requires
 minus-requires c κs =
@@ -32,9 +20,6 @@ minus-requires c κs =
       number-fits (meaning (s .args .a)) _ (search needs) (c .before .number-or-zero .ensures) (s .pre .0),
       number-fits (meaning (s .args .b)) _ (search needs) (c .number-or-zero2 .ensures) (s .pre .1),
     )
-
-exact-requires : tie.Need-exact-requires
-exact-requires c κs = search needs
 
 returns-3 : tie.Need-returns-3
 returns-3 c =
@@ -48,12 +33,12 @@ pub difference-spec : {M : Type 1} → statement M
 difference-spec =
     tie.close
     (tie.spec
-    either-out-requires
+    (λ c κs. search needs)
     returns
-    both-null-requires
+    (λ c κs. search needs)
     returns-2
-    number-or-zero-requires
-    number-or-zero-requires-2
+    (λ c κs. search needs)
+    (λ c κs. search needs)
     minus-requires
-    exact-requires
+    (λ c κs. search needs)
     returns-3)

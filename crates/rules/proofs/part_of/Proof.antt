@@ -22,9 +22,6 @@ cast-scaled-2 c =
     let s = c .before in
     cast-size _ _ (not-below _ (s .fits .parts) (s .pre .1 .0)) (parts-fit (s .args .parts) (s .pre .1 .0) (s .pre .1 .1))
 
-sub-scaled-2 : tie.Need-sub-scaled-2
-sub-scaled-2 c = search needs
-
 scaled-requires : tie.Need-scaled-requires
 unfolding whole
 scaled-requires c κs =
@@ -89,7 +86,7 @@ part-of-spec =
     sub-scaled
     cast-scaled
     cast-scaled-2
-    sub-scaled-2
+    (λ c. search needs)
     scaled-requires
     cast-result
     sub-result

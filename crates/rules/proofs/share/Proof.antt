@@ -6,24 +6,12 @@ use Rattle.rules.proofs.Pairs.{two-out, either-null, both-is, number-fi
 use Rattle.rules.proofs.share.Statement.{statement}
 use Rattle.rules.proofs.share.Tie as tie
 
-either-out-requires : tie.Need-either-out-requires
-either-out-requires c κs = search needs
-
 returns : tie.Need-returns
 returns c = two-out _ _ _ (c .before .either-out .ensures) rules.share (c .if1 .taken)
-
-either-null-requires : tie.Need-either-null-requires
-either-null-requires c κs = search needs
 
 returns-2 : tie.Need-returns-2
 unfolding rules.apply
 returns-2 c = let out = c .before .before in either-null _ _ _ (out .before .either-out .ensures) (out .if1 .left) rules.shareOf _ (c .before .either-null .ensures) (c .if2 .taken)
-
-number-or-zero-requires : tie.Need-number-or-zero-requires
-number-or-zero-requires c κs = search needs
-
-number-or-zero-requires-2 : tie.Need-number-or-zero-requires-2
-number-or-zero-requires-2 c κs = search needs
 
 share-of-requires : tie.Need-share-of-requires
 share-of-requires c κs =
@@ -43,11 +31,11 @@ pub share-spec : {M : Type 1} → statement M
 share-spec =
     tie.close
     (tie.spec
-    either-out-requires
+    (λ c κs. search needs)
     returns
-    either-null-requires
+    (λ c κs. search needs)
     returns-2
-    number-or-zero-requires
-    number-or-zero-requires-2
+    (λ c κs. search needs)
+    (λ c κs. search needs)
     share-of-requires
     returns-3)

@@ -8,9 +8,6 @@ use Rattle.rules.proofs.share_of.Tie as tie
 returns : tie.Need-returns
 returns c = parts-below (c .before .args .x) (c .before .args .parts) (c .before .fits .parts) (c .if1 .taken)
 
-cast-if2 : tie.Need-cast-if2
-cast-if2 c = search needs
-
 returns-2 : tie.Need-returns-2
 unfolding whole
 returns-2 c =
@@ -23,9 +20,6 @@ part-of-requires c κs =
     let s = c .before .before in
     part-asks (s .args .x) (s .args .parts) (s .fits .parts) (s .pre) (s .fits .x) (c .before .if1 .left) (c .if2 .left)
 
-exact-requires : tie.Need-exact-requires
-exact-requires c κs = search needs
-
 returns-3 : tie.Need-returns-3
 unfolding whole
 returns-3 c =
@@ -35,4 +29,4 @@ returns-3 c =
 
 pub share-of-spec : {M : Type 1} → statement M
 share-of-spec =
-    tie.close (tie.spec returns cast-if2 returns-2 part-of-requires exact-requires returns-3)
+    tie.close (tie.spec returns (λ c. search needs) returns-2 part-of-requires (λ c κs. search needs) returns-3)

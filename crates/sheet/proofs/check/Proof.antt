@@ -9,12 +9,6 @@ use borrow.Author.Needs.{needs}
 use Rattle.sheet.proofs.check.Statement.{statement}
 use Rattle.sheet.proofs.check.Tie as tie
 
-field-at-requires : tie.Need-field-at-requires
-field-at-requires c κs = search needs
-
-enum-known-tag : tie.Need-enum-known-tag
-enum-known-tag c = search needs
-
 returns : tie.Need-returns
 returns c =
     let a = c .before .before .before .before .before .args in
@@ -71,12 +65,6 @@ check-items-requires c κs =
     (c .before .before .before .u16-at .result) (c .before .before .u16-at2 .result) (c .before .before .before .u16-at .ensures .0) (c .before .before .u16-at2 .ensures .0) in
     (omega arith, omega arith)
 
-same-length : tie.Need-same-length
-same-length c = search needs
-
-same-length-2 : tie.Need-same-length-2
-same-length-2 c = search needs
-
 returns-3 : tie.Need-returns-3
 returns-3 c =
     let a = c .before .before .before .before .before .before .before .before .before .before .before .before .before .before .before .before .before .before .args in
@@ -84,15 +72,18 @@ returns-3 c =
     let cut = sym (c .before .before .before .before .before .before .before .before .before .before .before .before .before .before .field-at .ensures) ∙ f .1 in
     let j = ap (judge headTests (a .s .now)) cut ∙ sym (c .before .before .before .before .before .before .before .before .before .before .head-cause .ensures) in
     head-accepted (a .s .now) (f .0 .0) (f .0 .1 .0) (f .0 .1 .1 .0) (f .0 .1 .1 .1 .0) cut (j ∙ c .before .before .before .before .before .before .before .before .before .if1 .left)
-    (c .before .before .before .before .before .before .before .before .u16-at .result) (c .before .before .before .before .before .before .before .u16-at2 .result) (c .before .before .before .before .before .before .before .before .u16-at .ensures .0) (c .before .before .before .before .before .before .before .u16-at2 .ensures .0)
-    (c .before .before .before .before .check-items .result) _ _ _ _ (c .before .before .before .before .check-items .ensures .0) (c .before .before .before .before .check-items .ensures .1 .0) (c .before .before .before .before .check-items .ensures .1 .1)
+    (c .before .before .before .before .before .before .before .before .u16-at .result) (c .before .before .before .before .before .before .before .u16-at2 .result)
+    (c .before .before .before .before .before .before .before .before .u16-at .ensures .0)
+    (c .before .before .before .before .before .before .before .u16-at2 .ensures .0)
+    (c .before .before .before .before .check-items .result) _ _ _ _ (c .before .before .before .before .check-items .ensures .0)
+    (c .before .before .before .before .check-items .ensures .1 .0) (c .before .before .before .before .check-items .ensures .1 .1)
 
 pub check-spec : {M : Type 1} → statement M
 check-spec =
     tie.close
     (tie.spec
-    field-at-requires
-    enum-known-tag
+    (λ c κs. search needs)
+    (λ c. search needs)
     returns
     head-cause-requires
     returns-2
@@ -100,6 +91,6 @@ check-spec =
     add-u16-at
     u16-at-requires-2
     check-items-requires
-    same-length
-    same-length-2
+    (λ c. search needs)
+    (λ c. search needs)
     returns-3)

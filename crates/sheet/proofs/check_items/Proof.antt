@@ -78,7 +78,8 @@ returns-2 c =
     let n = scan-length (a .s .now) (a .edition) (l .i) (l .at) ps (l .inv .1) in
     let j = c .before .before .before .judge-item .ensures ps n (levels-at ps (l .levels) (a .levels .now) (l .inv .3)) in
     let g = c .before .number .given in
-    stop (a .s .now) (a .edition) (a .count) (l .i) (l .at) (l .offsets) (a .offsets .now) (l .levels) (a .levels .now) (l .inv .1) (l .inv .2) (l .inv .3) (g .0 .0) (c .before .before .before .before .before .before .before .before .before .loop-test .taken)
+    stop (a .s .now) (a .edition) (a .count) (l .i) (l .at) (l .offsets) (a .offsets .now) (l .levels) (a .levels .now) (l .inv .1) (l .inv .2) (l .inv .3) (g .0 .0)
+    (c .before .before .before .before .before .before .before .before .before .loop-test .taken)
     (scan-fault (a .s .now) (a .edition) (l .i) (l .at) ps (l .inv .1) (f .0 .0) (f .0 .1 .0) (f .0 .1 .1 .0) (f .0 .1 .1 .1 .0) cut (g .0 .0) (sym (g .1) ∙ j))
 
 enum-known-level : tie.Need-enum-known-level Inv-loop μ-loop
@@ -126,7 +127,8 @@ returns-3 c =
     let a = c .before .before .before .before .before .before .args in
     let l = c .before .before .loop in
     let k : l .i ≡ a .count = omega arith in
-    finish (a .s .now) (a .edition) (a .count) (l .i) (l .at) (l .offsets) (a .offsets .now) (l .levels) (a .levels .now) (l .inv .1) (l .inv .2) (l .inv .3) k (c .check-last .result) (c .check-last .ensures)
+    finish (a .s .now) (a .edition) (a .count) (l .i) (l .at) (l .offsets) (a .offsets .now) (l .levels) (a .levels .now) (l .inv .1) (l .inv .2) (l .inv .3) k
+    (c .check-last .result) (c .check-last .ensures)
 
 pub check-items-spec : {M : Type 1} → statement M
 check-items-spec =

@@ -6,12 +6,6 @@ use borrow.Author.Needs.{needs}
 use Rattle.sheet.proofs.check_last.Statement.{statement}
 use Rattle.sheet.proofs.check_last.Tie as tie
 
-field-at-requires : tie.Need-field-at-requires
-field-at-requires c κs = search needs
-
-enum-known-tag : tie.Need-enum-known-tag
-enum-known-tag c = search needs
-
 returns : tie.Need-returns
 returns c =
     λ ps n.
@@ -53,4 +47,4 @@ returns-5 c =
 pub check-last-spec : {M : Type 1} → statement M
 check-last-spec =
     tie.close
-    (tie.spec field-at-requires enum-known-tag returns returns-2 returns-3 returns-4 returns-5)
+    (tie.spec (λ c κs. search needs) (λ c. search needs) returns returns-2 returns-3 returns-4 returns-5)

@@ -7,24 +7,12 @@ use Rattle.sheet.proofs.Operations.{rule-refused, rule-taken}
 use Rattle.sheet.proofs.figure_allowed.Statement.{statement}
 use Rattle.sheet.proofs.figure_allowed.Tie as tie
 
-operation-of-requires : tie.Need-operation-of-requires
-operation-of-requires c κs = search needs
-
-enum-told : tie.Need-enum-told
-enum-told c = search needs
-
 returns : tie.Need-returns
 returns c =
     let a = c .before .before .before .args in
     let e : ruleAllowed (a .rule) (a .p) ≡ false =
     rule-refused (a .rule) (a .p) (c .before .before .operation-of .result) (c .before .before .operation-of .ensures) (c .enum-told .given .1) in
     sym (ap (λ b. b && keepAllowed (a .keep) && spreadAllowed (a .edition) (a .spread)) e)
-
-keep-allowed-requires : tie.Need-keep-allowed-requires
-keep-allowed-requires c κs = search needs
-
-spread-allowed-requires : tie.Need-spread-allowed-requires
-spread-allowed-requires c κs = search needs
 
 returns-2 : tie.Need-returns-2
 returns-2 c =
@@ -48,10 +36,10 @@ pub figure-allowed-spec : {M : Type 1} → statement M
 figure-allowed-spec =
     tie.close
     (tie.spec
-    operation-of-requires
-    enum-told
+    (λ c κs. search needs)
+    (λ c. search needs)
     returns
-    keep-allowed-requires
-    spread-allowed-requires
+    (λ c κs. search needs)
+    (λ c κs. search needs)
     returns-2
     returns-3)

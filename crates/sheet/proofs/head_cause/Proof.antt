@@ -16,27 +16,12 @@ returns c = let a = c .before .before in head-tag (a .args .s .now) (a .args .ta
 returns-2 : tie.Need-returns-2
 returns-2 c = let a = c .before .before .before in head-length (a .args .s .now) (a .args .tag) (a .args .start) (a .args .len) (a .pre) (c .before .if1 .left) (c .if2 .taken)
 
-u16-at-requires : tie.Need-u16-at-requires
-u16-at-requires c κs = search needs
-
-add-u16-at : tie.Need-add-u16-at
-add-u16-at c = search needs
-
-u16-at-requires-2 : tie.Need-u16-at-requires-2
-u16-at-requires-2 c κs = search needs
-
-edition-known-requires : tie.Need-edition-known-requires
-edition-known-requires c κs = search needs
-
 returns-3 : tie.Need-returns-3
 returns-3 c =
     let a = c .before .before .before .before .before .before .before in
     let e = c .before .before .before .u16-at .ensures .0 in
     let k : editionKnown (le16At (a .args .s .now) (a .args .start)) ≡ false = sym (ap editionKnown e) ∙ sym (c .before .edition-known .ensures) ∙ not-true _ (c .if3 .taken) in
     head-edition (a .args .s .now) (a .args .tag) (a .args .start) (a .args .len) (a .pre) (c .before .before .before .before .before .if1 .left) (c .before .before .before .before .if2 .left) k
-
-count-allowed-requires : tie.Need-count-allowed-requires
-count-allowed-requires c κs = search needs
 
 returns-4 : tie.Need-returns-4
 returns-4 c =
@@ -46,7 +31,8 @@ returns-4 c =
     let k : editionKnown (le16At (a .args .s .now) (a .args .start)) ≡ true = sym (ap editionKnown e) ∙ sym (c .before .before .before .edition-known .ensures) ∙ not-false _ (c .before .before .if3 .left) in
     let n : countAllowed (le16At (a .args .s .now) (a .args .start)) (le16At (a .args .s .now) (a .args .start + countAt)) ≡ false =
     sym (ap₂ countAllowed e m) ∙ sym (c .before .count-allowed .ensures) ∙ not-true _ (c .if4 .taken) in
-    head-count (a .args .s .now) (a .args .tag) (a .args .start) (a .args .len) (a .pre) (c .before .before .before .before .before .before .before .if1 .left) (c .before .before .before .before .before .before .if2 .left) k n
+    head-count (a .args .s .now) (a .args .tag) (a .args .start) (a .args .len) (a .pre) (c .before .before .before .before .before .before .before .if1 .left)
+    (c .before .before .before .before .before .before .if2 .left) k n
 
 returns-5 : tie.Need-returns-5
 returns-5 c =
@@ -56,7 +42,8 @@ returns-5 c =
     let k : editionKnown (le16At (a .args .s .now) (a .args .start)) ≡ true = sym (ap editionKnown e) ∙ sym (c .before .before .before .edition-known .ensures) ∙ not-false _ (c .before .before .if3 .left) in
     let n : countAllowed (le16At (a .args .s .now) (a .args .start)) (le16At (a .args .s .now) (a .args .start + countAt)) ≡ true =
     sym (ap₂ countAllowed e m) ∙ sym (c .before .count-allowed .ensures) ∙ not-false _ (c .if4 .left) in
-    head-sound (a .args .s .now) (a .args .tag) (a .args .start) (a .args .len) (a .pre) (c .before .before .before .before .before .before .before .if1 .left) (c .before .before .before .before .before .before .if2 .left) k n
+    head-sound (a .args .s .now) (a .args .tag) (a .args .start) (a .args .len) (a .pre) (c .before .before .before .before .before .before .before .if1 .left)
+    (c .before .before .before .before .before .before .if2 .left) k n
 
 pub head-cause-spec : {M : Type 1} → statement M
 head-cause-spec =
@@ -64,11 +51,11 @@ head-cause-spec =
     (tie.spec
     returns
     returns-2
-    u16-at-requires
-    add-u16-at
-    u16-at-requires-2
-    edition-known-requires
+    (λ c κs. search needs)
+    (λ c. search needs)
+    (λ c κs. search needs)
+    (λ c κs. search needs)
     returns-3
-    count-allowed-requires
+    (λ c κs. search needs)
     returns-4
     returns-5)

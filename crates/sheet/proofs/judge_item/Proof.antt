@@ -8,9 +8,6 @@ use borrow.Author.Needs.{needs}
 use Rattle.sheet.proofs.judge_item.Statement.{statement}
 use Rattle.sheet.proofs.judge_item.Tie as tie
 
-judge-figure-requires : tie.Need-judge-figure-requires
-judge-figure-requires c κs = search needs
-
 returns : tie.Need-returns
 returns c =
     λ ps n l.
@@ -22,9 +19,6 @@ returns-2 c =
     λ ps n l.
     let a = c .before .before .before .before .args in
     sym (other-judged (a .edition) ps (contentAt (a .s .now) (a .start) (a .len)) (a .tag) (c .if2 .taken) (c .before .if1 .left))
-
-name-allowed-requires : tie.Need-name-allowed-requires
-name-allowed-requires c κs = search needs
 
 returns-3 : tie.Need-returns-3
 returns-3 c =
@@ -43,4 +37,4 @@ returns-4 c =
 pub judge-item-spec : {M : Type 1} → statement M
 judge-item-spec =
     tie.close
-    (tie.spec judge-figure-requires returns returns-2 name-allowed-requires returns-3 returns-4)
+    (tie.spec (λ c κs. search needs) returns returns-2 (λ c κs. search needs) returns-3 returns-4)

@@ -44,7 +44,8 @@ returns-3 c =
     let a = c .before .before .before .before .before .before .before .before in
     let one : 1 ≤ a .args .len = omega arith in
     let e = not-true _ (c .if3 .taken) in
-    name-fails (a .args .s .now) (a .args .at) (a .args .len) (a .pre) one (c .before .before .before .before .before .if2 .left) (c .before .before .before .before .loop .k) (c .before .before .before .loop-test .taken)
+    name-fails (a .args .s .now) (a .args .at) (a .args .len) (a .pre) one (c .before .before .before .before .before .if2 .left)
+    (c .before .before .before .before .loop .k) (c .before .before .before .loop-test .taken)
     (sym (c .before .name-byte .ensures) ∙ e)
 
 add-k : tie.Need-add-k Inv-loop μ-loop

@@ -5,23 +5,11 @@ use Rattle.sheet_cases.proofs.Whole.{no-label, no-sheet, whole, runs-no
 use Rattle.sheet_cases.proofs.run_case.Statement.{statement}
 use Rattle.sheet_cases.proofs.run_case.Tie as tie
 
-field-at-requires : tie.Need-field-at-requires
-field-at-requires c κs = search needs
-
-enum-known-start : tie.Need-enum-known-start
-enum-known-start c = search needs
-
 returns : tie.Need-returns
 returns c =
     let first = c .before in
     let a = first .before .before .before .before .args in
     runs-none _ _ _ _ (omega arith) (no-label (a .cases .now) (a .at) (first .field-at .ensures) (c .match .keys2))
-
-field-at-requires-2 : tie.Need-field-at-requires-2
-field-at-requires-2 c κs = search needs
-
-enum-known-sheet : tie.Need-enum-known-sheet
-enum-known-sheet c = search needs
 
 returns-2 : tie.Need-returns-2
 returns-2 c =
@@ -58,9 +46,6 @@ part-write-all-end c =
     let w = whole (a .cases .now) (a .at) (first .field-at .ensures) (label .start .given .1) (cut .field-at2 .ensures) (c .before .sheet .given .1) in
     omega (arith, w .label-in)
 
-write-all-requires : tie.Need-write-all-requires
-write-all-requires c κs = search needs
-
 sub-write-answer : tie.Need-sub-write-answer
 sub-write-answer c =
     let here = c .before .before .before in
@@ -91,15 +76,6 @@ part-write-answer-end c =
     let w = whole (a .cases .now) (a .at) (first .field-at .ensures) (label .start .given .1) (cut .field-at2 .ensures) (here .sheet .given .1) in
     omega (arith, w .checked-in)
 
-write-answer-requires : tie.Need-write-answer-requires
-write-answer-requires c κs = search needs
-
-same-length : tie.Need-same-length
-same-length c = search needs
-
-same-length-2 : tie.Need-same-length-2
-same-length-2 c = search needs
-
 returns-3 : tie.Need-returns-3
 returns-3 c =
     let answer = c .before .before .before .before in
@@ -115,20 +91,20 @@ pub run-case-spec : {M : Type 1} → statement M
 run-case-spec =
     tie.close
     (tie.spec
-    field-at-requires
-    enum-known-start
+    (λ c κs. search needs)
+    (λ c. search needs)
     returns
-    field-at-requires-2
-    enum-known-sheet
+    (λ c κs. search needs)
+    (λ c. search needs)
     returns-2
     sub-write-all
     part-write-all-start
     part-write-all-end
-    write-all-requires
+    (λ c κs. search needs)
     sub-write-answer
     part-write-answer-start
     part-write-answer-end
-    write-answer-requires
-    same-length
-    same-length-2
+    (λ c κs. search needs)
+    (λ c. search needs)
+    (λ c. search needs)
     returns-3)

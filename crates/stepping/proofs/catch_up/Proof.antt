@@ -40,7 +40,11 @@ step-twice-requires c κs =
 add-i : tie.Need-add-i Inv-loop μ-loop
 add-i c =
     let a = c .before .before .before .before .before .before .before .before .before .before .before .before .before .before .before .before .before .args in
-    record { fits = omega (arith, size-most (a .sheet .now), c .before .before .before .before .before .before .before .before .before .before .loop .inv .n-is, c .before .before .before .before .before .before .before .before .before .loop-test .taken) }
+    record {
+      fits =
+          omega
+          (arith, size-most (a .sheet .now), c .before .before .before .before .before .before .before .before .before .before .loop .inv .n-is, c .before .before .before .before .before .before .before .before .before .loop-test .taken);
+    }
 
 loop-less : tie.Need-loop-less Inv-loop μ-loop
 loop-less c =
@@ -49,7 +53,9 @@ loop-less c =
 loop-again : tie.Need-loop-again Inv-loop μ-loop
 loop-again c =
     let l = c .before .before .before .before .before .step-twice in
-    ascending-next (c .before .before .before .before .before .before .before .before .before .before .loop .inv) (c .before .before .before .before .before .before .before .before .before .loop-test .taken) _ _ _ (l .kept .1 .1 .0) (l .kept .1 .1 .1 .0) (l .kept .1 .1 .1 .1 .0) (l .ensures)
+    ascending-next (c .before .before .before .before .before .before .before .before .before .before .loop .inv)
+    (c .before .before .before .before .before .before .before .before .before .loop-test .taken) _ _ _ (l .kept .1 .1 .0) (l .kept .1 .1 .1 .0) (l .kept .1 .1 .1 .1 .0)
+    (l .ensures)
 
 same-length : tie.Need-same-length Inv-loop μ-loop
 same-length c =

@@ -4,16 +4,10 @@ use borrow.Author.Needs.{needs}
 use Rattle.stepping.proofs.step_twice.Statement.{statement}
 use Rattle.stepping.proofs.step_twice.Tie as tie
 
-is-marked-requires : tie.Need-is-marked-requires
-is-marked-requires c κs = search needs
-
 step-item-requires : tie.Need-step-item-requires
 step-item-requires c κs =
     let q = c .before .before .before .before .before .before .before .before .before .before .before .before .pre in
     (q .0, (ready-before (q .1 .0) (q .1 .1 .0), (q .1 .1 .1 .0, q .1 .1 .1 .1)))
-
-add-step-marked : tie.Need-add-step-marked
-add-step-marked c = search needs
 
 step-marked-requires : tie.Need-step-marked-requires
 step-marked-requires c κs =
@@ -24,15 +18,6 @@ step-marked-requires c κs =
     let l = c .before .before .before .before .before .before .before .before .step-item in
     (second-lent (q .0) (q .1 .0) (a .i) _ (m .ensures) e _ _ (l .last .1 .1 .1 .1 .0) (l .kept .1 .1 .0) (l .kept .1 .1 .1 .0) (l .kept .1 .1 .1 .1 .0) (l .ensures), (second-ready (q .0) (q .1 .0) (a .i) _ (m .ensures) e _ _ (l .last .1 .1 .1 .1 .0) (l .kept .1 .1 .0) (l .kept .1 .1 .1 .0) (l .kept .1 .1 .1 .1 .0) (l .ensures), (q .1 .1 .1 .0, q .1 .1 .1 .1)))
 
-same-length : tie.Need-same-length
-same-length c = search needs
-
-same-length-2 : tie.Need-same-length-2
-same-length-2 c = search needs
-
-same-length-3 : tie.Need-same-length-3
-same-length-3 c = search needs
-
 returns : tie.Need-returns
 returns c =
     let q = c .before .before .before .before .before .before .before .before .before .before .before .before .before .before .before .before .before .before .before .before .before .before .before .before .before .before .before .pre in
@@ -40,10 +25,8 @@ returns c =
     let m = c .before .before .before .before .before .before .before .before .before .before .before .before .before .before .before .before .before .before .before .is-marked in
     let e = c .before .before .before .before .before .before .before .before .before .before .before .before .before .before .before .before .before .before .if1 .taken in
     let l = c .before .before .before .before .before .before .before .before .before .before .before .before .before .before .step-item in
-    stepped-twice (q .0) (q .1 .0) (a .i) _ (m .ensures) e _ _ (l .last .1 .1 .1 .1 .0) (l .kept .1 .1 .0) (l .kept .1 .1 .1 .0) (l .kept .1 .1 .1 .1 .0) (l .ensures) (c .before .before .before .before .before .step-marked .ensures)
-
-same-length-4 : tie.Need-same-length-4
-same-length-4 c = search needs
+    stepped-twice (q .0) (q .1 .0) (a .i) _ (m .ensures) e _ _ (l .last .1 .1 .1 .1 .0) (l .kept .1 .1 .0) (l .kept .1 .1 .1 .0) (l .kept .1 .1 .1 .1 .0) (l .ensures)
+    (c .before .before .before .before .before .step-marked .ensures)
 
 returns-2 : tie.Need-returns-2
 returns-2 c =
@@ -55,13 +38,13 @@ pub step-twice-spec : {M : Type 1} → statement M
 step-twice-spec =
     tie.close
     (tie.spec
-    is-marked-requires
+    (λ c κs. search needs)
     step-item-requires
-    add-step-marked
+    (λ c. search needs)
     step-marked-requires
-    same-length
-    same-length-2
-    same-length-3
+    (λ c. search needs)
+    (λ c. search needs)
+    (λ c. search needs)
     returns
-    same-length-4
+    (λ c. search needs)
     returns-2)

@@ -10,22 +10,6 @@ tell-children-requires c κs =
     let q = c .before .before .before .before .before .before .before .before .before .pre in
     (q .0, (ready-memo (q .1 .0) _, (q .1 .0 .older, (q .1 .1 .0, q .1 .1 .1))))
 
-clear-mark-requires : tie.Need-clear-mark-requires
-clear-mark-requires c κs =
-    search needs
-
-same-length : tie.Need-same-length
-same-length c =
-    search needs
-
-same-length-2 : tie.Need-same-length-2
-same-length-2 c =
-    search needs
-
-same-length-3 : tie.Need-same-length-3
-same-length-3 c =
-    search needs
-
 returns : tie.Need-returns
 returns c =
     let q = c .before .before .before .before .before .before .before .before .before .before .before .before .before .before .before .before .before .before .before .pre in
@@ -37,8 +21,8 @@ tell-and-clear-spec =
     tie.close
     (tie.spec
     tell-children-requires
-    clear-mark-requires
-    same-length
-    same-length-2
-    same-length-3
+    (λ c κs. search needs)
+    (λ c. search needs)
+    (λ c. search needs)
+    (λ c. search needs)
     returns)

@@ -4,18 +4,6 @@ use Rattle.table.proofs.Marks.{refresh-read, notice-read, unmarked-read
 use Rattle.table.proofs.is_marked.Statement.{statement}
 use Rattle.table.proofs.is_marked.Tie as tie
 
-mul-at : tie.Need-mul-at
-mul-at c = search needs
-
-add-match : tie.Need-add-match
-add-match c = search needs
-
-shared-slice-read-match : tie.Need-shared-slice-read-match
-shared-slice-read-match c = search needs
-
-shared-slice-read-result : tie.Need-shared-slice-read-result
-shared-slice-read-result c = search needs
-
 returns : tie.Need-returns
 returns c =
     let a = c .before .before .before .args in
@@ -35,10 +23,10 @@ pub is-marked-spec : {M : Type 1} → statement M
 is-marked-spec =
     tie.close
     (tie.spec
-    mul-at
-    add-match
-    shared-slice-read-match
-    shared-slice-read-result
+    (λ c. search needs)
+    (λ c. search needs)
+    (λ c. search needs)
+    (λ c. search needs)
     returns
     returns-2
     returns-3)

@@ -7,16 +7,10 @@ use Rattle.tally.proofs.Tallies.{count-fits, count-is}
 use Rattle.tally.proofs.count.Statement.{statement}
 use Rattle.tally.proofs.count.Tie as tie
 
-tally-of-requires : tie.Need-tally-of-requires
-tally-of-requires c κs = search needs
-
 cast-ruled : tie.Need-cast-ruled
 cast-ruled c =
     let s = c .before .before in
     count-fits _ _ (c .before .tally-of .ensures) (omega (arith, firstValues-length (s .args .kinds .now) (s .args .numbers .now) (s .args .n)))
-
-ruled-requires : tie.Need-ruled-requires
-ruled-requires c κs = search needs
 
 returns : tie.Need-returns
 returns c =
@@ -24,4 +18,4 @@ returns c =
     c .ruled .ensures ∙ count-is _ _ (c .before .before .tally-of .ensures) (omega (arith, firstValues-length (s .args .kinds .now) (s .args .numbers .now) (s .args .n)))
 
 pub count-spec : {M : Type 1} → statement M
-count-spec = tie.close (tie.spec tally-of-requires cast-ruled ruled-requires returns)
+count-spec = tie.close (tie.spec (λ c κs. search needs) cast-ruled (λ c κs. search needs) returns)

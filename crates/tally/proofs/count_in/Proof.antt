@@ -14,15 +14,6 @@ plus-requires c κs =
     let s = c .before .before .before .before in
     next-fits (s .args .t) (s .args .n) (s .pre .0) (s .pre .1) (search needs) (s .fits .n)
 
-lesser-requires : tie.Need-lesser-requires
-lesser-requires c κs = search needs
-
-greater-requires : tie.Need-greater-requires
-greater-requires c κs = search needs
-
-add-t12 : tie.Need-add-t12
-add-t12 c = search needs
-
 returns-2 : tie.Need-returns-2
 returns-2 c =
     let s = c .before .before .before .before .before .before .before in
@@ -32,4 +23,4 @@ returns-2 c =
 
 pub count-in-spec : {M : Type 1} → statement M
 count-in-spec =
-    tie.close (tie.spec returns plus-requires lesser-requires greater-requires add-t12 returns-2)
+    tie.close (tie.spec returns plus-requires (λ c κs. search needs) (λ c κs. search needs) (λ c. search needs) returns-2)

@@ -4,16 +4,10 @@ use Rattle.tally.proofs.Taking.{result-null, result-number}
 use Rattle.tally.proofs.ruled.Statement.{statement}
 use Rattle.tally.proofs.ruled.Tie as tie
 
-returns : tie.Need-returns
-returns c = search needs
-
 returns-2 : tie.Need-returns-2
 returns-2 c =
     let s = c .before .before .before in
     result-null (s .args .t) (s .args .n) (c .before .before .if1 .left) (c .if2 .taken)
-
-exact-requires : tie.Need-exact-requires
-exact-requires c κs = search needs
 
 returns-3 : tie.Need-returns-3
 returns-3 c =
@@ -21,4 +15,4 @@ returns-3 c =
     result-number (s .args .t) (s .args .n) (c .before .before .before .if1 .left) (c .before .if2 .left) (s .fits .n) _ (c .exact .ensures)
 
 pub ruled-spec : {M : Type 1} → statement M
-ruled-spec = tie.close (tie.spec returns returns-2 exact-requires returns-3)
+ruled-spec = tie.close (tie.spec (λ c. search needs) returns-2 (λ c κs. search needs) returns-3)

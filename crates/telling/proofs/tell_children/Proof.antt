@@ -8,10 +8,6 @@ use Rattle.children.proofs.Linking.{left}
 use Rattle.telling.proofs.Children.{Telling, telling-start, telling-memo, child-low, child-figure, child-fresh, edge-low, telling-less, telling-next, telling-done}
 use Rattle.telling.proofs.tell_children.Statement.{statement}
 use Rattle.telling.proofs.tell_children.Tie as tie
-use Rattle.telling.proofs.tell_children.Reads as reads
-use Rattle.telling.proofs.tell_children.Lts as lts
-use Rattle.telling.proofs.tell_child.Reads as tell-child-reads
-use Rattle.telling.proofs.wide.Reads as wide-reads
 
 abbrev Inv-loop : tie.InvT-loop
 Inv-loop sheet offsets table₀ tags₀ numbers₀ heads links generation i edge₀ table tags numbers edge =

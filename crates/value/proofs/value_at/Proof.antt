@@ -6,18 +6,6 @@ use Rattle.value.proofs.Cases.{of-read}
 use Rattle.value.proofs.value_at.Statement.{statement}
 use Rattle.value.proofs.value_at.Tie as tie
 
-element-copy-out-of-parts : tie.Need-element-copy-out-of-parts
-element-copy-out-of-parts c = search needs
-
-mul-of-parts : tie.Need-mul-of-parts
-mul-of-parts c = search needs
-
-element-copy-out-of-parts-2 : tie.Need-element-copy-out-of-parts-2
-element-copy-out-of-parts-2 c = search needs
-
-of-parts-requires : tie.Need-of-parts-requires
-of-parts-requires c κs = search needs
-
 returns : tie.Need-returns
 returns c =
     let s = c .before .before .before in
@@ -27,8 +15,8 @@ pub value-at-spec : {M : Type 1} → statement M
 value-at-spec =
     tie.close
     (tie.spec
-    element-copy-out-of-parts
-    mul-of-parts
-    element-copy-out-of-parts-2
-    of-parts-requires
+    (λ c. search needs)
+    (λ c. search needs)
+    (λ c. search needs)
+    (λ c κs. search needs)
     returns)

@@ -8,14 +8,8 @@ use mir.ValLaws.{toZ-ofZ}
 use Rattle.word.proofs.read_i64.Statement.{statement}
 use Rattle.word.proofs.read_i64.Tie as tie
 
-read-u64-requires : tie.Need-read-u64-requires
-read-u64-requires c κs = search needs
-
-signed-requires : tie.Need-signed-requires
-signed-requires c κs = search needs
-
 returns : tie.Need-returns
 returns c = toZ-ofZ w64 (c .signed .result) (record { sfits = c .signed .ok }) ∙ c .signed .ensures ∙ ap (λ (x : ℕ). toZ w64 x) (c .before .read-u64 .ensures)
 
 pub read-i64-spec : {M : Type 1} → statement M
-read-i64-spec = tie.close (tie.spec read-u64-requires signed-requires returns)
+read-i64-spec = tie.close (tie.spec (λ c κs. search needs) (λ c κs. search needs) returns)

@@ -11,17 +11,12 @@ use Rattle.word.specs.Word.{leBytes}
 use Rattle.word.proofs.write_i64.Statement.{statement}
 use Rattle.word.proofs.write_i64.Tie as tie
 
-unsigned-requires : tie.Need-unsigned-requires
-unsigned-requires c κs = search needs
-
-write-u64-requires : tie.Need-write-u64-requires
-write-u64-requires c κs = search needs
-
-same-length : tie.Need-same-length
-same-length c = search needs
-
 returns : tie.Need-returns
-returns c = c .before .before .write-u64 .ensures ∙ ap (λ (x : ℕ). sets (c .before .before .before .before .before .before .args .s .now) (c .before .before .before .before .before .before .args .at) (leBytes 8 x)) (c .before .before .before .unsigned .ensures ∙ ap (λ (z : ℤ). ofZ w64 z) (toZ-ofZ w64 (c .before .before .before .before .before .before .args .v) (c .before .before .before .before .before .before .fits .v)))
+returns c =
+    c .before .before .write-u64 .ensures
+    ∙ ap
+    (λ (x : ℕ). sets (c .before .before .before .before .before .before .args .s .now) (c .before .before .before .before .before .before .args .at) (leBytes 8 x))
+    (c .before .before .before .unsigned .ensures ∙ ap (λ (z : ℤ). ofZ w64 z) (toZ-ofZ w64 (c .before .before .before .before .before .before .args .v) (c .before .before .before .before .before .before .fits .v)))
 
 pub write-i64-spec : {M : Type 1} → statement M
-write-i64-spec = tie.close (tie.spec unsigned-requires write-u64-requires same-length returns)
+write-i64-spec = tie.close (tie.spec (λ c κs. search needs) (λ c κs. search needs) (λ c. search needs) returns)

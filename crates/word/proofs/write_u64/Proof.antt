@@ -35,7 +35,12 @@ same-length c = simp length-set
 
 returns : tie.Need-returns
 returns c =
-    stored64 (c .before .before .before .before .before .before .before .before .before .args .s .now) (c .before .before .before .before .before .before .before .before .before .args .at) (c .before .before .before .before .before .before .before .before .before .args .x) (c .before .before .before .before .before .before .before .low-byte .ensures) (c .before .before .before .before .before .before .low-byte2 .ensures) (c .before .before .before .before .before .low-byte3 .ensures) (c .before .before .before .before .low-byte4 .ensures) (c .before .before .before .low-byte5 .ensures) (c .before .before .low-byte6 .ensures) (c .before .low-byte7 .ensures) (c .low-byte8 .ensures)
+    stored64 (c .before .before .before .before .before .before .before .before .before .args .s .now)
+    (c .before .before .before .before .before .before .before .before .before .args .at)
+    (c .before .before .before .before .before .before .before .before .before .args .x) (c .before .before .before .before .before .before .before .low-byte .ensures)
+    (c .before .before .before .before .before .before .low-byte2 .ensures) (c .before .before .before .before .before .low-byte3 .ensures)
+    (c .before .before .before .before .low-byte4 .ensures) (c .before .before .before .low-byte5 .ensures) (c .before .before .low-byte6 .ensures)
+    (c .before .low-byte7 .ensures) (c .low-byte8 .ensures)
 
 pub write-u64-spec : {M : Type 1} → statement M
 write-u64-spec =

@@ -4,12 +4,6 @@ use Rattle.value.proofs.Cases.{exact-in, exact-out}
 use Rattle.value.proofs.Value.exact.Statement.{statement}
 use Rattle.value.proofs.Value.exact.Tie as tie
 
-in-range-requires : tie.Need-in-range-requires
-in-range-requires c κs = search needs
-
-number-requires : tie.Need-number-requires
-number-requires c κs = search needs
-
 returns : tie.Need-returns
 returns c =
     let s = c .before .before .before in
@@ -21,4 +15,4 @@ returns-2 c =
     exact-out (s .args .n) _ (s .fits .n) (c .before .in-range .ensures) (c .if1 .left)
 
 pub exact-spec : {M : Type 1} → statement M
-exact-spec = tie.close (tie.spec in-range-requires number-requires returns returns-2)
+exact-spec = tie.close (tie.spec (λ c κs. search needs) (λ c κs. search needs) returns returns-2)

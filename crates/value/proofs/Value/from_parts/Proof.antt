@@ -5,12 +5,6 @@ use Rattle.value.proofs.Cases.{zero-yes, zero-no, parts-none, parts-num
 use Rattle.value.proofs.Value.from_parts.Statement.{statement}
 use Rattle.value.proofs.Value.from_parts.Tie as tie
 
-in-range-requires : tie.Need-in-range-requires
-in-range-requires c κs = search needs
-
-number-requires : tie.Need-number-requires
-number-requires c κs = search needs
-
 returns : tie.Need-returns
 unfolding partsOf
 returns c =
@@ -56,8 +50,8 @@ pub from-parts-spec : {M : Type 1} → statement M
 from-parts-spec =
     tie.close
     (tie.spec
-    in-range-requires
-    number-requires
+    (λ c κs. search needs)
+    (λ c κs. search needs)
     returns
     returns-2
     returns-3

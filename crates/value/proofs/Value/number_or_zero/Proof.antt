@@ -8,15 +8,6 @@ use Rattle.value.proofs.Signed.{back}
 use Rattle.value.proofs.Value.number_or_zero.Statement.{statement}
 use Rattle.value.proofs.Value.number_or_zero.Tie as tie
 
-enum-told : tie.Need-enum-told
-enum-told c = search needs
-
-enum-told-2 : tie.Need-enum-told-2
-enum-told-2 c = search needs
-
-enum-known-a : tie.Need-enum-known-a
-enum-known-a c = search needs
-
 returns : tie.Need-returns
 returns c = sym (ap (λ (a : Amount). numberOf (amountMeaning a)) (c .enum-told .given .1))
 
@@ -28,4 +19,4 @@ returns-3 c =
     back (c .before .a .given .0 .0) (search needs) ∙ sym (ap (λ (a : Amount). numberOf (amountMeaning a)) (c .before .a .given .1))
 
 pub number-or-zero-spec : {M : Type 1} → statement M
-number-or-zero-spec = tie.close (tie.spec enum-told enum-told-2 enum-known-a returns returns-2 returns-3)
+number-or-zero-spec = tie.close (tie.spec (λ c. search needs) (λ c. search needs) (λ c. search needs) returns returns-2 returns-3)

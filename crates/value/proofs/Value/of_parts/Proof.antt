@@ -4,9 +4,6 @@ use Rattle.value.proofs.Cases.{of-number}
 use Rattle.value.proofs.Value.of_parts.Statement.{statement}
 use Rattle.value.proofs.Value.of_parts.Tie as tie
 
-number-requires : tie.Need-number-requires
-number-requires c κs = search needs
-
 returns : tie.Need-returns
 returns c = rw (c .match .keys1)
 
@@ -19,4 +16,4 @@ returns-3 c =
     of-number (s .args .kind) (s .args .number) (c .before .match .rest .0 .1) (c .before .match .rest .1) (s .fits .number) _ (c .number .ensures)
 
 pub of-parts-spec : {M : Type 1} → statement M
-of-parts-spec = tie.close (tie.spec number-requires returns returns-2 returns-3)
+of-parts-spec = tie.close (tie.spec (λ c κs. search needs) returns returns-2 returns-3)
