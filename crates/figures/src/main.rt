@@ -9,6 +9,7 @@ use libc::STDOUT_FILENO;
 use rules::Operation;
 use value::Amount;
 use value::LIMIT;
+use value::MAX_PARENTS;
 use value::Value;
 
 fn write(text: &[u8]) {
@@ -73,8 +74,8 @@ fn worked(op: Operation, n: usize, a: Value, b: Value, c: Value) -> Value
     let first = in_form(a);
     let second = in_form(b);
     let third = in_form(c);
-    let mut kinds = [1u8; 16];
-    let mut numbers = [0i64; 16];
+    let mut kinds = [1u8; MAX_PARENTS];
+    let mut numbers = [0i64; MAX_PARENTS];
     kinds[0] = first.kind();
     numbers[0] = first.number_or_zero();
     kinds[1] = second.kind();

@@ -185,7 +185,12 @@ fn at_least(a: Value, b: Value) -> Value
 }
 
 // A rule's result on the first n values, in order. Elements from n on are not looked at.
-pub fn apply(op: Operation, kinds: &[u8; 16], numbers: &[i64; 16], n: usize) -> Value
+pub fn apply(
+    op: Operation,
+    kinds: &[u8; MAX_PARENTS],
+    numbers: &[i64; MAX_PARENTS],
+    n: usize,
+) -> Value
     requires { ⌜ allows (operationMeaning op) n ≡ true ⌝ ∗ ⌜ allWellFormed (firstValues (now kinds) (now numbers) n) ≡ true ⌝ }
     ensures { λ r. ⌜ Applied op (firstValues (now (kinds .entry)) (now (numbers .entry)) n) r ⌝ }
 {

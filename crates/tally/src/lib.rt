@@ -11,6 +11,7 @@ ghost use Rattle.circuit.specs.WellFormed.{allWellFormed};
 ghost use Rattle.value.specs.Meaning.{meaning, firstValues};
 ghost use Rattle.tally.specs.Tally.{Room, empty, counted, taken, takenAll, ruleResult};
 use value::Amount;
+use value::MAX_PARENTS;
 use value::Value;
 
 // What the rules for any number of parents take from their values.
@@ -94,7 +95,7 @@ fn take_in(t: Tally, v: Value) -> Tally
 }
 
 // The tally of the first n values.
-fn tally_of(kinds: &[u8; 16], numbers: &[i64; 16], n: usize) -> Tally
+fn tally_of(kinds: &[u8; MAX_PARENTS], numbers: &[i64; MAX_PARENTS], n: usize) -> Tally
     requires { ⌜ n ≤ 16 ⌝ ∗ ⌜ allWellFormed (firstValues (now kinds) (now numbers) n) ≡ true ⌝ }
     ensures { λ r. ⌜ r ≡ takenAll empty (firstValues (now (kinds .entry)) (now (numbers .entry)) n) ⌝ }
 {
@@ -127,7 +128,7 @@ fn ruled(t: Tally, n: i64) -> Value
     Value::exact(n)
 }
 
-pub fn sum(kinds: &[u8; 16], numbers: &[i64; 16], n: usize) -> Value
+pub fn sum(kinds: &[u8; MAX_PARENTS], numbers: &[i64; MAX_PARENTS], n: usize) -> Value
     requires { ⌜ n ≤ 16 ⌝ ∗ ⌜ allWellFormed (firstValues (now kinds) (now numbers) n) ≡ true ⌝ }
     ensures { λ r. ⌜ meaning r ≡ rules.apply rules.sum (firstValues (now (kinds .entry)) (now (numbers .entry)) n) ⌝ }
 {
@@ -135,7 +136,7 @@ pub fn sum(kinds: &[u8; 16], numbers: &[i64; 16], n: usize) -> Value
     ruled(t, t.total)
 }
 
-pub fn smallest(kinds: &[u8; 16], numbers: &[i64; 16], n: usize) -> Value
+pub fn smallest(kinds: &[u8; MAX_PARENTS], numbers: &[i64; MAX_PARENTS], n: usize) -> Value
     requires { ⌜ n ≤ 16 ⌝ ∗ ⌜ allWellFormed (firstValues (now kinds) (now numbers) n) ≡ true ⌝ }
     ensures { λ r. ⌜ meaning r ≡ rules.apply rules.smallest (firstValues (now (kinds .entry)) (now (numbers .entry)) n) ⌝ }
 {
@@ -143,7 +144,7 @@ pub fn smallest(kinds: &[u8; 16], numbers: &[i64; 16], n: usize) -> Value
     ruled(t, t.least)
 }
 
-pub fn largest(kinds: &[u8; 16], numbers: &[i64; 16], n: usize) -> Value
+pub fn largest(kinds: &[u8; MAX_PARENTS], numbers: &[i64; MAX_PARENTS], n: usize) -> Value
     requires { ⌜ n ≤ 16 ⌝ ∗ ⌜ allWellFormed (firstValues (now kinds) (now numbers) n) ≡ true ⌝ }
     ensures { λ r. ⌜ meaning r ≡ rules.apply rules.largest (firstValues (now (kinds .entry)) (now (numbers .entry)) n) ⌝ }
 {
@@ -151,7 +152,7 @@ pub fn largest(kinds: &[u8; 16], numbers: &[i64; 16], n: usize) -> Value
     ruled(t, t.greatest)
 }
 
-pub fn count(kinds: &[u8; 16], numbers: &[i64; 16], n: usize) -> Value
+pub fn count(kinds: &[u8; MAX_PARENTS], numbers: &[i64; MAX_PARENTS], n: usize) -> Value
     requires { ⌜ n ≤ 16 ⌝ ∗ ⌜ allWellFormed (firstValues (now kinds) (now numbers) n) ≡ true ⌝ }
     ensures { λ r. ⌜ meaning r ≡ rules.apply rules.count (firstValues (now (kinds .entry)) (now (numbers .entry)) n) ⌝ }
 {

@@ -174,7 +174,7 @@ impl Value {
 }
 
 // The k-th of the parents' values, of which two arrays have the kinds and the numbers.
-pub fn value_at(kinds: &[u8; 16], numbers: &[i64; 16], k: usize) -> Value
+pub fn value_at(kinds: &[u8; MAX_PARENTS], numbers: &[i64; MAX_PARENTS], k: usize) -> Value
     requires { ⌜ k < 16 ⌝ }
     ensures { λ r. ⌜ meaning r ≡ valueAt (now (kinds .entry)) (now (numbers .entry)) k ⌝ }
 {
