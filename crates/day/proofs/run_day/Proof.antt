@@ -1,7 +1,6 @@
 -- `day::run_day` meets its contract. Assumes nothing.
 use Rattle.day.proofs.Running.{front-length, ran-whole}
 use borrow.Author.Needs.{needs}
-use Rattle.layout.specs.Index.{indexWidth}
 use Rattle.day.proofs.run_day.Statement.{statement}
 use Rattle.day.proofs.run_day.Tie as tie
 
@@ -12,7 +11,6 @@ slice-aggregate-day-on-2 : tie.Need-slice-aggregate-day-on-2
 slice-aggregate-day-on-2 c = front-length _ _ _ (c .before .before .lesser2 .ensures)
 
 returns : tie.Need-returns
-unfolding indexWidth
 returns c =
     let call = c .before .before .before .before .before .before in
     let right = call .before .before .before .before in
