@@ -7,6 +7,9 @@ use Rattle.day_meaning.proofs.Room.{day-shown}
 use Rattle.day_main.proofs.show_day.Statement.{statement}
 use Rattle.day_main.proofs.show_day.Tie as tie
 
+slice-reshare-prefix-write-all : tie.Need-slice-reshare-prefix-write-all
+slice-reshare-prefix-write-all c = search needs
+
 slice-aggregate-write-all : tie.Need-slice-aggregate-write-all
 slice-aggregate-write-all c = sym (length-take-le _ _ (slice-reshare-prefix-write-all (c .before)))
 
