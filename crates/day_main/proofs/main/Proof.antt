@@ -1,12 +1,12 @@
 -- `day_main::main` lends what `show_day` asks for. Assumes nothing.
 use native.Mathlib.Omega.{arith}
 use borrow.Author.Needs.{needs}
-use Rattle.layout.specs.Layout.{mostItems}
+use Rattle.layout.specs.Layout.{mostItems, itemLimit}
 use Rattle.day_main.proofs.main.Statement.{statement}
 use Rattle.day_main.proofs.main.Tie as tie
 
 show-day-requires : tie.Need-show-day-requires
-unfolding mostItems
+unfolding mostItems itemLimit
 show-day-requires c κs =
     record { sheet-fits = omega arith; log-fits = omega arith; index-room = omega arith; table-room = omega arith; output-room = omega arith }
 
