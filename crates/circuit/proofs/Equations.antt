@@ -1,18 +1,24 @@
 -- The equations of specs/Equations hold. Assumes nothing.
 use Prim.Native.Nat.{ℕ}
-use mathlib.Core.Path.{_≡_, refl, ap, _∙_}
+use mathlib.Core.Path.{_≡_, refl, sym, ap, _∙_}
+use mathlib.Core.Bool.{Bool, true, false, cond}
+use mathlib.Core.Logic.{_⊎_, inl, inr}
 use mathlib.Core.Option.{some}
 use borrow.Author.Tests.{le-leb, lt-leb}
-use Rattle.circuit.specs.Sheet.{Sheet, size, Ordered, Entries}
-use Rattle.circuit.specs.Table.{Table}
-use Rattle.circuit.specs.Machine.{gather, workOutBy, lookCell, lookUp, workOut, lowestMarked}
+use Rattle.circuit.specs.Sheet.{Sheet, defer, renew, size, itemAt, parents, spreadOf, member, Ordered, Entries}
+use Rattle.circuit.specs.Table.{Table, Mark, unmarked, refresh, notice, held, upd, isNotice}
+use Rattle.circuit.specs.Value.{Value, same}
+use Rattle.circuit.specs.Circuit.{Listed}
+use Rattle.circuit.specs.Machine.{gather, workOutBy, lookCell, lookUp, workOut, refreshCleared, renewChild, deferChild, tellStored, tellCell, tellChild, tellIf, tellBelow, tell, lowestMarked}
 use Rattle.circuit.specs.Fresh.{give, freshAsk, giveItem}
 use Rattle.circuit.specs.Words.{CaughtUp, still, stepped}
-use Rattle.circuit.specs.Equations.{LookingUp, FreshGives, MarkedFirst, Lowest, Equations}
+use Rattle.circuit.specs.Equations.{LookingUp, TellingChild, Telling, FreshGives, MarkedFirst, LowestFound, Equations}
 use Rattle.circuit.proofs.View.{never}
 use Rattle.circuit.proofs.Fill.{lookUp-is}
 use Rattle.circuit.proofs.Solution.{give-equation}
-use Rattle.circuit.proofs.Closure.{lowest-marked}
+use Rattle.circuit.proofs.Closure.{lowest-marked, member-listed}
+use Rattle.circuit.proofs.Tell.{listed-member}
+use Rattle.circuit.proofs.RuleLaws.{same-true, same-refl}
 use Rattle.circuit.proofs.CatchUp.{lowest-none, lowest-some, none-quiet, some-quiet, catchUp-quiet, catchUp-ends}
 
 looking-up : (S : Sheet) → Ordered S → (T : Table) → LookingUp S T
@@ -27,6 +33,67 @@ looking-up S ordered T =
       next-gathered = λ p ps. refl;
     }
 
+-- values that differ are told apart
+unlike : (v w : Value) → (¬ (w ≡ v)) → same v w ≡ false
+unlike v w n = go (same v w) refl
+  where
+    go : (b : Bool) → same v w ≡ b → b ≡ false
+    go true e = absurd (n (sym (same-true v w e)))
+    go false e = refl
+
+module _ (S : Sheet) (T : Table) (c : ℕ) where
+  -- a stored child that is renewed
+  renewal : (v : Value) (m : Mark) → tellChild S T c ≡ renewChild S T c v m
+      → ((workOut S T c .value ≡ v) → tellChild S T c ≡ upd (workOut S T c .table) c (held v (refreshCleared m)))
+      × ((¬ (workOut S T c .value ≡ v)) → tellChild S T c ≡ upd (workOut S T c .table) c (held (workOut S T c .value) notice))
+  renewal v m is = (
+    λ e. is ∙ by true (ap (same v) e ∙ same-refl v),
+    λ n. is ∙ by false (unlike v (workOut S T c .value) n),
+  )
+    where
+      by : (b : Bool) → same v (workOut S T c .value) ≡ b
+          → renewChild S T c v m ≡ upd (workOut S T c .table) c (cond b (held v (refreshCleared m)) (held (workOut S T c .value) notice))
+      by b e = ap (λ x. upd (workOut S T c .table) c (cond x (held v (refreshCleared m)) (held (workOut S T c .value) notice))) e
+
+  telling-child : TellingChild S T c
+  unfolding tellChild
+  telling-child =
+      record {
+        unstored = λ f e. ap (tellCell S T c) e;
+        forgets = λ v m e s. ap (tellCell S T c) e ∙ ap (λ x. tellStored x S T c v m) s;
+        defers = λ v m e s n. ap (tellCell S T c) e ∙ ap (λ x. tellStored x S T c v m) s ∙ deferred v m n;
+        renews = λ v m e how. renewal v m (ap (tellCell S T c) e ∙ by v m how);
+      }
+    where
+      deferred : (v : Value) (m : Mark) → isNotice m ≡ false → deferChild S T c v m ≡ upd T c (held v refresh)
+      deferred v unmarked n = refl
+      deferred v refresh n = refl
+      deferred v notice n = never (cc)
+
+      awaiting : (v : Value) (m : Mark) → isNotice m ≡ true → deferChild S T c v m ≡ renewChild S T c v m
+      awaiting v unmarked n = never (cc)
+      awaiting v refresh n = never (cc)
+      awaiting v notice n = refl
+
+      by : (v : Value) (m : Mark) → (spreadOf (itemAt S c) ≡ renew) ⊎ ((spreadOf (itemAt S c) ≡ defer) × (isNotice m ≡ true))
+          → tellStored (spreadOf (itemAt S c)) S T c v m ≡ renewChild S T c v m
+      by v m (inl s) = ap (λ x. tellStored x S T c v m) s
+      by v m (inr (s, n)) = ap (λ x. tellStored x S T c v m) s ∙ awaiting v m n
+
+telling : (S : Sheet) (i : ℕ) (T : Table) → Telling S i T
+unfolding tell tellBelow
+telling S i T =
+    record {
+      all = refl;
+      none-told = refl;
+      child-told = λ k l. ap (λ b. tellIf b S (tellBelow S i T k) k) (listed-member i (parents S k) l);
+      passed-over = λ k n. ap (λ b. tellIf b S (tellBelow S i T k) k) (unlisted (member i (parents S k)) k n refl);
+    }
+  where
+    unlisted : (b : Bool) (k : ℕ) → ¬ Listed i (parents S k) → member i (parents S k) ≡ b → b ≡ false
+    unlisted true k n e = absurd (n (member-listed i (parents S k) e))
+    unlisted false k n e = refl
+
 fresh-gives : (S : Sheet) → Ordered S → (E : Entries) → FreshGives S E
 unfolding freshAsk
 fresh-gives S ordered E =
@@ -37,7 +104,7 @@ fresh-gives S ordered E =
       ofNone = λ i high. rw (le-leb (size S) i high);
     }
 
-lowest-item : (T : Table) (n : ℕ) → Lowest T n
+lowest-item : (T : Table) (n : ℕ) → LowestFound T n
 lowest-item T n =
     record {
       no-item = (none-quiet T n, lowest-none T n);
@@ -60,6 +127,8 @@ pub equations : Equations
 equations =
     record {
       looking = looking-up;
+      telling-child = telling-child;
+      telling = telling;
       fresh = fresh-gives;
       lowest = lowest-item;
       catching = λ S ordered T.

@@ -38,7 +38,7 @@ pub record TellsOne (S : Sheet) (T : Table) (c : ℕ) (U : Table) : Type 0 where
   pub told : Told S T c cell
   pub after : U ≡ upd between c cell
 
-listed-member : (i : ℕ) (ps : List ℕ) → Listed i ps → member i ps ≡ true
+pub listed-member : (i : ℕ) (ps : List ℕ) → Listed i ps → member i ps ≡ true
 unfolding member
 listed-member i [] l = absurd l
 listed-member i (p ∷ ps) (inl e) = rw (eq-eqb i p e)

@@ -1,17 +1,18 @@
 -- Looking up, working out, catching up and the fresh office recurse with a bound on the depth or on the number of steps,
--- which 01 does not have. Here are their equations without a bound, in 01's words, for every sheet whose parents have
+-- which 01 does not have. Here are their equations without a bound, and those of telling, in 01's words, for every sheet whose parents have
 -- lower numbers, every table and every item. Proved in proofs/Equations. Assumes nothing.
-use Prim.Native.Nat.{ℕ, _<_, _≤_}
+use Prim.Native.Nat.{ℕ, suc, _<_, _≤_}
 use mathlib.Core.Path.{_≡_}
-use mathlib.Core.Logic.{_↔_}
+use mathlib.Core.Logic.{_⊎_, _↔_}
 use mathlib.Core.Bool.{Bool, true, false, _||_}
 use mathlib.Core.List.{List, [], _∷_, map}
 use mathlib.Core.Option.{none, some}
 use Rattle.circuit.specs.Value.{Value}
 use Rattle.circuit.specs.Rules.{Operation, apply}
-use Rattle.circuit.specs.Sheet.{Sheet, Spread, entry, figure, size, itemAt, Ordered, Entries}
-use Rattle.circuit.specs.Table.{Table, Mark, unk, held, upd, isNotice, noticeIf, isMarked}
-use Rattle.circuit.specs.Machine.{Looked, looked, Gathered, gathered, gather, lookUp, workOut, lowestMarked, catchUp}
+use Rattle.circuit.specs.Sheet.{Sheet, Spread, defer, renew, forget, entry, figure, size, itemAt, parents, spreadOf, Ordered, Entries}
+use Rattle.circuit.specs.Table.{Table, Mark, refresh, notice, unk, held, upd, isNotice, noticeIf, isMarked}
+use Rattle.circuit.specs.Machine.{Looked, looked, Gathered, gathered, gather, lookUp, workOut, refreshCleared, tellChild, tellBelow, tell, lowestMarked, catchUp}
+use Rattle.circuit.specs.Circuit.{Listed}
 use Rattle.circuit.specs.Fresh.{give, freshAsk}
 use Rattle.circuit.specs.Words.{Quiet, CaughtUp}
 
@@ -45,6 +46,29 @@ pub record LookingUp (S : Sheet) (T : Table) : Type 0 where
       let g : Gathered = gather (lookUp S) (r .table) ps in
       gather (lookUp S) T (p ∷ ps) ≡ gathered (g .table) (r .value ∷ g .values) (r .flag || g .flag)
 
+-- 01's "telling" a child c, by its cell and its spread; `r` is what working it out gives.
+pub record TellingChild (S : Sheet) (T : Table) (c : ℕ) : Type 0 where
+  -- An UNK child gets notice.
+  pub unstored : (f : Bool) → T c ≡ unk f → tellChild S T c ≡ upd T c (unk true)
+  -- Forget makes it UNK with notice.
+  pub forgets : (v : Value) (m : Mark) → T c ≡ held v m → spreadOf (itemAt S c) ≡ forget → tellChild S T c ≡ upd T c (unk true)
+  -- Defer sets refresh, unless its mark is notice, when it acts as renew.
+  pub defers : (v : Value) (m : Mark) → T c ≡ held v m → spreadOf (itemAt S c) ≡ defer → isNotice m ≡ false
+      → tellChild S T c ≡ upd T c (held v refresh)
+  pub renews : (v : Value) (m : Mark) → T c ≡ held v m
+      → (spreadOf (itemAt S c) ≡ renew) ⊎ ((spreadOf (itemAt S c) ≡ defer) × (isNotice m ≡ true))
+      → let r : Looked = workOut S T c in
+      -- Renew works it out; if different, store it with notice; if equal, clear a refresh and let a notice be.
+      ((r .value ≡ v) → tellChild S T c ≡ upd (r .table) c (held v (refreshCleared m)))
+      × ((¬ (r .value ≡ v)) → tellChild S T c ≡ upd (r .table) c (held (r .value) notice))
+
+-- Telling goes over the children, lowest first, once each: the children of i below k, and then item k if it is one.
+pub record Telling (S : Sheet) (i : ℕ) (T : Table) : Type 0 where
+  pub all : tell S T i ≡ tellBelow S i T (size S)
+  pub none-told : tellBelow S i T 0 ≡ T
+  pub child-told : (k : ℕ) → Listed i (parents S k) → tellBelow S i T (suc k) ≡ tellChild S (tellBelow S i T k) k
+  pub passed-over : (k : ℕ) → ¬ Listed i (parents S k) → tellBelow S i T (suc k) ≡ tellBelow S i T k
+
 -- What the fresh office gives, with the entries E as its state.
 pub record FreshGives (S : Sheet) (E : Entries) : Type 0 where
   -- asked for an item of the sheet it gives a value
@@ -64,7 +88,7 @@ pub record MarkedFirst (T : Table) (n i : ℕ) : Type 0 where
   pub first : (j : ℕ) → j < i → isMarked (T j) ≡ false
 
 -- The lowest marked item is what it is called: there is none exactly if no item below n is marked.
-pub record Lowest (T : Table) (n : ℕ) : Type 0 where
+pub record LowestFound (T : Table) (n : ℕ) : Type 0 where
   pub no-item : (lowestMarked T n ≡ none) ↔ ((i : ℕ) → i < n → isMarked (T i) ≡ false)
   pub item : (i : ℕ) → (lowestMarked T n ≡ some i) ↔ MarkedFirst T n i
 
@@ -77,6 +101,8 @@ pub record CatchingUp (S : Sheet) (T : Table) : Type 0 where
 
 pub record Equations : Type 0 where
   pub looking : (S : Sheet) → Ordered S → (T : Table) → LookingUp S T
+  pub telling-child : (S : Sheet) (T : Table) (c : ℕ) → TellingChild S T c
+  pub telling : (S : Sheet) (i : ℕ) (T : Table) → Telling S i T
   pub fresh : (S : Sheet) → Ordered S → (E : Entries) → FreshGives S E
-  pub lowest : (T : Table) (n : ℕ) → Lowest T n
+  pub lowest : (T : Table) (n : ℕ) → LowestFound T n
   pub catching : (S : Sheet) → Ordered S → (T : Table) → CatchingUp S T

@@ -1,6 +1,6 @@
 -- 01's fresh office, a plain machine beside the engine. It is fed the sheet, the calls' arguments and the postings that a
--- later request's call makes, and nothing else from an index or work table: nothing here names a cell, a table, or what a
--- call of the engine tests or does. Assumes nothing.
+-- later request's call makes, and nothing else from an index or work table: nothing here names a cell or a table, or what a
+-- call of the engine tests or does; 11 and 12 are read off the sheet. Assumes nothing.
 use Prim.Native.Nat.{ℕ, zero, suc}
 use mathlib.Core.Bool.{Bool, cond, not, _&&_, _||_}
 use mathlib.Core.List.{List, [], _∷_, map}
@@ -12,7 +12,7 @@ use Rattle.circuit.specs.Rules.{apply}
 use Rattle.circuit.specs.Sheet.{Sheet, Item, entry, figure, itemAt, isFigure, beyond, Entries}
 use Rattle.circuit.specs.Call.{Call, post, keep, drop, step, ask, Posting}
 
--- what it is fed besides the sheet: a call's arguments, or a posting that a later request's call makes
+-- what it is fed besides the sheet: a call's arguments, or a posting that a later request's call makes (no call makes one yet)
 pub data Event : Type 0 where
   called : Call → Event
   posted : Posting → Event

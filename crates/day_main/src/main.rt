@@ -1,7 +1,7 @@
 // The day program: reads a sheet and a day log from the files sheet.bin and day.bin, and prints the day's lines.
 ghost use Rattle.io.specs.Counts.{Counts};
 ghost use Rattle.day_meaning.specs.Day.{runDay};
-ghost use Rattle.day_meaning.specs.Room.{Lent, Shown};
+ghost use Rattle.day_meaning.specs.Room.{DayLent, Shown};
 use libc::STDOUT_FILENO;
 use limits::INDEX_WIDTH;
 use limits::ITEM_LIMIT;
@@ -14,7 +14,7 @@ const INDEX_ROOM: usize = INDEX_WIDTH * ITEM_LIMIT;
 
 const TABLE_ROOM: usize = table::WIDTH * ITEM_LIMIT;
 
-// The most output of a day: so many bytes for each byte of its log, and so many more.
+// The most output of a day whose sheet opens: so many bytes for each byte of its log, and so many more.
 const TEXT_PER_BYTE: usize = 6;
 
 const TEXT_BESIDES: usize = 13;
@@ -36,7 +36,7 @@ fn load(path: &[u8], bytes: &mut [u8]) -> usize
 
 // Runs the day with lent bytes, which are enough for its whole text, and writes its lines to standard output.
 fn show_day(sheet: &[u8], log: &[u8], index: &mut [u8], table: &mut [u8], out: &mut [u8])
-    requires { ⌜ Lent (now sheet) (now log) (now index) (now table) (now out) ⌝ }
+    requires { ⌜ DayLent (now sheet) (now log) (now index) (now table) (now out) ⌝ }
     ensures { λ r. ⌜ Shown (runDay (now (sheet .entry)) (now (log .entry)) (now (index .entry)) (now (table .entry))) (now (out .entry)) (now (index .exit)) (now (table .exit)) (now (out .exit)) ⌝ }
 {
     let n = day::run_day(sheet, log, index, table, out);

@@ -18,7 +18,7 @@ use Rattle.printer.proofs.Causes.{not-zero}
 use Rattle.field.specs.Field.{cutAt}
 use Rattle.field.specs.declared.Cut.{Cut}
 use Rattle.field.specs.declared.Cut.the-variants.{Field, Short, Absent}
-use Rattle.layout.specs.Read.{contentAt}
+use Rattle.layout.specs.Content.{contentAt}
 use Rattle.day_meaning.specs.Orders.{postTag, askTag, keepTag, dropTag, stepTag, postLength, callLength, itemIn, kindIn, numberIn, postIn, callIn, orderOf}
 use Rattle.day_meaning.specs.Day.{played, faultLine, playOrder, playCut, playFrom}
 use Rattle.day_meaning.specs.Causes.{FieldWrong, tagUnknown, postLengthOther, callLengthOther, kindOther, nullNotZero, DayFault, short, wrong, DaySound, ends, orders}

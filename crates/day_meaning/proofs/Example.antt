@@ -9,7 +9,8 @@ use Rattle.circuit.specs.Sheet.{member}
 use Rattle.circuit.specs.Value.{limit, inRange}
 use Rattle.layout.specs.Index.{indexBytes}
 use Rattle.layout.specs.Layout.{editionKnown, itemLimit, countAllowed, levelLimit, keepAllowed, spreadAllowed, nameLimit, all, nameAllowed, highest, spreadMeant, machineItem}
-use Rattle.layout.specs.Read.{parentsIn, itemIn, lengthOrName, headTests, itemTests, lastTests, scan, scanSheet, readSheet}
+use Rattle.layout.specs.Content.{parentsIn, itemIn}
+use Rattle.layout.specs.Read.{lengthOrName, headTests, itemTests, lastTests, scan, scanSheet, readSheet}
 use Rattle.layout.specs.Write.{concat}
 use Rattle.table.specs.Bytes.{encodeTable, tableForm}
 use Rattle.table.specs.Record.{encodeCell, decodeCell, codesForm, numberForm, recordForm}

@@ -19,7 +19,8 @@ use Rattle.field.specs.Field.{cutAt, le16, le16At}
 use Rattle.field.specs.declared.Cut.{Cut}
 use Rattle.field.specs.declared.Cut.the-variants.{Field, Short, Absent}
 use Rattle.field.proofs.Cutting.{FieldAt, field-iff, absent-iff}
-use Rattle.layout.specs.Read.{Placed, opens, readSheet, contentAt, headContent, headNext, countIn}
+use Rattle.layout.specs.Read.{Placed, opens, readSheet, headContent, headNext}
+use Rattle.layout.specs.Content.{contentAt, countIn}
 use Rattle.layout.specs.Layout.{headTag}
 use Rattle.layout.proofs.Scan.{opened, opened-length}
 use Rattle.office.specs.Office.{callOn, keeping}

@@ -13,7 +13,7 @@ use Rattle.field.specs.Field.{cutAt}
 use Rattle.field.specs.declared.Cut.{Cut}
 use Rattle.field.specs.declared.Cut.the-variants.{Field, Short, Absent}
 use Rattle.field.proofs.Cutting.{FieldAt, field-iff}
-use Rattle.layout.specs.Read.{contentAt}
+use Rattle.layout.specs.Content.{contentAt}
 use Rattle.office.specs.Office.{Given, callOn, keeping}
 use Rattle.printer.specs.Printing.{textOf}
 use Rattle.value.specs.Meaning.{partsOf}

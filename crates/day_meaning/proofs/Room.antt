@@ -17,7 +17,8 @@ use Rattle.field.specs.declared.Cut.{Cut}
 use Rattle.field.specs.declared.Cut.the-variants.{Field, Short, Absent}
 use Rattle.field.proofs.Cutting.{FieldAt, field-iff, le16-small}
 use Rattle.layout.specs.Index.{indexWidth}
-use Rattle.layout.specs.Read.{Placed, SheetRead, opens, refused, readSheet, contentAt}
+use Rattle.layout.specs.Read.{Placed, SheetRead, opens, refused, readSheet}
+use Rattle.layout.specs.Content.{contentAt}
 use Rattle.layout.specs.Opened.{sheetRead}
 use Rattle.layout.proofs.Causes.{refused-number, refused-offset}
 use Rattle.layout.proofs.Scan.{opened-count}
@@ -34,7 +35,7 @@ use Rattle.printer.proofs.Meaning.{part-small}
 use Rattle.day_meaning.specs.Lines.{noLine, askLine, lastLine, sheetWord, dayWord, space, lineEnd}
 use Rattle.day_meaning.specs.Orders.{postTag, askTag, keepTag, dropTag, stepTag, postLength, callLength, itemIn, kindIn, numberIn, kindAllowed, postIn, callIn, orderOf}
 use Rattle.day_meaning.specs.Day.{answerLine, readingLine, lineOf, faultNumber, faultLine, playFrom, dayBy, dayOn, countSaid, indexSize, tableSize, runDay, Ran}
-use Rattle.day_meaning.specs.Room.{fileLimit, textPerByte, textBesides, outputRoom, Lent, Shown}
+use Rattle.day_meaning.specs.Room.{fileLimit, textPerByte, textBesides, outputRoom, DayLent, Shown}
 use Rattle.day_meaning.proofs.Storing.{part-whole}
 use Rattle.day_meaning.proofs.Playing.{play-absent, play-short, play-fault, play-call}
 use Rattle.day_meaning.proofs.Laws.{item-count}
@@ -250,7 +251,7 @@ text-room s d x t b m n = go (openOn bare s (keeping x t) .number) refl
         omega (arith, last-short sheetWord (suc k) (openOn bare s (keeping x t) .offset) (omega arith) (omega arith))
 
 -- What the program lends is enough: the whole text of the day is in the output.
-pub day-shown : {s d x t out x′ t′ out′ : List ℕ} {count : ℕ} → Lent s d x t out → Bytes d → Ran (runDay s d x t) out count x′ t′ out′
+pub day-shown : {s d x t out x′ t′ out′ : List ℕ} {count : ℕ} → DayLent s d x t out → Bytes d → Ran (runDay s d x t) out count x′ t′ out′
     → Shown (runDay s d x t) out x′ t′ out′ × (count ≡ length (runDay s d x t .text))
 day-shown {s} {d} {x} {t} {out} l b r =
     let fits : length (runDay s d x t .text) ≤ length out =
@@ -265,7 +266,7 @@ day-shown {s} {d} {x} {t} {out} l b r =
     )
 
 -- and no sheet is turned back for want of index or table
-pub day-opens : {s d x t out : List ℕ} {edition : ℕ} {ps : List Placed} → Lent s d x t out → readSheet s ≡ opens edition ps
+pub day-opens : {s d x t out : List ℕ} {edition : ℕ} {ps : List Placed} → DayLent s d x t out → readSheet s ≡ opens edition ps
     → openOn bare s (keeping (take (indexSize s) x) (take (tableSize s) t)) .number ≡ 0
 unfolding openOn firstCause mostItems
 day-opens {s} {d} {x} {t} {out} {edition} {ps} l e =

@@ -8,7 +8,7 @@ use lib.ListN.{length}
 use Rattle.circuit.specs.Call.{Call}
 use Rattle.field.specs.Field.{cutAt}
 use Rattle.field.specs.declared.Cut.the-variants.{Field, Short, Absent}
-use Rattle.layout.specs.Read.{contentAt}
+use Rattle.layout.specs.Content.{contentAt}
 use Rattle.day_meaning.specs.Orders.{postTag, askTag, keepTag, dropTag, stepTag, postLength, callLength, kindIn, numberIn, orderOf}
 
 -- tag unknown, length or posted kind wrong, or kind 1 with a number not 0

@@ -8,12 +8,12 @@ use mathlib.Core.Option.{Option, none, some}
 use lib.Dec.{ltb}
 use lib.ListN.{length, take}
 use lib.ListN
-use Rattle.circuit.specs.Call.{Call, post, keep, drop, step, ask}
-use Rattle.circuit.specs.Call.{bare}
+use Rattle.circuit.specs.Call.{Call, post, keep, drop, step, ask, bare}
 use Rattle.field.specs.Field.{cutAt}
 use Rattle.field.specs.declared.Cut.{Cut}
 use Rattle.field.specs.declared.Cut.the-variants.{Field, Short, Absent}
-use Rattle.layout.specs.Read.{contentAt, headContent, headNext, countIn}
+use Rattle.layout.specs.Content.{contentAt, countIn}
+use Rattle.layout.specs.Read.{headContent, headNext}
 use Rattle.layout.specs.Index.{indexWidth}
 use Rattle.table.specs.Record.{width}
 use Rattle.office.specs.Office.{Given, openOn, callOn, keeping}

@@ -12,7 +12,7 @@ use Rattle.day_meaning.specs.Day.{Day}
 abbrev pub fileLimit : ℕ
 fileLimit = 65_536
 
--- the most output of a day: so many bytes for each byte of its log, and so many more
+-- the most output of a day whose sheet opens: so many bytes for each byte of its log, and so many more
 abbrev pub textPerByte : ℕ
 textPerByte = 6
 
@@ -30,7 +30,7 @@ abbrev pub tableRoom : ℕ
 tableRoom = width * mostItems
 
 -- what the program lends: a sheet, a day log, an index, a table and output bytes
-pub record Lent (s d x t out : List ℕ) : Type 0 where
+pub record DayLent (s d x t out : List ℕ) : Type 0 where
   pub sheet-fits : length s ≤ fileLimit
   pub log-fits : length d ≤ fileLimit
   pub index-room : length x ≡ indexRoom

@@ -1,4 +1,5 @@
--- What stands at an offset of a list of bytes: a whole field, a field that runs past the end, or nothing. The bytes that a field is.
+-- What stands at an offset of a list of bytes: a whole field, a field that runs past the end, or nothing. The bytes that a field is. Assumes
+-- nothing.
 use Prim.Native.Nat.{ℕ, _+_, _*_, _/_, _%_}
 use mathlib.Core.List.{List, _∷_}
 use mathlib.Core.Bool.{cond}

@@ -14,7 +14,7 @@ use Rattle.field.specs.Field.{lenAt, le16At, le16, headerLength}
 use Rattle.circuit.specs.Rules.{Operation, operationOf, countAllowed, coded, allowed}
 use Rattle.circuit.specs.Sheet.{entry, figure, isFigure, parentsOf, keptOf, spreadOf, defer, renew, forget}
 use Rattle.layout.specs.Layout.{figureTag, machineItem, spreadMeant, operationOr, ruleAt, keepAt, spreadAt, parentCountAt, parentsAt, parentWidth, parentAt}
-use Rattle.layout.specs.Read.{itemIn, parentIn, parentsIn}
+use Rattle.layout.specs.Content.{itemIn, parentIn, parentsIn}
 use Rattle.layout.proofs.Scan.{allowed-operation}
 use Rattle.layout.proofs.Items.{parents-count}
 use Rattle.layout.proofs.IndexLaws.{parents-most}

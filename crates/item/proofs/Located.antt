@@ -14,7 +14,8 @@ use Rattle.field.proofs.Cutting.{field-iff, content-length}
 use Rattle.circuit.specs.Rules.{maxParents}
 use Rattle.circuit.specs.Sheet.{figure, size, itemAt, parentsOf, Ordered}
 use Rattle.layout.specs.Layout.{LayoutItem, figureTag, ruleAllowed, keepAllowed, spreadAllowed, machineItem, ruleAt, parentCountAt, mostItems}
-use Rattle.layout.specs.Read.{contentAt, countIn, ruleIn, keepIn, spreadIn, parentCountIn, parentsIn, itemIn, lengthOrName, ruleWrong, Placed, headContent, SheetRead, opens, refused, readSheet}
+use Rattle.layout.specs.Content.{contentAt, countIn, ruleIn, keepIn, spreadIn, parentCountIn, parentsIn, itemIn}
+use Rattle.layout.specs.Read.{lengthOrName, ruleWrong, Placed, headContent, SheetRead, opens, refused, readSheet}
 use Rattle.layout.specs.Opened.{placedFrom, itemsOf, sheetRead, sheetFrom, sheetOf, offsetsOf, Located}
 use Rattle.layout.proofs.Scan.{placedAt, offset-placed, ItemRead, passes, scan-item, opened, opened-length, opened-count, most-small, opened-ordered, machine-item, and-left}
 use Rattle.layout.proofs.Items.{figure-parts, parents-count}

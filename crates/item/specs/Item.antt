@@ -10,7 +10,7 @@ use Rattle.field.specs.Field.{lenAt, headerLength}
 use Rattle.circuit.specs.Rules as rules
 use Rattle.circuit.specs.Sheet as circuit
 use Rattle.layout.specs.Layout.{figureTag, ruleAllowed, machineItem, ruleAt, keepAt, spreadAt, parentCountAt, parentAt}
-use Rattle.layout.specs.Read.{contentAt, itemIn}
+use Rattle.layout.specs.Content.{contentAt, itemIn}
 use Rattle.rules.specs.Operations.{operationMeaning, allows}
 use Rattle.rules.specs.declared.Operation.{Operation}
 use Rattle.item.specs.declared.Spread.{Spread}

@@ -17,7 +17,8 @@ use Rattle.field.specs.declared.Cut.the-variants.{Field, Short, Absent}
 use Rattle.field.proofs.Cutting.{Cutting, absent, no-header, no-content, whole, cutting, field-iff, content-length}
 use Rattle.circuit.specs.Calls.{Test, firstCause}
 use Rattle.layout.specs.Layout.{headTag, entryTag, figureTag, levelLimit, editionKnown, countAllowed, lastTag, headLength}
-use Rattle.layout.specs.Read.{contentAt, editionIn, countIn, itemIn, Placed, itemLevel, lengthOrName, parentWrong, levelWrong, headTests, itemTests, lastTests, judge, Scan, going, stopped, goOn, headNext, scan, afterLast, scanEnd, scanLast, headContent, scanSheet, SheetRead, opens, refused, conclude, readSheet}
+use Rattle.layout.specs.Content.{contentAt, editionIn, countIn, itemIn}
+use Rattle.layout.specs.Read.{Placed, itemLevel, lengthOrName, parentWrong, levelWrong, headTests, itemTests, lastTests, judge, Scan, going, stopped, goOn, headNext, scan, afterLast, scanEnd, scanLast, headContent, scanSheet, SheetRead, opens, refused, conclude, readSheet}
 use Rattle.layout.specs.Causes.{Place, first, item, last, after, fieldOffset, editionOf, itemCount, fieldNumber, InSheet, Before, offsetOf, tagOf, lengthOf, contentOf, levelsBefore, itemLevelOf, NotWhole, RunsPastOrAbsent, WrongTagOrTrailing, WrongLengthOrName, WrongItemLength, WrongEditionOrCount, WrongRuleKeepSpreadOrCount, ParentNotBelow, LevelAbove, CauseAt, cause1, cause2, cause3, cause4, cause5, cause6, cause7, Sound, Faultless, FirstFault}
 use Rattle.layout.proofs.Scan.{Extended, scan-extended, scan-length, scan-prefix, head-read, Faulted, scan-faulted, offsetFrom}
 use Rattle.layout.proofs.Exactly.{level-after, levels-snoc, scan-none}

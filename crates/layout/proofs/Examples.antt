@@ -10,7 +10,8 @@ use Rattle.circuit.specs.Rules.{sum, operationOf, coded, oneOrMore, maxParents,
 use Rattle.circuit.specs.Sheet.{figure, defer, renew, forget}
 use Rattle.circuit.proofs.Examples.{daySheet}
 use Rattle.layout.specs.Layout.{LayoutItem, entryField, figureField, Layout, editionKnown, itemLimit, countAllowed, levelLimit, keepAllowed, spreadAllowed, nameLimit, nameAllowed, all, highest, spreadMeant, machineItem, machineSheet}
-use Rattle.layout.specs.Read.{parentsIn, itemIn, lengthOrName, headTests, itemTests, lastTests, scan, scanSheet, SheetRead, opens, refused, readSheet}
+use Rattle.layout.specs.Content.{parentsIn, itemIn}
+use Rattle.layout.specs.Read.{lengthOrName, headTests, itemTests, lastTests, scan, scanSheet, SheetRead, opens, refused, readSheet}
 use Rattle.layout.specs.Write.{concat, itemBytes, itemsWithin, within, writeSheet}
 use Rattle.layout.specs.Places.{placesFrom, places}
 use Rattle.layout.specs.Index.{indexBytes}

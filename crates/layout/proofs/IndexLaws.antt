@@ -14,7 +14,8 @@ use Rattle.field.specs.Field.{headerLength}
 use Rattle.field.proofs.Cutting.{field-iff, content-length}
 use Rattle.circuit.specs.Rules.{Operation, sum, difference, smallest, largest, share, choice, count, atLeast, operationOf, allowed, coded, oneOrMore, maxParents, countAllowed as parentsAllowed}
 use Rattle.layout.specs.Layout.{figureField, figureTag, lastTag, keepAllowed, spreadAllowed, ruleAllowed, isSome, nameLimit, parentAt, itemLimit, mostItems}
-use Rattle.layout.specs.Read.{contentAt, countIn, ruleIn, keepIn, spreadIn, parentCountIn, parentsIn, nameIn, itemIn, lengthOrName, ruleWrong, Placed, going, headNext, scan, headContent, opens, readSheet}
+use Rattle.layout.specs.Content.{contentAt, countIn, ruleIn, keepIn, spreadIn, parentCountIn, parentsIn, nameIn, itemIn}
+use Rattle.layout.specs.Read.{lengthOrName, ruleWrong, Placed, going, headNext, scan, headContent, opens, readSheet}
 use Rattle.layout.specs.Write.{concat}
 use Rattle.layout.specs.Index.{indexWidth, bytes32, indexBytes, le32At}
 use Rattle.layout.proofs.Scan.{placedAt, offsetFrom, offset-placed, Passes, passes, scan-extended, scan-item, opened, opened-length, opened-count, and-left, and-right}

@@ -13,7 +13,8 @@ use Rattle.field.specs.Bytes.{Bytes}
 use Rattle.field.specs.Field.{le16, fieldBytes}
 use Rattle.field.proofs.Cutting.{le16-of, le16-low, le16-high}
 use Rattle.layout.specs.Layout.{LayoutItem, entryField, figureField, entryTag, figureTag, nameAllowed, nameLimit, all, parentsAt, parentWidth, parentAt}
-use Rattle.layout.specs.Read.{ruleIn, keepIn, spreadIn, parentCountIn, parentIn, parentsIn, nameIn, itemIn, lengthOrName}
+use Rattle.layout.specs.Content.{ruleIn, keepIn, spreadIn, parentCountIn, parentIn, parentsIn, nameIn, itemIn}
+use Rattle.layout.specs.Read.{lengthOrName}
 use Rattle.layout.specs.Write.{bytes16, concat, itemBytes}
 use Rattle.layout.proofs.Scan.{map-append, and-left, and-right}
 

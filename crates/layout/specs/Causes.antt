@@ -1,5 +1,6 @@
 -- The causes 1 to 7 for which a sheet is turned back, row by row, as statements about the field at a place of the sheet. They
--- speak of bytes and offsets; nothing here scans the sheet or tests it. Assumes nothing.
+-- speak of bytes and offsets, and of the parts of a content by their places in the layout (Content); a figure's level is the
+-- writer's (`levelAfter`, Write). Nothing here scans the sheet or tests it. Assumes nothing.
 use Prim.Native.Nat.{ℕ, zero, suc, _+_, _≤_, _<_}
 use mathlib.Core.Path.{_≡_}
 use mathlib.Core.List.{List, [], _∷_, _++_}
@@ -9,7 +10,7 @@ use Rattle.field.specs.Field.{headerLength, le16At, lenAt}
 use Rattle.circuit.specs.Circuit.{Listed}
 use Rattle.circuit.specs.Rules.{maxParents}
 use Rattle.layout.specs.Layout.{headTag, entryTag, figureTag, lastTag, editionAt, countAt, headLength, parentsAt, parentAt, itemLimit, levelLimit, nameLimit}
-use Rattle.layout.specs.Read.{ruleIn, keepIn, spreadIn, parentCountIn, parentIn, nameIn, itemIn}
+use Rattle.layout.specs.Content.{ruleIn, keepIn, spreadIn, parentCountIn, parentIn, nameIn, itemIn}
 use Rattle.layout.specs.Write.{levelAfter}
 
 -- A place: the first field, the field of item i, the last field, and what stands after it.
@@ -172,7 +173,7 @@ abbrev pub Faultless : List ℕ → Type 0
 Faultless s = (p : Place) → InSheet s p → Sound s p
 
 -- The first place with a cause, the lowest number of its causes, and the place's offset. For bytes after the last field that
--- is where they begin.
+-- is where they begin, and for an absent field the sheet's length, since the fields before it are whole.
 pub record FirstFault (s : List ℕ) (k offset : ℕ) : Type 0 where
   pub place : Place
   pub in-sheet : InSheet s place

@@ -1,4 +1,5 @@
 pub mod Layout
+pub mod Content
 pub mod Read
 pub mod Write
 pub mod Index

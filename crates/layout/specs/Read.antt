@@ -4,55 +4,14 @@ use Prim.Native.Nat.{ℕ, zero, suc}
 use mathlib.Core.Bool.{Bool, false, cond, not, _&&_, _||_}
 use mathlib.Core.List.{List, [], _∷_, _++_, map}
 use lib.Dec.{eqb, ltb}
-use lib.ListN.{length, getD, take, drop}
-use Rattle.field.specs.Field.{headerLength, cutAt, le16At}
+use lib.ListN.{length, getD}
+use Rattle.field.specs.Field.{headerLength, cutAt}
 use Rattle.field.specs.declared.Cut.{Cut}
 use Rattle.field.specs.declared.Cut.the-variants.{Field, Short, Absent}
 use Rattle.circuit.specs.Calls.{Test, test, firstCause}
-use Rattle.layout.specs.Layout.{LayoutItem, entryField, figureField, Layout, headTag, entryTag, figureTag, lastTag, editionAt, countAt, headLength, headNext, ruleAt, keepAt, spreadAt, parentCountAt, parentsAt, parentAt, editionKnown, countAllowed, levelLimit, keepAllowed, spreadAllowed, ruleAllowed, nameAllowed, all, highest}
+use Rattle.layout.specs.Layout.{LayoutItem, entryField, figureField, Layout, headTag, entryTag, figureTag, lastTag, headLength, headNext, parentsAt, editionKnown, countAllowed, levelLimit, keepAllowed, spreadAllowed, ruleAllowed, nameAllowed, all, highest}
 pub use Rattle.layout.specs.Layout.{headNext}
-
--- the content bytes of a field
-abbrev pub contentAt : List ℕ → ℕ → ℕ → List ℕ
-contentAt s start len = take len (drop start s)
-
--- The parts of the first field's content: the edition and the item count.
-abbrev pub editionIn : List ℕ → ℕ
-editionIn content = le16At content editionAt
-
-abbrev pub countIn : List ℕ → ℕ
-countIn content = le16At content countAt
-
--- The parts of a figure's content: four bytes, the parents in two bytes each, the name.
-abbrev pub ruleIn : List ℕ → ℕ
-ruleIn content = getD content ruleAt 0
-
-abbrev pub keepIn : List ℕ → ℕ
-keepIn content = getD content keepAt 0
-
-abbrev pub spreadIn : List ℕ → ℕ
-spreadIn content = getD content spreadAt 0
-
-abbrev pub parentCountIn : List ℕ → ℕ
-parentCountIn content = getD content parentCountAt 0
-
-abbrev pub parentIn : List ℕ → ℕ → ℕ
-parentIn content k = le16At content (parentAt k)
-
--- the first p parents
-unfoldable pub parentsIn : List ℕ → ℕ → List ℕ
-parentsIn content zero = []
-parentsIn content (suc p) = parentsIn content p ++ (parentIn content p ∷ [])
-
-abbrev pub nameIn : List ℕ → List ℕ
-nameIn content = drop (parentAt (parentCountIn content)) content
-
--- an item field's layout, by its tag and content
-unfoldable pub itemIn : ℕ → List ℕ → LayoutItem
-itemIn tag content =
-    cond (eqb tag figureTag)
-    (figureField (ruleIn content) (keepIn content) (spreadIn content) (parentsIn content (parentCountIn content)) (nameIn content))
-    (entryField content)
+use Rattle.layout.specs.Content.{contentAt, editionIn, countIn, nameIn, itemIn}
 
 -- an item that was read, with the offset of its field and its level
 pub record Placed : Type 0 where

@@ -23,7 +23,8 @@ use Rattle.circuit.proofs.View.{result-below}
 use Rattle.circuit.proofs.Invariant.{Justified, exact, due, awaits}
 use Rattle.circuit.proofs.Sound.{Sound, run-sound}
 use Rattle.circuit.proofs.Accepted.{number-cause, post-passed}
-use Rattle.layout.specs.Read.{Placed, Scan, going, stopped, placeField, goOn, judge, itemTests, lastTests, headTests, scanItem, scan, scanEnd, afterLast, scanLast, scanSheet, conclude, editionIn, countIn, headContent, SheetRead, opens, refused, readSheet, layoutOf}
+use Rattle.layout.specs.Read.{Placed, Scan, going, stopped, placeField, goOn, judge, itemTests, lastTests, headTests, scanItem, scan, scanEnd, afterLast, scanLast, scanSheet, conclude, headContent, SheetRead, opens, refused, readSheet, layoutOf}
+use Rattle.layout.specs.Content.{editionIn, countIn}
 use Rattle.layout.specs.Opened.{sheetFrom, sheetOf, sheetRead}
 use Rattle.layout.specs.Index.{indexBytes}
 use Rattle.layout.proofs.Scan.{opened-ordered}

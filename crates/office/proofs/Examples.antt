@@ -28,17 +28,17 @@ use Rattle.table.specs.Record.{encodeCell, decodeCell, codesForm, numberForm, r
 use Rattle.table.specs.Bytes.{encodeTable, tableForm}
 use Rattle.item.specs.Offsets.{sameBytes}
 use Rattle.office.specs.Office.{Office, keeping, Given, refusal, accepted, callRead, callOn, openRead, openOn}
-use Rattle.office.specs.Demand1Words.{Request, opening, calling, serve, FitsArguments, Gets}
+use Rattle.office.specs.Demand1Words.{Invocation, opening, calling, serve, FitsArguments, Gets}
 use Rattle.office.specs.Demand2Words.{Answer, answerOf}
 
 -- a sheet with a fault: each request gives the fault's number and offset
-pub sheet-refused : (r : Request) (s : List ℕ) (kept : Office) (k at : ℕ) → readSheet s ≡ refused k at → serve r s kept ≡ refusal k at kept
+pub sheet-refused : (r : Invocation) (s : List ℕ) (kept : Office) (k at : ℕ) → readSheet s ≡ refused k at → serve r s kept ≡ refusal k at kept
 unfolding openOn callOn
 sheet-refused (opening o) s kept k at e = ap (λ q. openRead o q kept) e
 sheet-refused (calling c) s kept k at e = ap (λ q. callRead q kept c) e
 
 -- the numbers 1 to 7, by sheets with such a fault
-pub sheets-refused : (r : Request) (kept : Office)
+pub sheets-refused : (r : Invocation) (kept : Office)
     → (serve r [] kept .number ≡ 1)
     × (serve r entryA kept .number ≡ 2)
     × (serve r (1 ∷ 2 ∷ 0 ∷ 1 ∷ 0 ∷ []) kept .number ≡ 3)
@@ -104,11 +104,11 @@ lastIs r = nullRecord ++ nullRecord ++ nullRecord ++ unkRecord ++ r
 
 -- a request on an index and a table, with the example sheet, and the number given
 pub record Lent : Type 0 where
-  pub request : Request
+  pub request : Invocation
   pub kept : Office
   pub number : ℕ
 
-abbrev lend : Request → List ℕ → List ℕ → ℕ → Lent
+abbrev lend : Invocation → List ℕ → List ℕ → ℕ → Lent
 lend r x t k = record { request = r; kept = keeping x t; number = k }
 
 abbrev lendTable : Call → List ℕ → ℕ → Lent

@@ -27,11 +27,12 @@ use Rattle.word.specs.Word.{Bytes}
 use Rattle.table.specs.Rows.{row}
 use Rattle.table.specs.Record.{width, kindIn, markIn, numberIn, markCode, encodeCell}
 use Rattle.table.specs.Bytes.{encodeTable, decodeTable, Holdable}
-use Rattle.table.proofs.Records.{number-fits, number-again}
+use Rattle.table.proofs.Records.{number-fits, number-again, bytes-encodeCell}
+use Rattle.table.proofs.Rows.{bytes-rows}
 use Rattle.table.proofs.Tables.{length-encodeTable, encoded-record, encode-decodeTable, encodeTable-ext, decoded-holdable, encoded-tableForm, holdable-wellFormed}
 use Rattle.office.specs.Office.{Office, keeping, effectOn, callOn}
 use Rattle.office.specs.Demand1Words.{calling, NoneHolds, ownCauses, AcceptedLent}
-use Rattle.office.specs.Demand2Words.{valueOf, Stores, Posts, Keeps, Drops, Steps, Asks, NoMarkStands, CallsLeave}
+use Rattle.office.specs.Demand2Words.{valueOf, Stores, PostLeaves, KeepLeaves, DropLeaves, StepLeaves, AskLeaves, NoMarkStands, CallsLeave}
 use Rattle.office.proofs.Holdable.{perform-holdable}
 use Rattle.office.proofs.Agreeing.{mark-cell, unmarked-code}
 use Rattle.office.proofs.Refusals.{turned-back, opens-sheet, unbroken-form, form-unbroken, call-accepted, own-passed, Postable, postable}
@@ -136,6 +137,17 @@ module _ (s : List ℕ) (kept : Office) (lent : AcceptedLent s kept) where
       go (holds z) = subst (λ g. AcceptedLent s (g .after)) (sym (is c z)) (lent-again _ (effect-holdable c z))
       go (fails n) = subst (AcceptedLent s) (sym (turned-back (calling c) s kept .left n)) lent
 
+  bytes-encoded : (T : Table) → Bytes (encodeTable (sheetOf s) T)
+  unfolding encodeTable
+  bytes-encoded T = bytes-rows (λ i. encodeCell (T i)) (size (sheetOf s)) (λ i. bytes-encodeCell (T i))
+
+  stays-bytes : Bytes t → (c : Call) → Bytes (callOn s kept c .after .table)
+  stays-bytes bytes c = go (tells-eq (callOn s kept c .number) 0)
+    where
+      go : {b : Bool} → Tells (callOn s kept c .number ≡ 0) b → Bytes (callOn s kept c .after .table)
+      go (holds z) = subst (λ g. Bytes (g .after .table)) (sym (is c z)) (bytes-encoded _)
+      go (fails n) = subst (λ k. Bytes (k .table)) (sym (turned-back (calling c) s kept .left n)) bytes
+
   index-same : (c : Call) → callOn s kept c .after .index ≡ kept .index
   index-same c = go (tells-eq (callOn s kept c .number) 0)
     where
@@ -201,14 +213,14 @@ module _ (s : List ℕ) (kept : Office) (lent : AcceptedLent s kept) where
     mark-of : (i : ℕ) → i < size (sheetOf s) → (c : Cell) → decodeTable t i ≡ c → markIn (row width t i) ≡ markCode (markOf c)
     mark-of i low c e = ap markIn (record-is i low ∙ ap encodeCell e) ∙ mark-cell c
 
-    keep-leaves : (i : ℕ) → callOn s kept (keep i) .number ≡ 0 → Keeps (sheetOf s) t i (callOn s kept (keep i) .after .table)
+    keep-leaves : (i : ℕ) → callOn s kept (keep i) .number ≡ 0 → KeepLeaves (sheetOf s) t i (callOn s kept (keep i) .after .table)
     unfolding effect keepFigure
-    keep-leaves i z = subst (Keeps (sheetOf s) t i) (sym (ap (λ g. g .after .table) (is (keep i) z))) (pick (decodeTable t i) refl)
+    keep-leaves i z = subst (KeepLeaves (sheetOf s) t i) (sym (ap (λ g. g .after .table) (is (keep i) z))) (pick (decodeTable t i) refl)
       where
         low : i < size (sheetOf s)
         low = omega (arith, own (keep i) z .0)
 
-        pick : (c : Cell) → decodeTable t i ≡ c → Keeps (sheetOf s) t i (encodeTable (sheetOf s) (keepCell (sheetOf s) (decodeTable t) i (decodeTable t i)))
+        pick : (c : Cell) → decodeTable t i ≡ c → KeepLeaves (sheetOf s) t i (encodeTable (sheetOf s) (keepCell (sheetOf s) (decodeTable t) i (decodeTable t i)))
         pick (unk b) e =
             record {
               untouched = λ n. absurd (n (kind-of i low (unk b) e ∙ unk-kind b));
@@ -220,16 +232,16 @@ module _ (s : List ℕ) (kept : Office) (lent : AcceptedLent s kept) where
               stored = λ k. absurd (omega (arith, kind-of i low (held v m) e, held-kind v m, some-kind v));
             }
 
-    drop-leaves : (i : ℕ) → callOn s kept (drop i) .number ≡ 0 → Drops (size (sheetOf s)) t i (callOn s kept (drop i) .after .table)
+    drop-leaves : (i : ℕ) → callOn s kept (drop i) .number ≡ 0 → DropLeaves (size (sheetOf s)) t i (callOn s kept (drop i) .after .table)
     unfolding effect dropFigure
-    drop-leaves i z = subst (Drops (size (sheetOf s)) t i) (sym (ap (λ g. g .after .table) (is (drop i) z))) (pick (decodeTable t i) refl)
+    drop-leaves i z = subst (DropLeaves (size (sheetOf s)) t i) (sym (ap (λ g. g .after .table) (is (drop i) z))) (pick (decodeTable t i) refl)
       where
         low : i < size (sheetOf s)
         low = omega (arith, own (drop i) z .0)
 
         -- the record of an UNK cell
         blank : (b : Bool) → ((markIn (row width t i) ≡ 1) → b ≡ true) → (¬ (markIn (row width t i) ≡ 1) → markCode (noticeIf b) ≡ markIn (row width t i))
-            → Drops (size (sheetOf s)) t i (encodeTable (sheetOf s) (upd (decodeTable t) i (unk b)))
+            → DropLeaves (size (sheetOf s)) t i (encodeTable (sheetOf s) (upd (decodeTable t) i (unk b)))
         blank b refreshed remains =
             record {
               kind-0 = ap kindIn (row-here i low (unk b)) ∙ unk-kind b;
@@ -239,17 +251,17 @@ module _ (s : List ℕ) (kept : Office) (lent : AcceptedLent s kept) where
               others = row-other i (unk b);
             }
 
-        pick : (c : Cell) → decodeTable t i ≡ c → Drops (size (sheetOf s)) t i (encodeTable (sheetOf s) (upd (decodeTable t) i (dropCell (decodeTable t i))))
+        pick : (c : Cell) → decodeTable t i ≡ c → DropLeaves (size (sheetOf s)) t i (encodeTable (sheetOf s) (upd (decodeTable t) i (dropCell (decodeTable t i))))
         pick (unk b) e =
-            subst (λ d. Drops (size (sheetOf s)) t i (encodeTable (sheetOf s) (upd (decodeTable t) i d))) (sym (ap dropCell e))
+            subst (λ d. DropLeaves (size (sheetOf s)) t i (encodeTable (sheetOf s) (upd (decodeTable t) i d))) (sym (ap dropCell e))
             (blank b (λ h. absurd (unk-unrefreshed b (sym (mark-of i low (unk b) e) ∙ h))) (λ n. sym (mark-of i low (unk b) e)))
         pick (held v m) e =
-            subst (λ d. Drops (size (sheetOf s)) t i (encodeTable (sheetOf s) (upd (decodeTable t) i d))) (sym (ap dropCell e))
+            subst (λ d. DropLeaves (size (sheetOf s)) t i (encodeTable (sheetOf s) (upd (decodeTable t) i d))) (sym (ap dropCell e))
             (blank (droppedMark m) (λ h. dropped-refresh m (sym (mark-of i low (held v m) e) ∙ h)) (λ n. dropped-other m (λ h. n (mark-of i low (held v m) e ∙ h)) ∙ sym (mark-of i low (held v m) e)))
 
-    step-leaves : (i : ℕ) → callOn s kept (step i) .number ≡ 0 → Steps (sheetOf s) t i (callOn s kept (step i) .after .table)
+    step-leaves : (i : ℕ) → callOn s kept (step i) .number ≡ 0 → StepLeaves (sheetOf s) t i (callOn s kept (step i) .after .table)
     unfolding effect stepItem
-    step-leaves i z = subst (Steps (sheetOf s) t i) (sym (ap (λ g. g .after .table) (is (step i) z))) (pick (decodeTable t i) refl)
+    step-leaves i z = subst (StepLeaves (sheetOf s) t i) (sym (ap (λ g. g .after .table) (is (step i) z))) (pick (decodeTable t i) refl)
       where
         S : Sheet
         S = sheetOf s
@@ -265,7 +277,7 @@ module _ (s : List ℕ) (kept : Office) (lent : AcceptedLent s kept) where
 
         -- no refresh, by a mark code that is not 1
         noticed : (c : Cell) (e : T i ≡ c) → (markCode (markOf c) ≡ 1 → ⊥) → (markCode (markOf c) ≡ 2 → stepCell S T i c ≡ clearMark (tell S T i) i)
-            → Steps S t i (encodeTable S (stepCell S T i (T i)))
+            → StepLeaves S t i (encodeTable S (stepCell S T i (T i)))
         noticed c e other tells =
             record {
               equal = λ h q. absurd (other (sym (mark-of i low c e) ∙ h));
@@ -273,7 +285,7 @@ module _ (s : List ℕ) (kept : Office) (lent : AcceptedLent s kept) where
               tells = λ h. stepped c e ∙ ap (encodeTable S) (tells (sym (mark-of i low c e) ∙ h));
             }
 
-        refreshed : (v : Value) → T i ≡ held v refresh → Steps S t i (encodeTable S (stepCell S T i (T i)))
+        refreshed : (v : Value) → T i ≡ held v refresh → StepLeaves S t i (encodeTable S (stepCell S T i (T i)))
         refreshed v e =
             record {
               equal = λ h q.
@@ -289,23 +301,23 @@ module _ (s : List ℕ) (kept : Office) (lent : AcceptedLent s kept) where
               tells = λ h. absurd (omega (arith, mark-of i low (held v refresh) e));
             }
 
-        pick : (c : Cell) → T i ≡ c → Steps S t i (encodeTable S (stepCell S T i (T i)))
+        pick : (c : Cell) → T i ≡ c → StepLeaves S t i (encodeTable S (stepCell S T i (T i)))
         pick (unk true) e = noticed (unk true) e (λ h. omega arith) (λ h. refl)
         pick (unk false) e = noticed (unk false) e (λ h. omega arith) (λ h. absurd (omega arith))
         pick (held v unmarked) e = noticed (held v unmarked) e (λ h. omega arith) (λ h. absurd (omega arith))
         pick (held v refresh) e = refreshed v e
         pick (held v notice) e = noticed (held v notice) e (λ h. omega arith) (λ h. refl)
 
-    ask-leaves : (i : ℕ) → callOn s kept (ask i) .number ≡ 0 → Asks (sheetOf s) t i (callOn s kept (ask i))
+    ask-leaves : (i : ℕ) → callOn s kept (ask i) .number ≡ 0 → AskLeaves (sheetOf s) t i (callOn s kept (ask i))
     unfolding effect
     ask-leaves i z =
-        subst (Asks (sheetOf s) t i) (sym (is (ask i) z))
+        subst (AskLeaves (sheetOf s) t i) (sym (is (ask i) z))
         (record { caught-up = catchUp (sheetOf s) (decodeTable t); catches = catchUp-ends (sheetOf s) ordered (decodeTable t); value-is = refl; table-is = refl })
 
     post-leaves : (i kind : ℕ) (z : ℤ) → callOn s kept (post i kind z) .number ≡ 0
-        → Posts (size (sheetOf s)) t i kind z (callOn s kept (post i kind z) .after .table)
+        → PostLeaves (size (sheetOf s)) t i kind z (callOn s kept (post i kind z) .after .table)
     unfolding effect storePosting
-    post-leaves i kind z zero = subst (Posts (size (sheetOf s)) t i kind z) (sym table-is) (pick (decodeTable t i) refl)
+    post-leaves i kind z zero = subst (PostLeaves (size (sheetOf s)) t i kind z) (sym table-is) (pick (decodeTable t i) refl)
       where
         S : Sheet
         S = sheetOf s
@@ -335,7 +347,7 @@ module _ (s : List ℕ) (kept : Office) (lent : AcceptedLent s kept) where
 
         -- another value is stored with notice
         new : ¬ ((kindIn (row width t i) ≡ kind) × (numberIn (row width t i) ≡ z)) → wellFormed v ≡ true
-            → Posts (size S) t i kind z (encodeTable S (upd T i (held v notice)))
+            → PostLeaves (size S) t i kind z (encodeTable S (upd T i (held v notice)))
         new differs w =
             record {
               kind-is = ap kindIn (row-here i low (held v notice)) ∙ held-kind v notice ∙ p .kind-is;
@@ -346,7 +358,7 @@ module _ (s : List ℕ) (kept : Office) (lent : AcceptedLent s kept) where
             }
 
         -- an equal value changes nothing
-        old : (w : Value) (m : Mark) → T i ≡ held w m → w ≡ v → wellFormed w ≡ true → Posts (size S) t i kind z (encodeTable S (upd T i (held w m)))
+        old : (w : Value) (m : Mark) → T i ≡ held w m → w ≡ v → wellFormed w ≡ true → PostLeaves (size S) t i kind z (encodeTable S (upd T i (held w m)))
         old w m e q f =
             record {
               kind-is = ap kindIn (row-here i low (held w m)) ∙ kind-here;
@@ -372,24 +384,24 @@ module _ (s : List ℕ) (kept : Office) (lent : AcceptedLent s kept) where
                 go (holds r) = ap (upd T i (held w m)) r ∙ upd-same T i (held w m) ∙ sym e ∙ ap T (sym r)
                 go (fails r) = upd-other T i (held w m) j r
 
-        pick : (c : Cell) → T i ≡ c → Posts (size S) t i kind z (encodeTable S (upd T i (postCell (T i) v)))
+        pick : (c : Cell) → T i ≡ c → PostLeaves (size S) t i kind z (encodeTable S (upd T i (postCell (T i) v)))
         pick (unk f) e =
-            subst (λ d. Posts (size S) t i kind z (encodeTable S (upd T i d))) (sym stores)
+            subst (λ d. PostLeaves (size S) t i kind z (encodeTable S (upd T i d))) (sym stores)
             (new (λ both. omega (arith, both .0, ap kindIn (record-is i low ∙ ap encodeCell e), unk-kind f, p .kind-is, some-kind v)) (formed (held v notice) stores))
           where
             stores : postCell (T i) v ≡ held v notice
             stores = ap (λ c. postCell c v) e
         pick (held w m) e = by (same w v) refl
           where
-            by : (b : Bool) → same w v ≡ b → Posts (size S) t i kind z (encodeTable S (upd T i (postCell (T i) v)))
+            by : (b : Bool) → same w v ≡ b → PostLeaves (size S) t i kind z (encodeTable S (upd T i (postCell (T i) v)))
             by true q =
-                subst (λ d. Posts (size S) t i kind z (encodeTable S (upd T i d))) (sym stores)
+                subst (λ d. PostLeaves (size S) t i kind z (encodeTable S (upd T i d))) (sym stores)
                 (old w m e (same-true w v q) (formed (held w m) stores))
               where
                 stores : postCell (T i) v ≡ held w m
                 stores = ap (λ c. postCell c v) e ∙ ap (λ b. cond b (held w m) (held v notice)) q
             by false q =
-                subst (λ d. Posts (size S) t i kind z (encodeTable S (upd T i d))) (sym stores)
+                subst (λ d. PostLeaves (size S) t i kind z (encodeTable S (upd T i d))) (sym stores)
                 (new differs (formed (held v notice) stores))
               where
                 stores : postCell (T i) v ≡ held v notice
@@ -413,6 +425,7 @@ module _ (s : List ℕ) (kept : Office) (lent : AcceptedLent s kept) where
         record {
           index-kept = index-same;
           accepted = stays-accepted;
+          bytes = stays-bytes bytes;
           posts = post-leaves;
           keeps = keep-leaves;
           drops = drop-leaves;

@@ -23,7 +23,7 @@ use Rattle.table.specs.Rows.{row}
 use Rattle.table.specs.Record.{width}
 use Rattle.table.specs.Bytes.{decodeTable, tableForm}
 use Rattle.office.specs.Office.{Office, Given, refusal, accepted, openingTests, callTests, unlessRefused, effectOn, callRead, callOn, openRead, openOn}
-use Rattle.office.specs.Demand1Words.{Request, opening, calling, serve, TableBroken, NotPostable, Row, cause, ownCauses, causesIn, causesOf, First, NoneHolds, HoldsAt, Lowest, Refused, bySheet, byLent, NoCause, AcceptedLent}
+use Rattle.office.specs.Demand1Words.{Invocation, opening, calling, serve, TableBroken, NotPostable, Row, cause, ownCauses, causesIn, causesOf, First, NoneHolds, HoldsAt, Lowest, Refused, bySheet, byLent, NoCause, AcceptedLent}
 use Rattle.office.proofs.Causes.{tells-is, tells-is-not, tells-lengths, tells-index, tells-table, tells-beyond, tells-posted, tells-mark}
 
 -- ---- the first cause
@@ -83,7 +83,7 @@ tested-none (r ∷ rs) (t ∷ ts) h n = go (λ p. tested-none rs ts (h .3 p) (n 
     go rest (fails p) = rest p
 
 -- the tests of a request
-testsIn : Sheet → List Placed → Office → Request → List Test
+testsIn : Sheet → List Placed → Office → Invocation → List Test
 testsIn S ps kept (opening o) = openingTests ps kept
 testsIn S ps kept (calling c) = callTests S ps kept c
 
@@ -97,7 +97,7 @@ own-tested S t (step i) form =
     (refl, omega arith, tells-beyond S i, λ low. (refl, omega arith, tells-mark (isFigure (itemAt S i)) (row width t i) (λ b. form (i, omega arith, b)), λ n. tt))
 own-tested S t (ask i) form = (refl, omega arith, tells-beyond S i, λ low. tt)
 
-tested : (S : Sheet) (ps : List Placed) → size S ≡ length ps → (kept : Office) (r : Request) → Tested (causesIn S ps kept r) (testsIn S ps kept r)
+tested : (S : Sheet) (ps : List Placed) → size S ≡ length ps → (kept : Office) (r : Invocation) → Tested (causesIn S ps kept r) (testsIn S ps kept r)
 unfolding testsIn
 tested S ps e kept (opening o) = (refl, omega arith, tells-lengths S ps kept e, λ n. tt)
 tested S ps e kept (calling c) = (
@@ -147,11 +147,11 @@ own-rising S t (drop i) = (omega arith, (omega arith, tt))
 own-rising S t (step i) = (omega arith, (omega arith, tt))
 own-rising S t (ask i) = (omega arith, tt)
 
-causes-rising : (S : Sheet) (ps : List Placed) (kept : Office) (r : Request) → Rising 7 (causesIn S ps kept r)
+causes-rising : (S : Sheet) (ps : List Placed) (kept : Office) (r : Invocation) → Rising 7 (causesIn S ps kept r)
 causes-rising S ps kept (opening o) = (omega arith, tt)
 causes-rising S ps kept (calling c) = (omega arith, (omega arith, (omega arith, own-rising S (kept .table) c)))
 
-first-lowest : (s : List ℕ) (kept : Office) (r : Request) (k : ℕ) → First (causesOf s kept r) k ↔ Lowest (causesOf s kept r) k
+first-lowest : (s : List ℕ) (kept : Office) (r : Invocation) (k : ℕ) → First (causesOf s kept r) k ↔ Lowest (causesOf s kept r) k
 first-lowest s kept r k = (
   λ f. record { holds = first-holds (causesOf s kept r) k f; none-below = first-below 7 (causesOf s kept r) up k f },
   λ l. lowest-first 7 (causesOf s kept r) up k (l .holds) (l .none-below),
@@ -163,20 +163,20 @@ first-lowest s kept r k = (
 -- ---- what a request gives
 
 -- by the sheet's fault, or by the first of its tests
-data Served (s : List ℕ) (kept : Office) (r : Request) (g : Given) : Type 0 where
+data Served (s : List ℕ) (kept : Office) (r : Invocation) (g : Given) : Type 0 where
   atSheet : (k at : ℕ) → readSheet s ≡ refused k at → g ≡ refusal k at kept → Served s kept r g
   atLent : (edition : ℕ) (ps : List Placed) (k : ℕ) → readSheet s ≡ opens edition ps → firstCause (testsIn (sheetRead edition ps) ps kept r) ≡ suc k
       → g ≡ refusal (suc k) 0 kept → Served s kept r g
   done : (edition : ℕ) (ps : List Placed) → readSheet s ≡ opens edition ps → firstCause (testsIn (sheetRead edition ps) ps kept r) ≡ 0
       → g .number ≡ 0 → g .offset ≡ 0 → Served s kept r g
 
-module _ (s : List ℕ) (kept : Office) (r : Request) where
+module _ (s : List ℕ) (kept : Office) (r : Invocation) where
   by-first : (edition : ℕ) (ps : List Placed) → readSheet s ≡ opens edition ps → (G : Given) → G .number ≡ 0 → G .offset ≡ 0
       → (k : ℕ) → firstCause (testsIn (sheetRead edition ps) ps kept r) ≡ k → Served s kept r (unlessRefused k kept G)
   by-first edition ps e G n o zero c = done edition ps e c n o
   by-first edition ps e G n o (suc k) c = atLent edition ps k e c refl
 
-served : (s : List ℕ) (kept : Office) (r : Request) → Served s kept r (serve r s kept)
+served : (s : List ℕ) (kept : Office) (r : Invocation) → Served s kept r (serve r s kept)
 unfolding openOn callOn testsIn
 served s kept (opening o) = go (readSheet s) refl
   where
@@ -189,7 +189,7 @@ served s kept (calling c) = go (readSheet s) refl
     go (refused k at) e = atSheet k at e refl
     go (opens edition ps) e = by-first s kept (calling c) edition ps e _ refl refl (firstCause (callTests (sheetRead edition ps) ps kept c)) refl
 
-module _ (s : List ℕ) (kept : Office) (r : Request) where
+module _ (s : List ℕ) (kept : Office) (r : Invocation) where
   -- the rows and the tests of a sheet that opens
   tested-read : (edition : ℕ) (ps : List Placed) → readSheet s ≡ opens edition ps → Tested (causesOf s kept r) (testsIn (sheetRead edition ps) ps kept r)
   unfolding sheetOf itemsOf
@@ -309,7 +309,7 @@ postable kind z n = go (postedValue kind z) refl (tells-posted kind z)
     go (some v) e t = let own = posted-some kind z v e .0 in record { value = v; posted = e; kind-is = sym (own .kind); number-is = sym (own .number) }
 
 -- What is demanded of a request.
-pub record TurnedBack (r : Request) (s : List ℕ) (kept : Office) : Type 0 where
+pub record TurnedBack (r : Invocation) (s : List ℕ) (kept : Office) : Type 0 where
   pub given : (k offset : ℕ) → ¬ (k ≡ 0) → ((serve r s kept .number ≡ k) × (serve r s kept .offset ≡ offset)) ↔ Refused s kept r k offset
   pub lowest : (k : ℕ) → First (causesOf s kept r) k ↔ Lowest (causesOf s kept r) k
   pub accepted : (serve r s kept .number ≡ 0) ↔ NoCause s kept r
@@ -317,7 +317,7 @@ pub record TurnedBack (r : Request) (s : List ℕ) (kept : Office) : Type 0 wher
   pub left : ¬ (serve r s kept .number ≡ 0) → serve r s kept .after ≡ kept
   pub no-value : ¬ (serve r s kept .number ≡ 0) → (serve r s kept .kind ≡ 0) × (serve r s kept .value ≡ pos 0)
 
-pub turned-back : (r : Request) (s : List ℕ) (kept : Office) → TurnedBack r s kept
+pub turned-back : (r : Invocation) (s : List ℕ) (kept : Office) → TurnedBack r s kept
 turned-back r s kept =
     record {
       given = λ k offset n. (to-cause s kept r g is k offset n, from-cause s kept r g is k offset n);

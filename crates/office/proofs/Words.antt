@@ -1,7 +1,7 @@
 -- The words of the refusals on the sheet's bytes. Assumes that the sheet has no fault.
 use Prim.Native.Nat.{ℕ, zero, suc, _*_, _<_}
 use native.Mathlib.Omega.{arith}
-use mathlib.Core.Path.{_≡_, refl, sym, ap, _∙_}
+use mathlib.Core.Path.{_≡_, refl, sym, ap, _∙_, subst}
 use mathlib.Core.Bool.{Bool, true, false, cond}
 use mathlib.Core.List.{List}
 use lib.Dec.{eqb}
@@ -9,13 +9,14 @@ use lib.ListN.{length, getD}
 use borrow.Author.Tests.{eqb-true, eq-eqb}
 use Rattle.field.specs.Field.{lenAt}
 use Rattle.field.proofs.Cutting.{field-iff}
-use Rattle.circuit.specs.Sheet.{size, itemAt, isFigure}
+use Rattle.circuit.specs.Sheet.{Ordered, size, itemAt, isFigure}
 use Rattle.layout.specs.Layout.{entryField, figureField, headTag, machineItem}
-use Rattle.layout.specs.Read.{Placed, scan, headNext, headContent, countIn, ruleIn, keepIn, spreadIn, parentCountIn, parentsIn, nameIn, itemIn, opens, readSheet}
+use Rattle.layout.specs.Read.{Placed, scan, headNext, headContent, opens, readSheet}
+use Rattle.layout.specs.Content.{countIn, ruleIn, keepIn, spreadIn, parentCountIn, parentsIn, nameIn, itemIn}
 use Rattle.layout.specs.Opened.{sheetRead, sheetOf, itemsOf, placedFrom}
 use Rattle.layout.specs.Index.{indexWidth, indexBytes, le32At}
 use Rattle.layout.specs.Causes.{item, fieldOffset, itemCount, tagOf, Faultless}
-use Rattle.layout.proofs.Scan.{offsetFrom, offset-placed, scan-prefix, scan-item, opened, opened-length, machine-item}
+use Rattle.layout.proofs.Scan.{offsetFrom, offset-placed, scan-prefix, scan-item, opened, opened-length, machine-item, opened-ordered}
 use Rattle.layout.proofs.Causes.{opens-faultless, count-same}
 use Rattle.layout.proofs.IndexLaws.{index-length, opened-entry}
 use Rattle.office.specs.Demand1Words.{SheetWords}
@@ -69,6 +70,7 @@ module _ (s : List ℕ) (edition : ℕ) (ps : List Placed) (reads : readSheet s 
   words : SheetWords s
   words =
       record {
+        ordered = subst Ordered (sym is) (opened-ordered s edition ps reads);
         count-is = ap size is ∙ sized s edition ps reads ∙ counted;
         figure-is = λ i h. (
           λ e. eqb-true (tagOf s (item i)) 3 (sym (figure i h) ∙ e),

@@ -1,5 +1,5 @@
 -- Demand 1, its words: each row of "Turned back" from 8 to 14 as a statement about what is lent, and the order in which the causes
--- of a request count. The rows 1 to 7 are those of the sheet (layout, Causes). Assumes nothing.
+-- of an invocation count. The rows 1 to 7 are those of the sheet (layout, Causes). Assumes nothing.
 use Prim.Native.Nat.{ℕ, _*_, _^_, _<_, _≤_}
 use mathlib.Core.Path.{_≡_}
 use mathlib.Core.Bool.{Bool, true, false}
@@ -10,7 +10,7 @@ use lib.ListN.{length}
 use mir.Syntax.{w64}
 use mir.Val.{SFits}
 use Rattle.circuit.specs.Value.{limit}
-use Rattle.circuit.specs.Sheet.{Sheet, size, itemAt, isFigure}
+use Rattle.circuit.specs.Sheet.{Sheet, Ordered, size, itemAt, isFigure}
 use Rattle.circuit.specs.Call.{Call, post, keep, drop, step, ask, Opening}
 use Rattle.field.specs.Field.{Bytes}
 use Rattle.layout.specs.Read.{Placed}
@@ -22,12 +22,12 @@ use Rattle.table.specs.Record.{width, kindIn, markIn, numberIn}
 use Rattle.office.specs.Office.{Office, Given, openOn, callOn}
 
 -- an opening, or one of the five calls with its arguments
-pub data Request : Type 0 where
-  opening : Opening → Request
-  calling : Call → Request
+pub data Invocation : Type 0 where
+  opening : Opening → Invocation
+  calling : Call → Invocation
 
--- the request on a sheet, lent with what the office keeps
-abbrev pub serve : Request → List ℕ → Office → Given
+-- the invocation on a sheet, lent with what the office keeps
+abbrev pub serve : Invocation → List ℕ → Office → Given
 serve (opening how) s o = openOn how s o
 serve (calling c) s o = callOn s o c
 
@@ -110,13 +110,13 @@ ownCauses S t (drop i) = cause 11 (NoSuchItem S i) ∷ cause 12 (OfEntry S i) �
 ownCauses S t (step i) = cause 11 (NoSuchItem S i) ∷ cause 14 (NoMark t i) ∷ []
 ownCauses S t (ask i) = cause 11 (NoSuchItem S i) ∷ []
 
--- The causes of a request in the order in which they count, after the sheet has been read. Openings use 8 alone. (A later request's
+-- The causes of an invocation in the order in which they count, after the sheet has been read. Openings use 8 alone. (A later request's
 -- call has its own order, and may have a number twice.)
-abbrev pub causesIn : Sheet → List Placed → Office → Request → List Row
+abbrev pub causesIn : Sheet → List Placed → Office → Invocation → List Row
 causesIn S ps o (opening how) = cause 8 (LengthsWrong (size S) o) ∷ []
 causesIn S ps o (calling c) = lentCauses S ps o ++ ownCauses S (o .table) c
 
-abbrev pub causesOf : List ℕ → Office → Request → List Row
+abbrev pub causesOf : List ℕ → Office → Invocation → List Row
 causesOf s o r = causesIn (sheetOf s) (itemsOf s) o r
 
 -- k is the number of the first cause that holds
@@ -139,19 +139,19 @@ pub record Lowest (rs : List Row) (k : ℕ) : Type 0 where
   pub holds : HoldsAt rs k
   pub none-below : (j : ℕ) → j < k → ¬ HoldsAt rs j
 
--- A request is to be refused with number k and an offset: for the first fault of the sheet, with its offset; else for the first
--- of the request's causes, with offset 0.
-pub data Refused (s : List ℕ) (o : Office) (r : Request) (k offset : ℕ) : Type 0 where
+-- An invocation is to be refused with number k and an offset: for the first fault of the sheet, with its offset; else for the first
+-- of its own causes, with offset 0.
+pub data Refused (s : List ℕ) (o : Office) (r : Invocation) (k offset : ℕ) : Type 0 where
   bySheet : FirstFault s k offset → Refused s o r k offset
   byLent : Faultless s → First (causesOf s o r) k → offset ≡ 0 → Refused s o r k offset
 
 -- no cause at all
-pub record NoCause (s : List ℕ) (o : Office) (r : Request) : Type 0 where
+pub record NoCause (s : List ℕ) (o : Office) (r : Invocation) : Type 0 where
   pub sheet : Faultless s
   pub lent : NoneHolds (causesOf s o r)
 
 -- What can be lent and given: slices of bytes, arguments of 64 bits, posted numbers signed.
-abbrev pub FitsArguments : Request → Type 0
+abbrev pub FitsArguments : Invocation → Type 0
 FitsArguments (opening how) = Unit {0}
 FitsArguments (calling (post i kind z)) = (i < 2 ^ 64) × (kind < 2 ^ 64) × SFits w64 z
 FitsArguments (calling (keep i)) = i < 2 ^ 64
@@ -159,7 +159,7 @@ FitsArguments (calling (drop i)) = i < 2 ^ 64
 FitsArguments (calling (step i)) = i < 2 ^ 64
 FitsArguments (calling (ask i)) = i < 2 ^ 64
 
-pub record Lendable (r : Request) (s : List ℕ) (o : Office) : Type 0 where
+pub record Lendable (r : Invocation) (s : List ℕ) (o : Office) : Type 0 where
   pub sheet : Bytes s
   pub index : Bytes (o .index)
   pub table : Bytes (o .table)
@@ -167,7 +167,7 @@ pub record Lendable (r : Request) (s : List ℕ) (o : Office) : Type 0 where
 
 -- something that can be lent is given number k
 pub record Gets (k : ℕ) : Type 0 where
-  pub request : Request
+  pub request : Invocation
   pub sheet : List ℕ
   pub office : Office
   pub lendable : Lendable request sheet office
@@ -178,10 +178,11 @@ pub record AcceptedLent (s : List ℕ) (o : Office) : Type 0 where
   pub sheet : Faultless s
   pub lent : NoneHolds (lentCauses (sheetOf s) (itemsOf s) o)
 
--- What the words above come to on the bytes of a sheet without a fault: n by the first field, figures by their tags, and the
--- offsets in the index.
+-- What the words above come to on the bytes of a sheet without a fault: n by the first field, parents below their items, figures
+-- by their tags, and the offsets in the index.
 pub record SheetWords (s : List ℕ) : Type 0 where
   pub count-is : size (sheetOf s) ≡ itemCount s
+  pub ordered : Ordered (sheetOf s)
   pub figure-is : (i : ℕ) → i < itemCount s → (isFigure (itemAt (sheetOf s) i) ≡ true) ↔ (tagOf s (item i) ≡ 3)
   pub index-long : length (indexBytes (itemsOf s)) ≡ indexWidth * itemCount s
   pub offset-is : (i : ℕ) → i < itemCount s → le32At (indexBytes (itemsOf s)) (indexWidth * i) ≡ offsetOf s (item i)

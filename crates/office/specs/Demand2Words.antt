@@ -1,6 +1,6 @@
 -- Demand 2, its words: the layout that a sheet follows, what the openings write, the solution, and the sentences of 01 on what
--- each call leaves of the table. Looking up, working out and telling are the machine's (circuit, Machine), with their equations in
--- circuit, Equations. Assumes nothing.
+-- each call leaves of the table. Looking up, working out and telling are the machine's (circuit, Machine), with their equations,
+-- without a bound, in circuit, Equations. Assumes nothing.
 use Prim.Native.Nat.{ℕ, _*_, _<_}
 use mathlib.Core.Path.{_≡_}
 use mathlib.Core.Bool.{true}
@@ -115,11 +115,11 @@ pub record Gives (s : List ℕ) (o : Office) (values : ℕ → Value) : Type 0 w
 -- ---- the table
 
 -- the table's bytes are those of the cells T
-abbrev pub Holds : Sheet → List ℕ → Table → Type 0
-Holds S t T = t ≡ encodeTable S T
+abbrev pub HasCells : Sheet → List ℕ → Table → Type 0
+HasCells S t T = t ≡ encodeTable S T
 
 -- "An equal value changes nothing. Otherwise it is stored with mark notice." The other records are as they were.
-pub record Posts (n : ℕ) (t : List ℕ) (i kind : ℕ) (z : ℤ) (u : List ℕ) : Type 0 where
+pub record PostLeaves (n : ℕ) (t : List ℕ) (i kind : ℕ) (z : ℤ) (u : List ℕ) : Type 0 where
   pub kind-is : kindIn (row width u i) ≡ kind
   pub number-is : numberIn (row width u i) ≡ z
   pub equal : kindIn (row width t i) ≡ kind → numberIn (row width t i) ≡ z → u ≡ t
@@ -127,13 +127,13 @@ pub record Posts (n : ℕ) (t : List ℕ) (i kind : ℕ) (z : ℤ) (u : List ℕ
   pub others : (j : ℕ) → j < n → ¬ (j ≡ i) → row width u j ≡ row width t j
 
 -- "Look it up and store it whatever its keep byte, with the same rule on flags. A stored figure is untouched."
-pub record Keeps (S : Sheet) (t : List ℕ) (i : ℕ) (u : List ℕ) : Type 0 where
+pub record KeepLeaves (S : Sheet) (t : List ℕ) (i : ℕ) (u : List ℕ) : Type 0 where
   pub untouched : ¬ (kindIn (row width t i) ≡ 0) → u ≡ t
   pub stored : kindIn (row width t i) ≡ 0
-      → let r : Looked = lookUp S (decodeTable t) i in Holds S u (upd (r .table) i (held (r .value) (noticeIf (r .flag))))
+      → let r : Looked = lookUp S (decodeTable t) i in HasCells S u (upd (r .table) i (held (r .value) (noticeIf (r .flag))))
 
 -- "UNK; mark refresh becomes notice, other marks remain." The other records are as they were.
-pub record Drops (n : ℕ) (t : List ℕ) (i : ℕ) (u : List ℕ) : Type 0 where
+pub record DropLeaves (n : ℕ) (t : List ℕ) (i : ℕ) (u : List ℕ) : Type 0 where
   pub kind-0 : kindIn (row width u i) ≡ 0
   pub number-0 : numberIn (row width u i) ≡ pos 0
   pub refresh-noticed : markIn (row width t i) ≡ 1 → markIn (row width u i) ≡ 2
@@ -142,33 +142,34 @@ pub record Drops (n : ℕ) (t : List ℕ) (i : ℕ) (u : List ℕ) : Type 0 wher
 
 -- "For refresh, work it out anew from its parents; if equal, clear the mark and finish, else store it and set notice. For notice,
 -- tell the children, then clear the mark."
-pub record Steps (S : Sheet) (t : List ℕ) (i : ℕ) (u : List ℕ) : Type 0 where
+pub record StepLeaves (S : Sheet) (t : List ℕ) (i : ℕ) (u : List ℕ) : Type 0 where
   pub equal : markIn (row width t i) ≡ 1 → let r : Looked = workOut S (decodeTable t) i in r .value ≡ valueOf t i
-      → Holds S u (upd (r .table) i (held (valueOf t i) unmarked))
+      → HasCells S u (upd (r .table) i (held (valueOf t i) unmarked))
   pub different : markIn (row width t i) ≡ 1 → let r : Looked = workOut S (decodeTable t) i in ¬ (r .value ≡ valueOf t i)
-      → Holds S u (upd (r .table) i (held (r .value) notice))
-  pub tells : markIn (row width t i) ≡ 2 → Holds S u (clearMark (tell S (decodeTable t) i) i)
+      → HasCells S u (upd (r .table) i (held (r .value) notice))
+  pub tells : markIn (row width t i) ≡ 2 → HasCells S u (clearMark (tell S (decodeTable t) i) i)
 
 -- "Step the lowest marked item until none is marked, then look the item up and give its value."
-pub record Asks (S : Sheet) (t : List ℕ) (i : ℕ) (g : Given) : Type 0 where
+pub record AskLeaves (S : Sheet) (t : List ℕ) (i : ℕ) (g : Given) : Type 0 where
   pub caught-up : Table
   pub catches : CaughtUp S (decodeTable t) caught-up
   pub value-is : answerOf g ≡ reading (lookUp S caught-up i .value)
-  pub table-is : Holds S (g .after .table) (lookUp S caught-up i .table)
+  pub table-is : HasCells S (g .after .table) (lookUp S caught-up i .table)
 
 -- 01's "no mark stands": every mark byte is 0
 abbrev pub NoMarkStands : Sheet → List ℕ → Type 0
 NoMarkStands S t = (k : ℕ) → k < size S → markIn (row width t k) ≡ 0
 
 -- What the calls leave of what an office keeps, where it is accepted: the index as it was, an accepted table, and of an accepted
--- call the table of its sentence.
+-- call the table of its sentence, in bytes.
 pub record CallsLeave (s : List ℕ) (o : Office) : Type 0 where
   pub index-kept : (c : Call) → callOn s o c .after .index ≡ o .index
   pub accepted : (c : Call) → AcceptedLent s (callOn s o c .after)
+  pub bytes : (c : Call) → Bytes (callOn s o c .after .table)
   pub posts : (i kind : ℕ) (z : ℤ) → let g : Given = callOn s o (post i kind z) in
-      g .number ≡ 0 → Posts (size (sheetOf s)) (o .table) i kind z (g .after .table)
-  pub keeps : (i : ℕ) → let g : Given = callOn s o (keep i) in g .number ≡ 0 → Keeps (sheetOf s) (o .table) i (g .after .table)
-  pub drops : (i : ℕ) → let g : Given = callOn s o (drop i) in g .number ≡ 0 → Drops (size (sheetOf s)) (o .table) i (g .after .table)
-  pub steps : (i : ℕ) → let g : Given = callOn s o (step i) in g .number ≡ 0 → Steps (sheetOf s) (o .table) i (g .after .table)
-  pub asks : (i : ℕ) → let g : Given = callOn s o (ask i) in g .number ≡ 0 → Asks (sheetOf s) (o .table) i g
+      g .number ≡ 0 → PostLeaves (size (sheetOf s)) (o .table) i kind z (g .after .table)
+  pub keeps : (i : ℕ) → let g : Given = callOn s o (keep i) in g .number ≡ 0 → KeepLeaves (sheetOf s) (o .table) i (g .after .table)
+  pub drops : (i : ℕ) → let g : Given = callOn s o (drop i) in g .number ≡ 0 → DropLeaves (size (sheetOf s)) (o .table) i (g .after .table)
+  pub steps : (i : ℕ) → let g : Given = callOn s o (step i) in g .number ≡ 0 → StepLeaves (sheetOf s) (o .table) i (g .after .table)
+  pub asks : (i : ℕ) → let g : Given = callOn s o (ask i) in g .number ≡ 0 → AskLeaves (sheetOf s) (o .table) i g
   pub quiet : (i : ℕ) → let g : Given = callOn s o (ask i) in g .number ≡ 0 → NoMarkStands (sheetOf s) (g .after .table)

@@ -14,25 +14,25 @@ use Rattle.layout.specs.Layout.{machineSheet}
 use Rattle.layout.specs.Opened.{sheetOf}
 use Rattle.layout.specs.Causes.{Faultless}
 use Rattle.office.specs.Office.{Office, openOn}
-use Rattle.office.specs.Demand1Words.{Request, serve, causesOf, First, Lowest, Refused, NoCause, Gets, AcceptedLent, SheetWords}
+use Rattle.office.specs.Demand1Words.{Invocation, serve, causesOf, First, Lowest, Refused, NoCause, Gets, AcceptedLent, SheetWords}
 use Rattle.office.specs.Demand2Words.{FollowsLayout, Writes, NoneStored, OnlySolution, entriesIn, Gives, CallsLeave}
 use Rattle.office.specs.Demand3Words.{acceptedPosts, SameReading, Retains, OfficeAccepted}
 
 -- Demand 1. Each fault is refused by its number and nothing else is, and a refused call changes no lent byte.
 pub record Refuses : Type 0 where
   -- a number and an offset are given exactly if the number's cause is the first that holds
-  pub given : (r : Request) (s : List ℕ) (o : Office) (k offset : ℕ) → ¬ (k ≡ 0)
+  pub given : (r : Invocation) (s : List ℕ) (o : Office) (k offset : ℕ) → ¬ (k ≡ 0)
       → ((serve r s o .number ≡ k) × (serve r s o .offset ≡ offset)) ↔ Refused s o r k offset
   -- number 0 exactly if no cause holds, and then offset 0
-  pub accepted : (r : Request) (s : List ℕ) (o : Office) → (serve r s o .number ≡ 0) ↔ NoCause s o r
-  pub offset-0 : (r : Request) (s : List ℕ) (o : Office) → serve r s o .number ≡ 0 → serve r s o .offset ≡ 0
+  pub accepted : (r : Invocation) (s : List ℕ) (o : Office) → (serve r s o .number ≡ 0) ↔ NoCause s o r
+  pub offset-0 : (r : Invocation) (s : List ℕ) (o : Office) → serve r s o .number ≡ 0 → serve r s o .offset ≡ 0
   -- a refusal leaves every lent byte as it was, and gives no value
-  pub left : (r : Request) (s : List ℕ) (o : Office) → ¬ (serve r s o .number ≡ 0) → serve r s o .after ≡ o
-  pub no-value : (r : Request) (s : List ℕ) (o : Office) → ¬ (serve r s o .number ≡ 0)
+  pub left : (r : Invocation) (s : List ℕ) (o : Office) → ¬ (serve r s o .number ≡ 0) → serve r s o .after ≡ o
+  pub no-value : (r : Invocation) (s : List ℕ) (o : Office) → ¬ (serve r s o .number ≡ 0)
       → (serve r s o .kind ≡ 0) × (serve r s o .value ≡ pos 0)
   -- of the openings and the five calls: after the sheet the lowest number wins
-  pub lowest : (r : Request) (s : List ℕ) (o : Office) (k : ℕ) → First (causesOf s o r) k ↔ Lowest (causesOf s o r) k
-  -- each number has its cause (15 and 16 are the printer's and the day program's)
+  pub lowest : (r : Invocation) (s : List ℕ) (o : Office) (k : ℕ) → First (causesOf s o r) k ↔ Lowest (causesOf s o r) k
+  -- each number has its cause (15 is the printer's, printer/specs/Causes, and 16 the day program's, day_meaning/specs/Causes)
   pub each : Gets 1 × Gets 2 × Gets 3 × Gets 4 × Gets 5 × Gets 6 × Gets 7 × Gets 8 × Gets 9 × Gets 10 × Gets 11 × Gets 12 × Gets 13 × Gets 14
   -- the sheet's words in the causes are those of its bytes
   pub words : (s : List ℕ) → Faultless s → SheetWords s
@@ -40,6 +40,7 @@ pub record Refuses : Type 0 where
 -- Demand 2. A sheet opens exactly if it follows the layout; a figure worked out with nothing stored is the circuit's solution;
 -- every call leaves exactly the table that 01 describes.
 pub record Means : Type 0 where
+  -- a sheet that is lent with an index and a table of 4 and 10 bytes an item
   pub opens : (how : Opening) (s : List ℕ) (o : Office) → Bytes s → (openOn how s o .number ≡ 0) ↔ FollowsLayout s o
   -- what the openings write; the circuit is the layout's, and a sheet has one layout only
   pub writes : (how : Opening) (s : List ℕ) (o : Office) (f : FollowsLayout s o) → Writes how (f .layout) (openOn how s o)

@@ -20,7 +20,8 @@ use Rattle.printer.specs.declared.Printed.{Printed}
 use Rattle.printer.specs.declared.Printed.the-variants.{Length, Refused}
 use Rattle.field.specs.Bytes.{over}
 use Rattle.printer.specs.Printing.{printed, textOf, noValue, scratchShort, printCause, partOf}
-use Rattle.printer.specs.Contract.{answerOf, refusalOf, lengthOf, codeOf, Prints, PrintsCode}
+use Rattle.printer.specs.Contract.{answerOf, codeOf, Prints, PrintsCode}
+use Rattle.printer.proofs.Answers.{refusalOf, lengthOf}
 use Rattle.printer.proofs.Values.{part-length}
 use Rattle.printer.proofs.Notation.{printed-fits}
 

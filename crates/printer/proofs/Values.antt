@@ -23,7 +23,8 @@ use Rattle.printer.specs.declared.Printed.{Printed}
 use Rattle.printer.specs.declared.Printed.the-variants.{Length, Refused}
 use Rattle.printer.specs.Decimal.{digits, decimal, minus}
 use Rattle.printer.specs.Printing.{printed, textOf, printCause, partOf}
-use Rattle.printer.specs.Contract.{answerOf, lengthOf, WithDigits, Front, Prints}
+use Rattle.printer.specs.Contract.{answerOf, WithDigits, Front, Prints}
+use Rattle.printer.proofs.Answers.{lengthOf}
 
 -- the numbers of the range have at most 18 digits
 pub limit-small : limit < 10 ^ 18

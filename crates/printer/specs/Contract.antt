@@ -17,15 +17,6 @@ abbrev pub answerOf : ℕ → ℤ → ℕ → Printed
 answerOf kind z count =
     cond (eqb (printCause kind z count) 0) (Length (length (partOf kind z count))) (Refused (printCause kind z count))
 
--- an answer in numbers: the number of "Turned back" (0 if accepted), and the part's length
-abbrev pub refusalOf : Printed → ℕ
-refusalOf (Length n) = 0
-refusalOf (Refused cause) = cause
-
-abbrev pub lengthOf : Printed → ℕ
-lengthOf (Length n) = n
-lengthOf (Refused cause) = 0
-
 -- the answer as the C form gives it: the part's length, or the cause's number negated
 abbrev pub codeOf : Printed → ℤ
 codeOf (Length n) = pos n

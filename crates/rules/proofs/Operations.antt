@@ -6,7 +6,7 @@ use mathlib.Core.Path.{_≡_, refl}
 use native.Mathlib.Omega.{arith}
 use borrow.Author.Tests.{ne-eqb, le-leb, lt-leb}
 use Rattle.circuit.specs.Rules.{Operation, coded, countAllowed, oneOrMore, maxParents, allowed, operationOf}
-use Rattle.rules.specs.Operations.{operationMeaning, operationNumber, refuses, allows}
+use Rattle.rules.specs.Operations.{refuses, allows}
 use Rattle.rules.specs.declared.Operation.{Operation as Answer}
 use Rattle.rules.specs.declared.Operation.the-variants.{Sum, Difference, Smallest, Largest, Share, Choice, Count, AtLeast, Refused}
 
@@ -62,15 +62,3 @@ chosen-takes code n o e h = rw e (coded-takes (coded code) (rw e at h))
     coded-takes : (c : Option Operation) → refuses (allowed c n) ≡ false → allows (allowed c n) n ≡ true
     coded-takes none r = cc
     coded-takes (some op) r = takes op (countAllowed op n) refl r
-
--- the answer's number goes by whether there is an operation
-pub operation-number : (r : Answer) → operationNumber r ≡ cond (refuses (operationMeaning r)) 5 0
-operation-number Sum = refl
-operation-number Difference = refl
-operation-number Smallest = refl
-operation-number Largest = refl
-operation-number Share = refl
-operation-number Choice = refl
-operation-number Count = refl
-operation-number AtLeast = refl
-operation-number Refused = refl

@@ -11,7 +11,7 @@ use Rattle.value.specs.declared.Value.{Value}
 use Rattle.rules.specs.declared.Operation.{Operation}
 use Rattle.rules.specs.declared.Operation.the-variants.{Sum, Difference, Smallest, Largest, Share, Choice, Count, AtLeast, Refused}
 
--- the operation of the definitions, none for a refusal
+-- the operation of the definitions, none for refusal 5
 abbrev pub operationMeaning : Operation → Option rules.Operation
 operationMeaning Sum = some rules.sum
 operationMeaning Difference = some rules.difference
@@ -26,18 +26,6 @@ operationMeaning Refused = none
 abbrev pub refuses : Option rules.Operation → Bool
 refuses none = true
 refuses (some op) = false
-
--- the number of the answer: 0, or refusal 5
-abbrev pub operationNumber : Operation → ℕ
-operationNumber Sum = 0
-operationNumber Difference = 0
-operationNumber Smallest = 0
-operationNumber Largest = 0
-operationNumber Share = 0
-operationNumber Choice = 0
-operationNumber Count = 0
-operationNumber AtLeast = 0
-operationNumber Refused = 5
 
 -- whether a rule's operation takes n parents; a refusal takes none
 abbrev pub allows : Option rules.Operation → ℕ → Bool

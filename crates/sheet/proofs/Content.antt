@@ -7,7 +7,7 @@ use lib.ListN.{getD, take, drop}
 use lib.Seq.{drop-drop, getD-take, getD-drop}
 use Rattle.layout.specs.Layout.{parentsAt, parentWidth, parentAt}
 use Rattle.field.specs.Field.{le16, le16At}
-use Rattle.layout.specs.Read.{contentAt, parentsIn, parentCountIn, nameIn}
+use Rattle.layout.specs.Content.{contentAt, parentsIn, parentCountIn, nameIn}
 use Rattle.sheet.specs.Check.{numbersAt}
 
 pub drop-take : {A : Type 0} (m n : ℕ) (l : List A) → drop m (take n l) ≡ take (n - m) (drop m l)

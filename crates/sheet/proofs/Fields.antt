@@ -16,7 +16,8 @@ use Rattle.field.proofs.Cut.{the-type}
 use Rattle.field.proofs.Cutting.{field-iff, content-length}
 use Rattle.circuit.specs.Calls.{Test, firstCause}
 use Rattle.layout.specs.Layout.{headTag, lastTag, editionKnown, countAllowed, editionAt, countAt, headLength}
-use Rattle.layout.specs.Read.{contentAt, editionIn, countIn, headTests, lastTests, judge, Placed, going, scanLast, conclude}
+use Rattle.layout.specs.Content.{contentAt, editionIn, countIn}
+use Rattle.layout.specs.Read.{headTests, lastTests, judge, Placed, going, scanLast, conclude}
 use Rattle.sheet.specs.Check.{checkedOf}
 use Rattle.sheet.specs.declared.Checked.{Checked}
 use Rattle.sheet.specs.declared.Checked.the-variants.{Opens, Refused}

@@ -7,7 +7,8 @@ use lib.ListN.{length, take, length-map}
 use lib.Seq.{take-at}
 use Rattle.circuit.specs.Sheet.{size}
 use Rattle.layout.specs.Layout.{machineItem}
-use Rattle.layout.specs.Read.{Placed, going, scan, countIn, headContent, SheetRead, opens, refused, readSheet}
+use Rattle.layout.specs.Read.{Placed, going, scan, headContent, SheetRead, opens, refused, readSheet}
+use Rattle.layout.specs.Content.{countIn}
 use Rattle.layout.specs.Opened.{placedFrom, itemsOf, sheetFrom, sheetOf, offsetsOf, Located}
 use Rattle.field.specs.Bytes.{over}
 use Rattle.sheet.specs.Check.{checkedOf, soundItems, readSoFar}

@@ -7,7 +7,7 @@ use native.Mathlib.Omega.{arith}
 use lib.ListN.{length, getD, length-take, length-drop}
 use borrow.Author.Tests.{le-leb, lt-leb}
 use Rattle.layout.specs.Layout.{all, nameByte, nameAllowed, nameLimit}
-use Rattle.layout.specs.Read.{contentAt}
+use Rattle.layout.specs.Content.{contentAt}
 use Rattle.sheet.proofs.Lists.{all-part-fails}
 
 pub part-length : (s : List ℕ) (at len : ℕ) → at + len ≤ length s → length (contentAt s at len) ≡ len

@@ -10,7 +10,8 @@ use lib.Seq.{take-at}
 use Rattle.field.specs.Field.{cutAt}
 use Rattle.field.specs.declared.Cut.the-variants.{Field}
 use Rattle.circuit.specs.Calls.{firstCause}
-use Rattle.layout.specs.Read.{contentAt, itemIn, Placed, placed, itemLevel, itemTests, judge, going, stopped, scan, scanLast, conclude, goOn, placeField}
+use Rattle.layout.specs.Content.{contentAt, itemIn}
+use Rattle.layout.specs.Read.{Placed, placed, itemLevel, itemTests, judge, going, stopped, scan, scanLast, conclude, goOn, placeField}
 use Rattle.layout.specs.Opened.{offsetsOf, levelsOf}
 use Rattle.field.specs.Bytes.{over}
 use Rattle.sheet.specs.Check.{checkedOf, judgedOf, judgedItem, LevelsAt, latest, soundItems}

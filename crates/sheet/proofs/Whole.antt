@@ -8,7 +8,8 @@ use Rattle.field.specs.Field.{cutAt, le16At, headerLength}
 use Rattle.field.specs.declared.Cut.the-variants.{Field}
 use Rattle.field.proofs.Cutting.{field-iff}
 use Rattle.layout.specs.Layout.{editionAt, countAt, headLength, mostItems}
-use Rattle.layout.specs.Read.{editionIn, countIn, headContent, headTests, judge, scan, scanLast, scanSheet, conclude, readSheet}
+use Rattle.layout.specs.Content.{editionIn, countIn}
+use Rattle.layout.specs.Read.{headContent, headTests, judge, scan, scanLast, scanSheet, conclude, readSheet}
 use Rattle.layout.specs.Opened.{offsetsOf, levelsOf}
 use Rattle.field.specs.Bytes.{over}
 use Rattle.sheet.specs.Check.{checkedOf, soundItems, readSoFar}

@@ -9,25 +9,17 @@ use Rattle.layout.specs.Opened.{levelsOf}
 use Rattle.field.specs.Field.{cutAt, le16At}
 use Rattle.circuit.specs.Calls.{firstCause}
 use Rattle.layout.specs.Layout.{all, highest, parentWidth}
-use Rattle.layout.specs.Read.{Placed, Scan, going, stopped, scan, SheetRead, opens, refused, judge, headTests, itemTests, itemIn, itemLevel, headContent, editionIn, countIn}
+use Rattle.layout.specs.Read.{Placed, Scan, going, stopped, scan, SheetRead, opens, refused, judge, headTests, itemTests, itemLevel, headContent}
+use Rattle.layout.specs.Content.{itemIn, editionIn, countIn}
 use Rattle.sheet.specs.declared.Checked.{Checked}
 use Rattle.sheet.specs.declared.Checked.the-variants.{Opens, Refused}
 use Rattle.sheet.specs.declared.Judged.{Judged}
 use Rattle.sheet.specs.declared.Judged.the-variants.{Sound, Fault}
 
--- the check's answer
+-- the check's answer: the case holds 01's number and offset itself
 abbrev pub checkedOf : SheetRead → Checked
 checkedOf (opens edition ps) = Opens edition (length ps)
 checkedOf (refused k at) = Refused k at
-
--- the number and the offset under which the answer is given: both 0 for a sheet that opens
-abbrev pub checkedNumber : Checked → ℕ
-checkedNumber (Opens edition count) = 0
-checkedNumber (Refused k at) = k
-
-abbrev pub checkedOffset : Checked → ℕ
-checkedOffset (Opens edition count) = 0
-checkedOffset (Refused k at) = at
 
 -- a field's answer: its level, or the number of its lowest cause
 abbrev pub judgedOf : ℕ → ℕ → Judged

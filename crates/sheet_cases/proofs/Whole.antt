@@ -13,7 +13,7 @@ use Rattle.field.specs.declared.Cut.{Cut}
 use Rattle.field.specs.declared.Cut.the-variants.{Field, Short, Absent}
 use Rattle.field.proofs.Cut.{the-type}
 use Rattle.field.proofs.Cutting.{FieldAt, matched-field}
-use Rattle.layout.specs.Read.{contentAt}
+use Rattle.layout.specs.Content.{contentAt}
 use Rattle.sheet_cases.specs.Cases.{Case, secondIn, caseIn, caseAt, Checks, Runs, no-case, a-case}
 
 -- a whole case: a label from `start` to `next`, and a sheet from `sheet` to `after`

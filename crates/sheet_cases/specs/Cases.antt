@@ -7,7 +7,7 @@ use lib.ListN.{length}
 use Rattle.field.specs.Field.{cutAt}
 use Rattle.field.specs.declared.Cut.{Cut}
 use Rattle.field.specs.declared.Cut.the-variants.{Field, Short, Absent}
-use Rattle.layout.specs.Read.{contentAt}
+use Rattle.layout.specs.Content.{contentAt}
 use Rattle.layout.specs.Opened.{offsetsOf, levelsOf}
 use Rattle.field.specs.Bytes.{over}
 use Rattle.sheet.specs.Check.{readSoFar}

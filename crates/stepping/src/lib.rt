@@ -1,4 +1,4 @@
-// Stepping an item and catching up.
+// Stepping an item, and stepping every marked item in one ascending pass, which is catching up.
 ghost use mathlib.Core.Path.{_≡_};
 ghost use mathlib.Core.Bool.{false};
 ghost use Prim.Native.Nat.{_+_, _*_, _<_, _≤_};
@@ -96,7 +96,7 @@ pub fn step_refresh(
     }
 }
 
-// Steps item i, if it is marked.
+// Steps item i by its mark; without one nothing is done.
 fn step_item(
     sheet: &[u8],
     offsets: &[usize],

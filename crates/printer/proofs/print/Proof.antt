@@ -10,7 +10,8 @@ use mir.ValLaws.{toZ-ofZ}
 use Rattle.printer.specs.declared.Printed.{Printed}
 use Rattle.printer.specs.declared.Printed.the-variants.{Length, Refused}
 use Rattle.printer.specs.Printing.{partOf}
-use Rattle.printer.specs.Contract.{lengthOf, Prints}
+use Rattle.printer.specs.Contract.{Prints}
+use Rattle.printer.proofs.Answers.{lengthOf}
 use Rattle.printer.proofs.Values.{part-length, part-front}
 use Rattle.printer.proofs.print.Statement.{statement}
 use Rattle.printer.proofs.print.Tie as tie

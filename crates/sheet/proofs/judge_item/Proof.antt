@@ -1,7 +1,7 @@
 -- `sheet::judge_item` meets its contract: at each `return` the tests that led there say what the field's answer is. Assumes nothing.
 use mathlib.Core.Path.{sym, ap, _∙_}
 use mathlib.Core.Bool.{true, false}
-use Rattle.layout.specs.Read.{contentAt}
+use Rattle.layout.specs.Content.{contentAt}
 use Rattle.sheet.specs.Check.{judgedItem}
 use Rattle.sheet.proofs.Judging.{entry-judged, other-judged}
 use borrow.Author.Needs.{needs}
