@@ -36,18 +36,12 @@ pub fn recalled(tags: &[u64], numbers: &[i64], generation: u64, i: usize) -> Rec
     })
 }
 
-fn wide(kind: u8) -> u64
-    ensures { λ r. ⌜ (r ≡ kind) × (r < 256) ⌝ }
-{
-    kind as u64
-}
-
 fn tag_of(generation: u64, seen: Seen) -> u64
     requires { ⌜ generation < 2_147_483_648 ⌝ }
     ensures { λ r. ⌜ r ≡ tagOf generation (seenMeaning seen) ⌝ }
 {
     let value = seen.value;
-    let code = 8 * generation + 2 * wide(value.kind());
+    let code = 8 * generation + 2 * word::wide(value.kind());
     if seen.flag { code + 1 } else { code }
 }
 

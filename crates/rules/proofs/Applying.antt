@@ -36,7 +36,7 @@ module _ (op v : Operation) (told : op ≡ v) (o : rules.Operation) (is : operat
   takes-count : rules.countAllowed o n ≡ true
   takes-count = rw means at takes
 
-  pub many-ask : rules.countAllowed o n ≡ rules.oneOrMore n → (n ≤ 16) × (allWellFormed (firstValues ks zs n) ≡ true)
+  pub many-ask : rules.countAllowed o n ≡ rules.oneOrMore n → (n ≤ rules.maxParents) × (allWellFormed (firstValues ks zs n) ≡ true)
   unfolding rules.oneOrMore rules.maxParents
   many-ask e = (leb-true n 16 (and-right (leb 1 n) (leb n 16) (sym e ∙ takes-count)), formed)
 

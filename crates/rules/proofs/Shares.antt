@@ -15,7 +15,8 @@ use mir.ValLaws.{toZ-pos}
 use Rattle.circuit.proofs.RuleLaws.{inRange-size, neg-size}
 use Rattle.circuit.specs.Rules.{floorDiv, whole, shareOf}
 use Rattle.circuit.specs.Value as circuit
-use Rattle.value.proofs.Signed.{sixteen-fit, fits, back, read}
+use Rattle.circuit.specs.Rules.{maxParents}
+use Rattle.value.proofs.Signed.{limit-small, fits, back, read}
 
 whole-pos : 0 < whole
 unfolding whole
@@ -106,10 +107,11 @@ pub cast-size : (z : ℤ) (k : ℕ) → z ≡ pos k → k < 2 ^ 63 → T (nonNeg
 cast-size z k e h = rw e (tt, record { fits = omega arith })
 
 pub pos-fits : (k : ℕ) → k ≤ circuit.limit → SFits w64 (pos k)
+unfolding maxParents
 pos-fits k h = fits (pos k) (omega arith)
 
 pub size-fits : (z : ℤ) → circuit.inRange z ≡ true → natAbs z < 2 ^ 63
-size-fits z e = omega (arith, inRange-size z e, sixteen-fit)
+size-fits z e = omega (arith, inRange-size z e, limit-small)
 
 pub parts-size : (p : ℤ) → leZ (pos 0) p ≡ true → leZ p (pos whole) ≡ true → natAbs p ≤ whole
 parts-size (pos k) e h = leb-true k whole h
@@ -150,6 +152,7 @@ module _ (x p : ℤ) (e : circuit.inRange x ≡ true) (fx : SFits w64 x) (fp : S
     read-back = toZ-pos w64 r (result-fits .sfits)
 
     pub negative-fits : SFits w64 (pos 0 -ℤ toZ w64 r)
+    unfolding maxParents
     negative-fits = rw (read-back, +ℤ-idl (negℤ (pos r))) (fits (negℤ (pos r)) (omega (arith, neg-size (pos r), small)))
 
     pub below-zero : c ≡ 9999 → ltZ (read x) (pos 0) ≡ true → read (pos 0 -ℤ toZ w64 r) ≡ floorDiv (x *ℤ p) whole

@@ -91,7 +91,7 @@ module _ (t : Tally) (z : ℤ) (no : t .out ≡ false) where
 
 module _ (ks : List ℕ) (zs : List ℤ) (n i : ℕ) (t : Tally) (is : t ≡ takenAll empty (firstValues ks zs i)) (h : i < n)
     (formed : allWellFormed (firstValues ks zs n) ≡ true) (v : circuit.Value) (ev : v ≡ valueAt ks zs i) where
-  pub turn-room : n ≤ 16 → Room t
+  pub turn-room : n ≤ rules.maxParents → Room t
   turn-room l =
       rw is
       (room (firstValues ks zs i) (omega (arith, firstValues-length ks zs i))

@@ -1,6 +1,6 @@
 -- The tally of a list of values: how it grows by one value, that there is room for the next, and what it says of the
 -- list's numbers. Assumes nothing.
-use Prim.Native.Nat.{_+_, _*_, _≤_, _<_}
+use Prim.Native.Nat.{_+_, _*_, _≤_, _<_, suc}
 use mathlib.Core.Bool.{Bool, true, false, cond, _||_}
 use mathlib.Core.List.{List, [], _∷_, _++_}
 use mathlib.Core.Path.{_≡_, refl, ap, _∙_}
@@ -14,7 +14,7 @@ use mir.Syntax.{w64}
 use mir.Val.{SFits, toZ}
 use mir.ValLaws.{toZ-pos}
 use Rattle.circuit.proofs.RuleLaws.{add-size, inRange-size, and-left, and-right}
-use Rattle.circuit.specs.Rules.{sum, smallest, largest, count, apply, anyOut, numbers, ofNumbers, strict, total, least, greatest, lesser, greater, howMany}
+use Rattle.circuit.specs.Rules.{maxParents, sum, smallest, largest, count, apply, anyOut, numbers, ofNumbers, strict, total, least, greatest, lesser, greater, howMany}
 use Rattle.circuit.specs.Value.{Value, null, out, num, limit, wellFormed, ranged}
 use Rattle.circuit.specs.WellFormed.{allWellFormed}
 use Rattle.tally.specs.Tally.{Room, empty, counted, taken, takenAll, ruleResult}
@@ -61,11 +61,16 @@ takenAll-total (v ∷ vs) t e =
       suc-mul (length vs) limit,
     )
 
-pub room : (vs : List Value) → length vs < 16 → allWellFormed vs ≡ true → Room (takenAll empty vs)
+pub room : (vs : List Value) → length vs < maxParents → allWellFormed vs ≡ true → Room (takenAll empty vs)
 room vs h e =
     record {
       count = omega (arith, takenAll-count vs empty);
-      total = omega (arith, takenAll-total vs empty e, mul-le-mul-right {m = length vs} {n = 15} limit (omega arith));
+      total = omega (
+        arith,
+        takenAll-total vs empty e,
+        suc-mul (length vs) limit,
+        mul-le-mul-right {m = suc (length vs)} {n = maxParents} limit (omega arith),
+      );
     }
 
 -- ---- what a tally says
@@ -165,8 +170,9 @@ module _ (vs : List Value) (t : Tally) (is : t ≡ takenAll empty vs) where
   largest-is f = rule-is greatest (read (t .greatest)) (λ y ys r. back (t .greatest) f ∙ r .greatest)
 
   -- the count as a signed number
-  module _ (h : length vs ≤ 16) where
+  module _ (h : length vs ≤ maxParents) where
     pub count-fits : SFits w64 (pos (t .count))
+    unfolding maxParents
     count-fits = record { sfits = omega (arith, ap (λ (u : Tally). u .count) is, takenAll-count vs empty) }
 
     pub count-is : ruleResult t (toZ w64 (t .count)) ≡ apply count vs

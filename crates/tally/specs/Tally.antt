@@ -4,7 +4,7 @@ use mathlib.Core.Bool.{true, false, cond}
 use mathlib.Core.List.{List, [], _∷_}
 use lib.Dec.{eqb}
 use lib.IntN.{ℤ, pos, _+ℤ_, natAbs}
-use Rattle.circuit.specs.Rules.{lesser, greater}
+use Rattle.circuit.specs.Rules.{maxParents, lesser, greater}
 use Rattle.circuit.specs.Value.{Value, null, out, num, limit, ranged}
 use Rattle.tally.specs.declared.Tally.{Tally}
 
@@ -30,10 +30,10 @@ unfoldable pub takenAll : Tally → List Value → Tally
 takenAll t [] = t
 takenAll t (v ∷ vs) = takenAll (taken t v) vs
 
--- one more value fits: fewer than 16 numbers are counted, each within the range
+-- one more value fits: fewer numbers are counted than a figure has parents at most, each within the range
 pub record Room (t : Tally) : Type 0 where
-  pub count : t .count < 16
-  pub total : natAbs (t .total) ≤ 15 * limit
+  pub count : t .count < maxParents
+  pub total : natAbs (t .total) + limit ≤ maxParents * limit
 
 -- the result of a rule that makes z of the numbers
 abbrev pub ruleResult : Tally → ℤ → Value

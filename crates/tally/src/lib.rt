@@ -96,7 +96,7 @@ fn take_in(t: Tally, v: Value) -> Tally
 
 // The tally of the first n values.
 fn tally_of(kinds: &[u8; MAX_PARENTS], numbers: &[i64; MAX_PARENTS], n: usize) -> Tally
-    requires { ⌜ n ≤ 16 ⌝ ∗ ⌜ allWellFormed (firstValues (now kinds) (now numbers) n) ≡ true ⌝ }
+    requires { ⌜ n ≤ rules.maxParents ⌝ ∗ ⌜ allWellFormed (firstValues (now kinds) (now numbers) n) ≡ true ⌝ }
     ensures { λ r. ⌜ r ≡ takenAll empty (firstValues (now (kinds .entry)) (now (numbers .entry)) n) ⌝ }
 {
     let mut t = Tally {
@@ -129,7 +129,7 @@ fn ruled(t: Tally, n: i64) -> Value
 }
 
 pub fn sum(kinds: &[u8; MAX_PARENTS], numbers: &[i64; MAX_PARENTS], n: usize) -> Value
-    requires { ⌜ n ≤ 16 ⌝ ∗ ⌜ allWellFormed (firstValues (now kinds) (now numbers) n) ≡ true ⌝ }
+    requires { ⌜ n ≤ rules.maxParents ⌝ ∗ ⌜ allWellFormed (firstValues (now kinds) (now numbers) n) ≡ true ⌝ }
     ensures { λ r. ⌜ meaning r ≡ rules.apply rules.sum (firstValues (now (kinds .entry)) (now (numbers .entry)) n) ⌝ }
 {
     let t = tally_of(kinds, numbers, n);
@@ -137,7 +137,7 @@ pub fn sum(kinds: &[u8; MAX_PARENTS], numbers: &[i64; MAX_PARENTS], n: usize) ->
 }
 
 pub fn smallest(kinds: &[u8; MAX_PARENTS], numbers: &[i64; MAX_PARENTS], n: usize) -> Value
-    requires { ⌜ n ≤ 16 ⌝ ∗ ⌜ allWellFormed (firstValues (now kinds) (now numbers) n) ≡ true ⌝ }
+    requires { ⌜ n ≤ rules.maxParents ⌝ ∗ ⌜ allWellFormed (firstValues (now kinds) (now numbers) n) ≡ true ⌝ }
     ensures { λ r. ⌜ meaning r ≡ rules.apply rules.smallest (firstValues (now (kinds .entry)) (now (numbers .entry)) n) ⌝ }
 {
     let t = tally_of(kinds, numbers, n);
@@ -145,7 +145,7 @@ pub fn smallest(kinds: &[u8; MAX_PARENTS], numbers: &[i64; MAX_PARENTS], n: usiz
 }
 
 pub fn largest(kinds: &[u8; MAX_PARENTS], numbers: &[i64; MAX_PARENTS], n: usize) -> Value
-    requires { ⌜ n ≤ 16 ⌝ ∗ ⌜ allWellFormed (firstValues (now kinds) (now numbers) n) ≡ true ⌝ }
+    requires { ⌜ n ≤ rules.maxParents ⌝ ∗ ⌜ allWellFormed (firstValues (now kinds) (now numbers) n) ≡ true ⌝ }
     ensures { λ r. ⌜ meaning r ≡ rules.apply rules.largest (firstValues (now (kinds .entry)) (now (numbers .entry)) n) ⌝ }
 {
     let t = tally_of(kinds, numbers, n);
@@ -153,7 +153,7 @@ pub fn largest(kinds: &[u8; MAX_PARENTS], numbers: &[i64; MAX_PARENTS], n: usize
 }
 
 pub fn count(kinds: &[u8; MAX_PARENTS], numbers: &[i64; MAX_PARENTS], n: usize) -> Value
-    requires { ⌜ n ≤ 16 ⌝ ∗ ⌜ allWellFormed (firstValues (now kinds) (now numbers) n) ≡ true ⌝ }
+    requires { ⌜ n ≤ rules.maxParents ⌝ ∗ ⌜ allWellFormed (firstValues (now kinds) (now numbers) n) ≡ true ⌝ }
     ensures { λ r. ⌜ meaning r ≡ rules.apply rules.count (firstValues (now (kinds .entry)) (now (numbers .entry)) n) ⌝ }
 {
     let t = tally_of(kinds, numbers, n);

@@ -1,6 +1,6 @@
 -- Signed numbers of 64 bits and the range: what fits, what is read back from the bits, and the test of the range.
 -- Assumes nothing.
-use Prim.Native.Nat.{ℕ, zero, suc, _-_, _*_, _^_, _≤_, _<_}
+use Prim.Native.Nat.{ℕ, zero, suc, _-_, _*_, _^_, _≤_, _<_, _+_}
 use mathlib.Core.Bool.{Bool, true, false}
 use mathlib.Core.Path.{_≡_, refl, sym, ap, _∙_}
 use native.Mathlib.Omega.{arith}
@@ -12,16 +12,22 @@ use mir.Syntax.{w64}
 use mir.Val.{SFits, toZ, ofZ}
 use mir.ValLaws.{toZ-ofZ}
 use Rattle.circuit.proofs.RuleLaws.{add-size, neg-size, inRange-size}
+use Rattle.circuit.specs.Rules.{maxParents}
 use Rattle.circuit.specs.Value.{limit, inRange, sameNumber}
 
--- sixteen numbers of the range add up to a number of 64 bits
-pub sixteen-fit : 16 * limit < 2 ^ 63
+-- a number of the range, and a few more
+pub limit-small : 2 * limit < 2 ^ 63
 unfolding limit
-sixteen-fit = lit< tt
+limit-small = lit< tt
 
-pub fits : (z : ℤ) → natAbs z ≤ 16 * limit → SFits w64 z
-fits (pos n) h = record { sfits = omega (arith, sixteen-fit) }
-fits (negsuc n) h = record { sfits = omega (arith, sixteen-fit) }
+-- as many numbers of the range as a figure has parents add up to a number of 64 bits
+pub parents-fit : maxParents * limit < 2 ^ 63
+unfolding limit maxParents
+parents-fit = lit< tt
+
+pub fits : (z : ℤ) → natAbs z ≤ maxParents * limit → SFits w64 z
+fits (pos n) h = record { sfits = omega (arith, parents-fit) }
+fits (negsuc n) h = record { sfits = omega (arith, parents-fit) }
 
 -- what is read back from the bits of z
 abbrev pub read : ℤ → ℤ
@@ -33,10 +39,11 @@ back z f = toZ-ofZ w64 z f
 
 -- ---- sums and differences
 
-pub sum-fits : (x y : ℤ) → natAbs x ≤ 15 * limit → inRange y ≡ true → SFits w64 (x +ℤ y)
+pub sum-fits : (x y : ℤ) → natAbs x + limit ≤ maxParents * limit → inRange y ≡ true → SFits w64 (x +ℤ y)
 sum-fits x y h e = fits (x +ℤ y) (omega (arith, add-size x y, inRange-size y e))
 
 pub difference-fits : (x y : ℤ) → inRange x ≡ true → inRange y ≡ true → SFits w64 (x -ℤ y)
+unfolding maxParents
 difference-fits x y e f =
     fits (x -ℤ y) (omega (arith, add-size x (negℤ y), neg-size y, inRange-size x e, inRange-size y f))
 

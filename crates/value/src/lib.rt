@@ -1,6 +1,7 @@
 // A value: NULL, OUT or a number within the range, and the kind and number that it is taken apart into.
 ghost use mathlib.Core.Path.{_≡_};
 ghost use Prim.Native.Nat.{_<_};
+ghost use Rattle.circuit.specs.Rules.{maxParents};
 ghost use Rattle.circuit.specs.Value as circuit;
 ghost use Rattle.value.specs.Meaning.{meaning, partsMeaning, valueAt};
 
@@ -175,7 +176,7 @@ impl Value {
 
 // The k-th of the parents' values, of which two arrays have the kinds and the numbers.
 pub fn value_at(kinds: &[u8; MAX_PARENTS], numbers: &[i64; MAX_PARENTS], k: usize) -> Value
-    requires { ⌜ k < 16 ⌝ }
+    requires { ⌜ k < maxParents ⌝ }
     ensures { λ r. ⌜ meaning r ≡ valueAt (now (kinds .entry)) (now (numbers .entry)) k ⌝ }
 {
     Value::of_parts(kinds[k], numbers[k])

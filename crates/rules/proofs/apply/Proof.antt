@@ -2,6 +2,7 @@
 use mathlib.Core.Path.{refl}
 use native.Mathlib.Omega.{arith}
 use borrow.Author.Needs.{needs}
+use Rattle.circuit.specs.Rules.{maxParents}
 use Rattle.circuit.specs.Rules as rules
 use Rattle.value.specs.Meaning.{meaning}
 use Rattle.rules.proofs.Applying.{many-ask, applied-all, formed-at, applied-two, applied-three, takes-none}
@@ -97,6 +98,7 @@ returns-9 c =
     absurd (takes-none (s .args .op) (s .args .n) (c .enum-told9 .given .1) (s .pre .0))
 
 pub apply-spec : {M : Type 1} → statement M
+unfolding maxParents
 apply-spec =
     tie.close
     (tie.spec

@@ -2,13 +2,13 @@
 use native.Mathlib.Omega.{arith}
 use Rattle.circuit.specs.Rules.{whole}
 use Rattle.rules.proofs.Shares.{high-size, low-size, low-fits, quotient-size, two-parts}
-use Rattle.value.proofs.Signed.{sixteen-fit}
+use Rattle.value.proofs.Signed.{limit-small}
 use Rattle.rules.proofs.scaled.Statement.{statement}
 use Rattle.rules.proofs.scaled.Tie as tie
 
 mul-result : tie.Need-mul-result
 unfolding whole
-mul-result c = omega (arith, high-size (c .args .m) (c .args .parts) (c .pre .1 .0), sixteen-fit)
+mul-result c = omega (arith, high-size (c .args .m) (c .args .parts) (c .pre .1 .0), limit-small)
 
 mul-result-2 : tie.Need-mul-result-2
 unfolding whole
@@ -26,7 +26,7 @@ add-result-2 c =
       two-parts (c .args .m) (c .args .parts) (c .args .more),
       quotient-size (c .args .m) (c .args .parts) (c .args .more)
           (c .pre .1 .0) (c .pre .1 .1),
-      sixteen-fit,
+      limit-small,
     )
 
 returns : tie.Need-returns

@@ -1,6 +1,7 @@
 -- `tally::count_in` meets its contract. Assumes nothing.
 use Rattle.tally.proofs.Taking.{next-fits, count-first, count-next}
 use borrow.Author.Needs.{needs}
+use Rattle.circuit.specs.Rules.{maxParents}
 use Rattle.tally.proofs.count_in.Statement.{statement}
 use Rattle.tally.proofs.count_in.Tie as tie
 
@@ -22,5 +23,6 @@ returns-2 c =
     (search needs) (search needs) (c .before .before .plus .ensures) (c .before .lesser .ensures) (c .greater .ensures)
 
 pub count-in-spec : {M : Type 1} → statement M
+unfolding maxParents
 count-in-spec =
     tie.close (tie.spec returns plus-requires (λ c κs. search needs) (λ c κs. search needs) (λ c. search needs) returns-2)
