@@ -1,4 +1,4 @@
--- `enter::measure` meets its contract: by the check's answer, and by the lengths. Assumes nothing.
+-- `admission::measure` meets its contract: by the check's answer, and by the lengths. Assumes nothing.
 use native.Mathlib.Omega.{arith}
 use mathlib.Core.Path.{sym, _∙_}
 use borrow.Author.Needs.{needs}

@@ -1,4 +1,4 @@
--- `calls::ask_lent` meets its contract. Assumes nothing.
+-- `call_ask::ask_lent` meets its contract. Assumes nothing.
 use Rattle.call_ask.proofs.Asking.{ask-refused, ask-done}
 use borrow.Author.Needs.{needs}
 use Rattle.call_ask.proofs.ask_lent.Statement.{statement}

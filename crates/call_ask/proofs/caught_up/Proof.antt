@@ -1,4 +1,4 @@
--- `calls::caught_up` meets its contract. Assumes nothing.
+-- `call_ask::caught_up` meets its contract. Assumes nothing.
 use Prim.Native.Nat.{_+_}
 use native.Mathlib.Omega.{arith}
 use mathlib.Core.Path.{refl}

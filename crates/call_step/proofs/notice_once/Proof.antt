@@ -1,4 +1,4 @@
--- `calls::notice_once` meets its contract. Assumes nothing.
+-- `call_step::notice_once` meets its contract. Assumes nothing.
 use Prim.Native.Nat.{_*_}
 use mathlib.Core.Path.{refl}
 use lib.ListN.{replicate}

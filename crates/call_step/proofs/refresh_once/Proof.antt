@@ -1,4 +1,4 @@
--- `calls::refresh_once` meets its contract. Assumes nothing.
+-- `call_step::refresh_once` meets its contract. Assumes nothing.
 use mathlib.Core.Path.{refl}
 use Rattle.layout.specs.Layout.{itemLimit, mostItems}
 use Rattle.stepping.proofs.Starting.{same-all, fresh-ready}

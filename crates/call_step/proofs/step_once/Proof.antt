@@ -1,4 +1,4 @@
--- `calls::step_once` meets its contract. Assumes nothing.
+-- `call_step::step_once` meets its contract. Assumes nothing.
 use native.Mathlib.Omega.{arith}
 use mathlib.Core.Path.{sym, _∙_}
 use Rattle.call_step.proofs.StepCall.{left-noticed}

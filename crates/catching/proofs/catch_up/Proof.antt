@@ -1,4 +1,4 @@
--- `calls::catch_up` meets its contract. Assumes nothing.
+-- `catching::catch_up` meets its contract. Assumes nothing.
 use Rattle.catching.proofs.Catching.{caught-quiet}
 use borrow.Author.Needs.{needs}
 use Rattle.catching.proofs.catch_up.Statement.{statement}

@@ -1,4 +1,4 @@
--- `calls::catch_up_from` meets its contract. Assumes nothing.
+-- `catching::catch_up_from` meets its contract. Assumes nothing.
 use Prim.Native.Nat.{_+_, _*_}
 use native.Mathlib.Omega.{arith}
 use mathlib.Core.Path.{refl}

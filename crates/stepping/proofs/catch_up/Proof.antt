@@ -1,4 +1,4 @@
--- `step::catch_up` meets its contract. The loop's invariant: the pass has reached i. Assumes nothing.
+-- `stepping::catch_up` meets its contract. The loop's invariant: the pass has reached i. Assumes nothing.
 use Prim.Native.Nat.{_-_}
 use native.Mathlib.Omega.{arith}
 use Rattle.item.proofs.Located.{size-most}

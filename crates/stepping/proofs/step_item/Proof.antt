@@ -1,4 +1,4 @@
--- `step::step_item` meets its contract. Assumes nothing.
+-- `stepping::step_item` meets its contract. Assumes nothing.
 use mathlib.Core.Path.{sym, _∙_}
 use Rattle.stepping.proofs.Stepping.{steps-noticed}
 use borrow.Author.Needs.{needs}

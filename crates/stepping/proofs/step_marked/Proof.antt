@@ -1,4 +1,4 @@
--- `step::step_marked` meets its contract. Assumes nothing.
+-- `stepping::step_marked` meets its contract. Assumes nothing.
 use Rattle.stepping.proofs.Ascending.{marked-steps, unmarked-stays}
 use borrow.Author.Needs.{needs}
 use Rattle.stepping.proofs.step_marked.Statement.{statement}

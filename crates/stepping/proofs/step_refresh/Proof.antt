@@ -1,4 +1,4 @@
--- `step::step_refresh` meets its contract. Assumes nothing.
+-- `stepping::step_refresh` meets its contract. Assumes nothing.
 use Rattle.stepping.proofs.Stepping.{ready-memo, nothing-above, step-unnoticed, step-unmarked, refresh-renewable, step-refresh, step-notice}
 use borrow.Author.Needs.{needs}
 use Rattle.stepping.proofs.step_refresh.Statement.{statement}

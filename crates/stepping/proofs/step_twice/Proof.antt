@@ -1,4 +1,4 @@
--- `step::step_twice` meets its contract. Assumes nothing.
+-- `stepping::step_twice` meets its contract. Assumes nothing.
 use Rattle.stepping.proofs.Ascending.{second-lent, second-ready, stepped-twice, unmarked-twice, ready-before}
 use borrow.Author.Needs.{needs}
 use Rattle.stepping.proofs.step_twice.Statement.{statement}

@@ -1,4 +1,4 @@
--- `step::tell_and_clear` meets its contract. Assumes nothing.
+-- `stepping::tell_and_clear` meets its contract. Assumes nothing.
 use Rattle.stepping.proofs.Stepping.{ready-memo, clear-steps}
 use mathlib.Core.Path.{_∙_}
 use borrow.Author.Needs.{needs}

@@ -1,4 +1,4 @@
--- `step::tell_children` meets its contract. The loop's invariant: the children below some item are told, and the edge leads to the
+-- `telling::tell_children` meets its contract. The loop's invariant: the children below some item are told, and the edge leads to the
 -- next. Assumes nothing.
 use native.Mathlib.Omega.{arith}
 use borrow.Author.Needs.{needs}
