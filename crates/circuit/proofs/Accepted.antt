@@ -2,14 +2,15 @@
 use Prim.Native.Nat.{ℕ, zero, suc, _<_}
 use mathlib.Core.Path.{_≡_, refl, ap}
 use mathlib.Core.Bool.{Bool, true, false}
-use mathlib.Core.List.{List, _∷_}
+use mathlib.Core.List.{List, [], _∷_}
 use native.Mathlib.Omega.{arith}
 use lib.IntN.{ℤ}
 use borrow.Author.Tests.{leb-false, not-false}
 use Rattle.circuit.specs.Sheet.{Sheet, size, itemAt, isFigure}
 use Rattle.circuit.specs.Table.{Table, isMarked}
-use Rattle.circuit.specs.Call.{Call, post, keep, drop, step, ask}
-use Rattle.circuit.specs.Calls.{Test, test, tests, firstCause, effect, effectUnless, perform}
+use Rattle.circuit.specs.Call.{Call, post, keep, drop, step, ask, board}
+use Rattle.circuit.specs.Board.{listed}
+use Rattle.circuit.specs.Calls.{Test, test, tests, firstCause, someNoItem, showItems, effect, effectUnless, perform}
 
 -- no cause holds: the first does not, and none of the others
 pub no-cause : (k : ℕ) (b : Bool) (ts : List Test) → firstCause (test (suc k) b ∷ ts) ≡ 0 → (b ≡ false) × (firstCause ts ≡ 0)
@@ -34,6 +35,11 @@ effect-number S T (keep i) = refl
 effect-number S T (drop i) = refl
 effect-number S T (step i) = refl
 effect-number S T (ask i) = refl
+effect-number S T (board items results) = go (listed items)
+  where
+    go : (is : List ℕ) → showItems S T is .number ≡ 0
+    go [] = refl
+    go (i ∷ is) = refl
 
 -- a call that met no cause has its effect
 pub accepted-effect : (S : Sheet) (T : Table) (c : Call) → firstCause (tests S T c) ≡ 0 → perform S T c ≡ effect S T c
@@ -75,3 +81,8 @@ step-passed S T i e =
 pub ask-passed : (S : Sheet) (T : Table) (i : ℕ) → Passed S T (ask i) → i < size S
 unfolding tests
 ask-passed S T i e = leb-false (size S) i (no-cause 10 _ _ e .0)
+
+-- all the items of an accepted board are in the sheet
+pub board-passed : (S : Sheet) (T : Table) (items results : List ℕ) → Passed S T (board items results) → someNoItem S (listed items) ≡ false
+unfolding tests
+board-passed S T items results e = no-cause 10 _ _ (no-cause 16 _ _ e .1) .0

@@ -102,14 +102,14 @@ module _ (S : Sheet) (ordered : Ordered S) where
   abbrev Right : (Table → ℕ → Looked) → ℕ → Type 0
   Right look b = (T : Table) (p : ℕ) → p < b → Looks S T (view S T p) (look T p)
 
-  gather-right : (look : Table → ℕ → Looked) (b : ℕ) → Right look b → (ps : List ℕ) (T : Table)
-      → ((p : ℕ) → Listed p ps → p < b) → Gathers S T ps (gather look T ps)
+  gather-right : (look : Table → ℕ → Looked) (ps : List ℕ) → ((T : Table) (p : ℕ) → Listed p ps → Looks S T (view S T p) (look T p))
+      → (T : Table) → Gathers S T ps (gather look T ps)
   unfolding gather
-  gather-right look b right [] T low = record { values = refl; flag = refl; fill = fill-refl S T }
-  gather-right look b right (p ∷ ps) T low =
+  gather-right look [] right T = record { values = refl; flag = refl; fill = fill-refl S T }
+  gather-right look (p ∷ ps) right T =
       let U : Table = look T p .table in
-      let r : Looks S T (view S T p) (look T p) = right T p (low p (inl refl)) in
-      let g : Gathers S U ps (gather look U ps) = gather-right look b right ps U (λ q l. low q (inr l)) in
+      let r : Looks S T (view S T p) (look T p) = right T p (inl refl) in
+      let g : Gathers S U ps (gather look U ps) = gather-right look ps (λ W q l. right W q (inr l)) U in
       let same : (q : ℕ) → view S U q ≡ view S T q = fill-view T U (r .fill) in
       record {
         values =
@@ -124,7 +124,7 @@ module _ (S : Sheet) (ordered : Ordered S) where
   unfolding workOutBy
   workOut-right look b right T i l =
       let g : Gathers S T (parents S i) (gather look T (parents S i))
-      = gather-right look b right (parents S i) T (λ p m. let o : p < i = ordered i p m in omega arith) in
+      = gather-right look (parents S i) (λ U p m. let o : p < i = ordered i p m in right U p (omega arith)) T in
       record { value = ap (evaluate (itemAt S i) null) (g .values); flag = g .flag; fill = g .fill }
 
   -- a result is stored in an unstored figure
@@ -174,6 +174,10 @@ module _ (S : Sheet) (ordered : Ordered S) where
   pub look-right : (T : Table) (i : ℕ) → Looks S T (view S T i) (lookUp S T i)
   unfolding lookUp
   look-right T i = lookFor-right (suc i) T i (omega arith)
+
+  -- and so do look-ups one after the other
+  pub looks-right : (T : Table) (ps : List ℕ) → Gathers S T ps (gather (lookUp S) T ps)
+  looks-right T ps = gather-right (lookUp S) ps (λ U p l. look-right U p) T
 
   -- so does working out, with the result by the parents
   pub work-right : (T : Table) (i : ℕ) → Looks S T (result S T i) (workOut S T i)

@@ -16,6 +16,7 @@ pub mod Equations
 pub mod Memo
 pub mod Reading
 pub mod Sound
+pub mod Board
 pub mod Offices
 pub mod Steps
 pub mod Retention

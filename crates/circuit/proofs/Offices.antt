@@ -1,23 +1,29 @@
 -- Two offices agree (`two-offices`): for any two sound tables with the same entries, and any two lists of calls that make
--- the same postings in order, every ask has the same answer in both, which is the fresh office's. The four pairs of
--- openings are an instance (`two-openings`). Assumes that the sheet is ordered.
+-- the same postings in order, every ask and every board has the same answer in both, which is the fresh office's. The four pairs
+-- of openings are an instance (`two-openings`). Assumes that the sheet is ordered.
 use Prim.Native.Nat.{ℕ, zero, suc}
-use mathlib.Core.Path.{_≡_, refl, sym, ap, subst, _∙_}
+use mathlib.Core.Path.{_≡_, refl, sym, ap, ap₂, subst, _∙_}
 use mathlib.Core.Bool.{Bool, true, false, cond, _||_}
-use mathlib.Core.List.{List, [], _∷_, _++_}
+use mathlib.Core.List.{List, [], _∷_, _++_, map}
 use mathlib.Core.Option.{Option, none, some}
 use borrow.Author.Tests.{leb-false}
 use Rattle.circuit.specs.Value.{Value}
 use Rattle.circuit.specs.Sheet.{Sheet, size, itemAt, beyond, isFigure, Ordered, Entries}
 use Rattle.circuit.specs.Table.{Table, opened}
-use Rattle.circuit.specs.Machine.{lookUp, catchUp}
-use Rattle.circuit.specs.Call.{Call, post, keep, drop, step, ask, Posting, Opening, bare, full}
-use Rattle.circuit.specs.Calls.{Outcome, tests, firstCause, isNone, postedValue, effect, effectUnless, perform, run, postingOf, ifAccepted, postingsMade, postings}
-use Rattle.circuit.specs.Fresh.{called, blank, setEntry, hear, hearAll, give, freshAsk, freshRun}
+use Rattle.circuit.specs.Machine.{lookUp, gather, catchUp}
+use Rattle.circuit.specs.Call.{Call, post, keep, drop, step, ask, board, Posting, Opening, bare, full}
+use Rattle.circuit.specs.Board.{listed, listsWrong}
+use Rattle.circuit.specs.Calls.{Outcome, tests, firstCause, isNone, someNoItem, postedValue, showItems, effect, effectUnless, perform, run, postingOf, ifAccepted, postingsMade, postings}
+use Rattle.circuit.specs.Words.{Quiet}
+use Rattle.circuit.specs.Fresh.{called, blank, setEntry, hear, hearAll, give, freshAsk, valuesWith, freshAsks, freshRun}
 use Rattle.circuit.proofs.Solution.{give-solves}
 use Rattle.circuit.proofs.Fresh.{setIf, hear-post}
+use Rattle.circuit.proofs.View.{view}
+use Rattle.circuit.proofs.Fill.{look-right, looks-right}
 use Rattle.circuit.proofs.CatchUp.{catchUp-quiet}
 use Rattle.circuit.proofs.Reading.{quiet-look}
+use Rattle.circuit.proofs.RuleLaws.{or-false}
+use Rattle.circuit.proofs.Accepted.{effect-number}
 use Rattle.circuit.proofs.Sound.{Sound, catchUp-sound, run-sound, bare-sound, full-sound}
 
 -- an ask's answer, by what the fresh office gives: number 0 with its value, or 11 with none where it gives no value
@@ -25,13 +31,24 @@ abbrev pub Answers : Option Value → Outcome → Type 0
 Answers none o = (o .number ≡ 11) × (o .reading ≡ none)
 Answers (some v) o = (o .number ≡ 0) × (o .reading ≡ some v)
 
+-- a board's answer, by whether its lists are wrong (17) and by what the fresh office gives for its items
+abbrev pub Shows : Bool → Option (List Value) → Outcome → Type 0
+Shows true given o = (o .number ≡ 17) × (o .shown ≡ [])
+Shows false none o = (o .number ≡ 11) × (o .shown ≡ [])
+Shows false (some vs) o = (o .number ≡ 0) × (o .shown ≡ vs)
+
 -- Offices that start at the tables T and U, both with entries E, and hear the lists cs and ds: afterwards every ask has
--- the same answer in both, which is the answer of the fresh office fed either list.
+-- the same answer in both, which is the answer of the fresh office fed either list; and so has every board.
 pub record Agree (S : Sheet) (E : Entries) (T : Table) (cs : List Call) (U : Table) (ds : List Call) : Type 0 where
   pub numbers : (i : ℕ) → perform S (run S T cs) (ask i) .number ≡ perform S (run S U ds) (ask i) .number
   pub readings : (i : ℕ) → perform S (run S T cs) (ask i) .reading ≡ perform S (run S U ds) (ask i) .reading
   pub first : (i : ℕ) → Answers (freshAsk S (freshRun S E cs) i) (perform S (run S T cs) (ask i))
   pub second : (i : ℕ) → Answers (freshAsk S (freshRun S E ds) i) (perform S (run S T cs) (ask i))
+  pub heard : freshRun S E cs ≡ freshRun S E ds
+  pub shows : (items results : List ℕ)
+      → Shows (listsWrong items results) (freshAsks S (freshRun S E cs) (listed items)) (perform S (run S T cs) (board items results))
+  pub shows-other : (items results : List ℕ)
+      → Shows (listsWrong items results) (freshAsks S (freshRun S E ds) (listed items)) (perform S (run S U ds) (board items results))
 
 -- the entries after postings
 unfoldable pub entered : Entries → List Posting → Entries
@@ -62,6 +79,7 @@ hear-made S E T (keep i) = rw (none-made (perform S T (keep i) .number))
 hear-made S E T (drop i) = rw (none-made (perform S T (drop i) .number))
 hear-made S E T (step i) = rw (none-made (perform S T (step i) .number))
 hear-made S E T (ask i) = rw (none-made (perform S T (ask i) .number))
+hear-made S E T (board items results) = rw (none-made (perform S T (board items results) .number))
 
 -- so the postings decide what it holds
 pub fresh-entered : (S : Sheet) (cs : List Call) (E : Entries) (T : Table) → freshRun S E cs ≡ entered E (postings S T cs)
@@ -90,6 +108,50 @@ ask-answers S ordered E T sound i = go (beyond S i) refl
             quiet-look S ordered E (give S E) (give-solves S ordered E) (catchUp S T) (caught .invariant) (caught .formed) (caught .holds)
             (catchUp-quiet S ordered T) i (leb-false (size S) i e)
 
+-- The fresh office gives the items' values exactly if each is in the sheet.
+fresh-values : (S : Sheet) (E : Entries) (is : List ℕ) → freshAsks S E is ≡ cond (someNoItem S is) none (some (map (give S E) is))
+unfolding freshAsks freshAsk someNoItem
+fresh-values S E [] = refl
+fresh-values S E (i ∷ is) = rw (fresh-values S E is) (go (beyond S i) (someNoItem S is))
+  where
+    go : (a b : Bool)
+        → valuesWith (cond a none (some (give S E i))) (cond b none (some (map (give S E) is))) ≡ cond (a || b) none (some (give S E i ∷ map (give S E) is))
+    go true b = refl
+    go false true = refl
+    go false false = refl
+
+-- the views of items of the sheet, on a sound table without a mark, are the fresh office's values
+quiet-views : (S : Sheet) → Ordered S → (E : Entries) (T : Table) → Sound S E T → Quiet S T → (is : List ℕ) → someNoItem S is ≡ false
+    → map (λ i. view S T i .value) is ≡ map (give S E) is
+unfolding someNoItem
+quiet-views S ordered E T sound quiet [] e = refl
+quiet-views S ordered E T sound quiet (i ∷ is) e =
+    let parts = or-false (beyond S i) (someNoItem S is) e in
+    ap₂ _∷_
+    (sym (look-right S ordered T i .value)
+    ∙ quiet-look S ordered E (give S E) (give-solves S ordered E) T (sound .invariant) (sound .formed) (sound .holds) quiet i (leb-false (size S) i (parts .0)))
+    (quiet-views S ordered E T sound quiet is (parts .1))
+
+show-values : (S : Sheet) → Ordered S → (E : Entries) (T : Table) → Sound S E T → (is : List ℕ) → someNoItem S is ≡ false
+    → showItems S T is .shown ≡ map (give S E) is
+show-values S ordered E T sound [] e = refl
+show-values S ordered E T sound (i ∷ is) e =
+    looks-right S ordered (catchUp S T) (i ∷ is) .values
+    ∙ quiet-views S ordered E (catchUp S T) (catchUp-sound S ordered E T sound) (catchUp-quiet S ordered T) (i ∷ is) e
+
+-- a board on a sound table is answered as the fresh office answers
+pub board-shows : (S : Sheet) → Ordered S → (E : Entries) (T : Table) → Sound S E T → (items results : List ℕ)
+    → Shows (listsWrong items results) (freshAsks S E (listed items)) (perform S T (board items results))
+unfolding perform tests firstCause effect
+board-shows S ordered E T sound items results =
+    rw (fresh-values S E (listed items)) (go (listsWrong items results) (someNoItem S (listed items)) refl)
+  where
+    go : (w b : Bool) → someNoItem S (listed items) ≡ b
+        → Shows w (cond b none (some (map (give S E) (listed items)))) (effectUnless (cond w 17 (cond b 11 0)) S T (board items results))
+    go true b e = (refl, refl)
+    go false true e = (refl, refl)
+    go false false e = (effect-number S T (board items results), show-values S ordered E T sound (listed items) e)
+
 same-number : (a : Option Value) (o q : Outcome) → Answers a o → Answers a q → o .number ≡ q .number
 same-number none o q h k = h .0 ∙ sym (k .0)
 same-number (some v) o q h k = h .0 ∙ sym (k .0)
@@ -107,6 +169,9 @@ two-offices S ordered E T cs U ds soundT soundU same =
       readings = λ i. same-reading (freshAsk S (freshRun S E ds) i) (perform S (run S T cs) (ask i)) (perform S (run S U ds) (ask i)) (second i) (other i);
       first = first;
       second = second;
+      heard = heard;
+      shows = board-shows S ordered (freshRun S E cs) (run S T cs) (run-sound S ordered cs E T soundT);
+      shows-other = board-shows S ordered (freshRun S E ds) (run S U ds) (run-sound S ordered ds E U soundU);
     }
   where
     heard : freshRun S E cs ≡ freshRun S E ds

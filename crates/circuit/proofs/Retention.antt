@@ -15,11 +15,13 @@ use Rattle.circuit.specs.Circuit.{IsSolution, Listed, LeadsTo, direct, f
 use Rattle.circuit.specs.Sheet.{Sheet, Item, entry, figure, itemAt, isFigure, size, parents, Ordered, Entries, circuitOf, evaluate}
 use Rattle.circuit.specs.Table.{Table, Cell, unmarked, refresh, notice, unk, held, isStored, valueIn, isMarked, cellForm}
 use Rattle.circuit.specs.Machine.{lookUp, workOut, keepFigure, dropFigure, dropCell, stepItem, catchUp, storePosting, postCell}
-use Rattle.circuit.specs.Call.{Call, post, keep, drop, step, ask}
-use Rattle.circuit.specs.Calls.{postedValue, postIt, postingOf, tests, firstCause, effect, effectUnless, perform, run, postingsMade, postingBy, ifAccepted, postings, drops}
+use Rattle.circuit.specs.Call.{Call, post, keep, drop, step, ask, board}
+use Rattle.circuit.specs.Board.{listed}
+use Rattle.circuit.specs.Calls.{postedValue, postIt, postingOf, tests, firstCause, showItems, effect, effectUnless, perform, run, postingsMade, postingBy, ifAccepted, postings, drops}
 use Rattle.circuit.specs.Words.{Formed, Quiet, Holds, droppedIn}
+use Rattle.circuit.proofs.RuleLaws.{or-false}
 use Rattle.circuit.proofs.View.{seen, anyFlag, view, result, strong, any-none, view-at}
-use Rattle.circuit.proofs.Fill.{Filling, stays, fills, Fill, upd-cases, upd-other, look-right, work-right, keep-fill}
+use Rattle.circuit.proofs.Fill.{Filling, stays, fills, Fill, upd-cases, upd-other, look-right, looks-right, work-right, keep-fill}
 use Rattle.circuit.proofs.Solution.{map-listed, solution, solution-solves, sheet-acyclic, entry-value, figure-value}
 use Rattle.circuit.proofs.Invariant.{Invariant}
 use Rattle.circuit.proofs.Reading.{quiet-exact, exact-solution}
@@ -79,10 +81,6 @@ calm-cell (figure op kept spread ps) v (unk false) m h f = away refl
 calm-cell it v (held w unmarked) m h f = rw (h refl) there
 calm-cell it v (held w refresh) m h f = let bad : _≡_ {A = ℕ} 0 1 = cc in absurd (omega arith)
 calm-cell it v (held w notice) m h f = let bad : _≡_ {A = ℕ} 0 1 = cc in absurd (omega arith)
-
-or-false : (a b : Bool) → a || b ≡ false → (a ≡ false) × (b ≡ false)
-or-false true b e = let bad : _≡_ {A = ℕ} 0 1 = cc in absurd (omega arith)
-or-false false b e = (refl, e)
 
 append-nil : {A : Type 0} (xs ys : List A) → xs ++ ys ≡ [] → (xs ≡ []) × (ys ≡ [])
 append-nil [] ys e = (refl, e)
@@ -226,6 +224,17 @@ module _ (S : Sheet) (ordered : Ordered S) (e : ℕ) (E : Entries) (m : ℕ → 
   posted-left dropped T i none confined h = left-further dropped T T confined (λ k low outside. same)
   posted-left dropped T i (some v) confined h = let bad : _≡_ {A = ℕ} 0 1 = cc in absurd (omega arith)
 
+  -- what is looked up after catching up
+  caught-further : (T X : Table) → Confined T → Fill S (catchUp S T) X → Further T X
+  caught-further T X confined fill =
+      let U : Table = catchUp S T in
+      let far : Further T U = catchUp-further T confined in
+      further-trans T U X far (fill-further U X (confined-further T U confined far) fill)
+
+  show-further : (T : Table) (is : List ℕ) → Confined T → Further T (showItems S T is .table)
+  show-further T [] confined = λ k low outside. same
+  show-further T (i ∷ is) confined = caught-further T _ confined (looks-right S ordered (catchUp S T) (i ∷ is) .fill)
+
   -- an accepted call that makes no posting
   accepted-left : (T : Table) (c : Call) → Confined T → firstCause (tests S T c) ≡ 0 → postingBy c ≡ [] → Left (drops c) T (effect S T c .table)
   unfolding effect
@@ -239,11 +248,9 @@ module _ (S : Sheet) (ordered : Ordered S) (e : ℕ) (E : Entries) (m : ℕ → 
       left-further (drops (step i)) T (stepItem S T i) confined
       (step-further T i (step-passed S T i h .0) (step-passed S T i h .1) confined)
   accepted-left T (ask i) confined h none′ =
-      let U : Table = catchUp S T in
-      let far : Further T U = catchUp-further T confined in
-      left-further (drops (ask i)) T (lookUp S U i .table) confined
-      (further-trans T U (lookUp S U i .table) far
-      (fill-further U (lookUp S U i .table) (confined-further T U confined far) (look-right S ordered U i .fill)))
+      left-further (drops (ask i)) T _ confined (caught-further T _ confined (look-right S ordered (catchUp S T) i .fill))
+  accepted-left T (board items results) confined h none′ =
+      left-further (drops (board items results)) T _ confined (show-further T (listed items) confined)
 
   -- a call that makes no posting
   perform-left : (T : Table) (c : Call) → postingsMade S T c ≡ [] → Confined T → Left (drops c) T (perform S T c .table)

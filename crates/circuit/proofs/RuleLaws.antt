@@ -131,6 +131,10 @@ and-right false b e = cc
 pub and-true : (a b : Bool) → a ≡ true → b ≡ true → (a && b) ≡ true
 and-true a b e f = rw (e, f)
 
+pub or-false : (a b : Bool) → a || b ≡ false → (a ≡ false) × (b ≡ false)
+or-false true b e = (cc, cc)
+or-false false b e = (refl, e)
+
 -- one more value at the end
 pub allWellFormed-snoc : (vs : List Value) (v : Value) → allWellFormed (vs ++ (v ∷ [])) ≡ (allWellFormed vs && wellFormed v)
 unfolding allWellFormed

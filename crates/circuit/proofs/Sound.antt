@@ -13,14 +13,15 @@ use Rattle.circuit.specs.Circuit.{Listed}
 use Rattle.circuit.specs.Sheet.{Sheet, Item, entry, figure, size, itemAt, beyond, isFigure, parentsOf, Ordered, Entries}
 use Rattle.circuit.specs.Table.{Table, Cell, unmarked, refresh, notice, unk, held, upd, valueIn, entryForm, cellForm, bareCell, openBare, openFull}
 use Rattle.circuit.specs.Machine.{lookUp, workOut, postCell, storePosting, keepFigure, dropFigure, tell, clearCell, clearMark, stepCell, stepItem, catchUp}
-use Rattle.circuit.specs.Call.{Call, post, keep, drop, step, ask}
-use Rattle.circuit.specs.Calls.{tests, firstCause, isNone, postedValue, effect, effectUnless, perform, run}
+use Rattle.circuit.specs.Call.{Call, post, keep, drop, step, ask, board}
+use Rattle.circuit.specs.Board.{listed}
+use Rattle.circuit.specs.Calls.{tests, firstCause, isNone, postedValue, showItems, effect, effectUnless, perform, run}
 use Rattle.circuit.specs.Fresh.{called, blank, setEntry, hear, hearAll, freshRun}
 use Rattle.circuit.specs.Words.{Formed, Holds}
 use Rattle.circuit.proofs.RuleLaws.{same-true}
 use Rattle.circuit.proofs.Fresh.{setIf, hear-post}
 use Rattle.circuit.proofs.View.{never}
-use Rattle.circuit.proofs.Fill.{upd-other, upd-cases, Filling, stays, fills, Fill, look-right, work-right, keep-fill}
+use Rattle.circuit.proofs.Fill.{upd-other, upd-cases, Filling, stays, fills, Fill, look-right, looks-right, work-right, keep-fill}
 use Rattle.circuit.proofs.Invariant.{Invariant, changes-kept, fill-changes, post-changes, drop-changes, bare-invariant, full-invariant}
 use Rattle.circuit.proofs.Tell.{step-kept}
 use Rattle.circuit.proofs.Closure.{tell-closed, catchUp-closed}
@@ -185,6 +186,11 @@ module _ (S : Sheet) (ordered : Ordered S) (E : Entries) where
           go true = valued (T i)
           go false = sound .holds j l e
 
+  -- the items of a board: none, or those that are looked up after catching up
+  show-sound : (T : Table) (is : List ℕ) → Sound S E T → Sound S E (showItems S T is .table)
+  show-sound T [] sound = sound
+  show-sound T (i ∷ is) sound = fill-sound (catchUp S T) _ (looks-right S ordered (catchUp S T) (i ∷ is) .fill) (catchUp-sound T sound)
+
   -- a post, refused or not
   post-heard : (T : Table) (i kind : ℕ) (z : ℤ) → Sound S E T
       → Sound S (hear S E (called (post i kind z))) (perform S T (post i kind z) .table)
@@ -219,6 +225,7 @@ module _ (S : Sheet) (ordered : Ordered S) (E : Entries) where
   perform-sound T (ask i) sound =
       heard T (ask i) sound
       (λ e. fill-sound (catchUp S T) (lookUp S (catchUp S T) i .table) (look-right S ordered (catchUp S T) i .fill) (catchUp-sound T sound))
+  perform-sound T (board items results) sound = heard T (board items results) sound (λ e. show-sound T (listed items) sound)
 
 -- and so does every list of calls
 pub run-sound : (S : Sheet) → Ordered S → (cs : List Call) (E : Entries) (T : Table) → Sound S E T

@@ -1,13 +1,16 @@
 -- A call with its arguments as given, a posting, and an opening: what is handed in. What a call tests and does stands in
 -- Calls. Assumes nothing.
 use Prim.Native.Nat.{ℕ}
+use mathlib.Core.List.{List}
 use lib.IntN.{ℤ}
 use Rattle.circuit.specs.Value.{Value}
 
--- 01's five calls: the item, and of a post the kind and the number
+-- 01's five calls: the item, and of a post the kind and the number. 02's board: the bytes of its list of items, and of its list
+-- of results as they are lent.
 pub data Call : Type 0 where
   post : ℕ → ℕ → ℤ → Call
   keep drop step ask : ℕ → Call
+  board : List ℕ → List ℕ → Call
 
 -- a posting: an entry, and the value that it is set to
 pub record Posting : Type 0 where

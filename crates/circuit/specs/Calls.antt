@@ -1,7 +1,7 @@
--- The five calls with their refusals, on a sheet and a table that were accepted, and lists of calls. The refusals of
--- sheets, indexes and tables need bytes, and join above. Assumes nothing.
+-- The calls with their refusals, on a sheet and a table that were accepted, and lists of calls. The refusals of sheets, indexes
+-- and tables need bytes, and join above. Assumes nothing.
 use Prim.Native.Nat.{ℕ, zero, suc}
-use mathlib.Core.Bool.{Bool, true, false, cond, not}
+use mathlib.Core.Bool.{Bool, true, false, cond, not, _||_}
 use mathlib.Core.List.{List, [], _∷_, _++_}
 use mathlib.Core.Option.{Option, none, some}
 use lib.Dec.{eqb}
@@ -9,8 +9,9 @@ use lib.IntN.{ℤ}
 use Rattle.circuit.specs.Value.{Value, partsOf}
 use Rattle.circuit.specs.Sheet.{Sheet, itemAt, isFigure, beyond}
 use Rattle.circuit.specs.Table.{Table, isMarked}
-use Rattle.circuit.specs.Call.{Call, post, keep, drop, step, ask, Posting}
-use Rattle.circuit.specs.Machine.{Looked, storePosting, keepFigure, dropFigure, stepItem, catchUp, lookUp}
+use Rattle.circuit.specs.Call.{Call, post, keep, drop, step, ask, board, Posting}
+use Rattle.circuit.specs.Board.{listed, listsWrong}
+use Rattle.circuit.specs.Machine.{Looked, Gathered, gather, storePosting, keepFigure, dropFigure, stepItem, catchUp, lookUp}
 
 -- The value of a posted kind and number, in form, and not OUT, which cannot be posted; none is refused (13).
 unfoldable pub postedValue : ℕ → ℤ → Option Value
@@ -23,6 +24,11 @@ isNone (some a) = false
 -- the causes, by their numbers
 abbrev pub noItem : Sheet → ℕ → Bool
 noItem S i = beyond S i
+
+-- an item of the list is n or more
+unfoldable pub someNoItem : Sheet → List ℕ → Bool
+someNoItem S [] = false
+someNoItem S (i ∷ is) = noItem S i || someNoItem S is
 
 abbrev pub notEntry : Sheet → ℕ → Bool
 notEntry S i = isFigure (itemAt S i)
@@ -56,15 +62,17 @@ tests S T (keep i) = test 11 (noItem S i) ∷ test 12 (notFigure S i) ∷ []
 tests S T (drop i) = test 11 (noItem S i) ∷ test 12 (notFigure S i) ∷ []
 tests S T (step i) = test 11 (noItem S i) ∷ test 14 (noMark T i) ∷ []
 tests S T (ask i) = test 11 (noItem S i) ∷ []
+tests S T (board items results) = test 17 (listsWrong items results) ∷ test 11 (someNoItem S (listed items)) ∷ []
 
--- what a call gives: its number, the value of an accepted ask, and the table afterwards
+-- what a call gives: its number, the value of an accepted ask, the values of an accepted board, and the table afterwards
 pub record Outcome : Type 0 where
   pub number : ℕ
   pub reading : Option Value
+  pub shown : List Value
   pub table : Table
 
 abbrev pub outcome : ℕ → Option Value → Table → Outcome
-outcome k v T = record { number = k; reading = v; table = T }
+outcome k v T = record { number = k; reading = v; shown = []; table = T }
 
 abbrev pub postIt : Table → ℕ → Option Value → Table
 postIt T i none = T
@@ -73,6 +81,15 @@ postIt T i (some v) = storePosting T i v
 abbrev pub readingOf : Looked → Outcome
 readingOf r = outcome 0 (some (r .value)) (r .table)
 
+abbrev pub shownOf : Gathered → Outcome
+shownOf g = record { number = 0; reading = none; shown = g .values; table = g .table }
+
+-- A board: "Catching up is done once, then the items are looked up in list order", each on the table that the one before it left;
+-- "for an empty list nothing changes at all".
+abbrev pub showItems : Sheet → Table → List ℕ → Outcome
+showItems S T [] = outcome 0 none T
+showItems S T (i ∷ is) = shownOf (gather (lookUp S) (catchUp S T) (i ∷ is))
+
 -- the call itself, where no cause holds
 unfoldable pub effect : Sheet → Table → Call → Outcome
 effect S T (post i kind z) = outcome 0 none (postIt T i (postedValue kind z))
@@ -80,6 +97,7 @@ effect S T (keep i) = outcome 0 none (keepFigure S T i)
 effect S T (drop i) = outcome 0 none (dropFigure T i)
 effect S T (step i) = outcome 0 none (stepItem S T i)
 effect S T (ask i) = readingOf (lookUp S (catchUp S T) i)
+effect S T (board items results) = showItems S T (listed items)
 
 abbrev pub effectUnless : ℕ → Sheet → Table → Call → Outcome
 effectUnless zero S T c = effect S T c
@@ -105,6 +123,7 @@ postingBy (keep i) = []
 postingBy (drop i) = []
 postingBy (step i) = []
 postingBy (ask i) = []
+postingBy (board items results) = []
 
 abbrev pub ifAccepted : ℕ → List Posting → List Posting
 ifAccepted zero ps = ps
@@ -126,3 +145,4 @@ drops (keep i) k = false
 drops (drop i) k = eqb k i
 drops (step i) k = false
 drops (ask i) k = false
+drops (board items results) k = false

@@ -10,7 +10,7 @@ use lib.IntN.{ℤ, natAbs}
 use Rattle.circuit.specs.Value.{Value, null, num, limit}
 use Rattle.circuit.specs.Rules.{apply}
 use Rattle.circuit.specs.Sheet.{Sheet, Item, entry, figure, itemAt, isFigure, beyond, Entries}
-use Rattle.circuit.specs.Call.{Call, post, keep, drop, step, ask, Posting}
+use Rattle.circuit.specs.Call.{Call, post, keep, drop, step, ask, board, Posting}
 
 -- what it is fed besides the sheet: a call's arguments, or a posting that a later request's call makes (no call makes one yet)
 pub data Event : Type 0 where
@@ -36,7 +36,7 @@ postedAs kind z = cond (eqb kind 1) null (num z)
 unfoldable pub hasCause : Sheet → ℕ → ℕ → ℤ → Bool
 hasCause S i kind z = beyond S i || (isFigure (itemAt S i) || not (postable kind z))
 
--- A post with a cause changes nothing; any other sets its entry to what was posted. Keep, drop, step and ask change
+-- A post with a cause changes nothing; any other sets its entry to what was posted. Keep, drop, step, ask and board change
 -- nothing, refused or not. A posting that a later request's call makes sets its entry, whatever the value or the entry.
 unfoldable pub hear : Sheet → Entries → Event → Entries
 hear S E (called (post i kind z)) = cond (hasCause S i kind z) E (setEntry E i (postedAs kind z))
@@ -44,6 +44,7 @@ hear S E (called (keep i)) = E
 hear S E (called (drop i)) = E
 hear S E (called (step i)) = E
 hear S E (called (ask i)) = E
+hear S E (called (board items results)) = E
 hear S E (posted p) = setEntry E (p .entry) (p .value)
 
 unfoldable pub hearAll : Sheet → Entries → List Event → Entries
@@ -67,6 +68,16 @@ give S E i = giveFor (suc i) S E i
 -- asked for an item: for item n or more no value
 unfoldable pub freshAsk : Sheet → Entries → ℕ → Option Value
 freshAsk S E i = cond (beyond S i) none (some (give S E i))
+
+-- asked for the items of a board one after another: their values, or none where one of them is n or more
+abbrev pub valuesWith : Option Value → Option (List Value) → Option (List Value)
+valuesWith none vs = none
+valuesWith (some v) none = none
+valuesWith (some v) (some vs) = some (v ∷ vs)
+
+unfoldable pub freshAsks : Sheet → Entries → List ℕ → Option (List Value)
+freshAsks S E [] = some []
+freshAsks S E (i ∷ is) = valuesWith (freshAsk S E i) (freshAsks S E is)
 
 -- fed a list of calls from the entries E
 abbrev pub freshRun : Sheet → Entries → List Call → Entries

@@ -3,6 +3,7 @@ pub mod Rules
 pub mod Circuit
 pub mod Sheet
 pub mod Call
+pub mod Board
 pub mod Table
 pub mod Machine
 pub mod Ascending
