@@ -12,7 +12,7 @@ use Rattle.layout.specs.Opened.{sheetRead, sheetOf, offsetsOf, Located, levelsO
 use Rattle.field.specs.Bytes.{over}
 use Rattle.sheet.specs.Check.{readSoFar}
 use Rattle.table.specs.Bytes.{decodeTable}
-use Rattle.office.specs.Office.{Given, unlessRefused, effectOn, lengthsOff, indexWrong, tableWrong, keeping}
+use Rattle.office.specs.Office.{Given, resultsLent, unlessRefused, effectOn, lengthsOff, indexWrong, tableWrong, keeping}
 use Rattle.admission.specs.declared.Admitted.{Admitted}
 use Rattle.admission.specs.declared.Admitted.the-variants.{Items, Refused}
 
@@ -44,7 +44,7 @@ admittedOf s x t = admittedBy (readSheet s) x t
 -- a call on what was admitted: refused by its own tests only
 abbrev pub callLent : Sheet → List ℕ → List ℕ → Call → Given
 callLent S x t c =
-    unlessRefused (firstCause (tests S (decodeTable t) c)) (keeping x t) (effectOn S (keeping x t) (effect S (decodeTable t) c))
+    unlessRefused (firstCause (tests S (decodeTable t) c)) (resultsLent c) (keeping x t) (effectOn S (keeping x t) (effect S (decodeTable t) c))
 
 -- What the tests of a sheet leave in the two scratch arrays: the offsets and the levels of the items that were read, over what was
 -- there. Of a sheet that opens the offsets are those of all its items.

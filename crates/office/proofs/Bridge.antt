@@ -14,11 +14,12 @@ use Rattle.circuit.specs.Value.{Value}
 use Rattle.circuit.specs.Sheet.{Sheet, entry, size, itemAt, Ordered}
 use Rattle.circuit.specs.Table.{Table, Cell, unk, upd}
 use Rattle.circuit.specs.Machine.{storePosting, dropFigure, stepItem, catchUp}
-use Rattle.circuit.specs.Call.{Call, post, keep, drop, step, ask}
-use Rattle.circuit.specs.Calls.{Test, test, firstCause, tests, Outcome, effect, perform, effectUnless, run, postIt, postedValue}
-use Rattle.circuit.proofs.Fill.{Fill, Filling, stays, fills, upd-cases, look-right, work-right, keep-fill}
+use Rattle.circuit.specs.Call.{Call, post, keep, drop, step, ask, board}
+use Rattle.circuit.specs.Board.{listed}
+use Rattle.circuit.specs.Calls.{Test, test, firstCause, tests, Outcome, showItems, effect, perform, effectUnless, run, postIt, postedValue}
+use Rattle.circuit.proofs.Fill.{Fill, Filling, stays, fills, upd-cases, look-right, looks-right, work-right, keep-fill}
 use Rattle.circuit.proofs.Closure.{Closed, step-closed, catchUp-closed}
-use Rattle.circuit.proofs.Accepted.{accepted-effect, refused-table, keep-passed, drop-passed, step-passed, post-passed}
+use Rattle.circuit.proofs.Accepted.{effect-number, accepted-effect, refused-table, keep-passed, drop-passed, step-passed, post-passed}
 use Rattle.layout.specs.Read.{Placed, opens, readSheet}
 use Rattle.layout.specs.Opened.{sheetRead}
 use Rattle.layout.specs.Index.{indexWidth, indexBytes}
@@ -26,7 +27,7 @@ use Rattle.item.proofs.Offsets.{same-refl}
 use Rattle.table.specs.Record.{width, decodeCell}
 use Rattle.table.specs.Bytes.{encodeTable, decodeTable, Holdable, tableLength}
 use Rattle.table.proofs.Tables.{length-encodeTable, decode-encodeTable, encoded-tableForm, holdable-wellFormed}
-use Rattle.office.specs.Office.{keeping, Given, kindRead, numberRead, lengthsWrong, indexWrong, tableWrong, callTests, unlessRefused, effectOn, callRead, callOn, runOn}
+use Rattle.office.specs.Office.{keeping, Given, kindRead, numberRead, resultsLent, resultsOf, lengthsWrong, indexWrong, tableWrong, callTests, unlessRefused, effectOn, callRead, callOn, runOn}
 use Rattle.office.proofs.Holdable.{perform-holdable}
 
 -- nothing stands beyond the sheet
@@ -81,14 +82,20 @@ module _ (S : Sheet) (ordered : Ordered S) where
       posted i none low = h
       posted i (some v) low = upd-within S T i _ low h
 
+      caught : Within S (catchUp S T)
+      caught = catchUp-closed S (Within S) (λ U k low m g. steps U k low g) T h
+
+      shows : (is : List ℕ) → Within S (showItems S T is .table)
+      shows [] = h
+      shows (i ∷ is) = fill-within S (catchUp S T) _ (looks-right S ordered (catchUp S T) (i ∷ is) .fill) caught
+
       done : (d : Call) → firstCause (tests S T d) ≡ 0 → Within S (effect S T d .table)
       done (post i kind z) e = posted i (postedValue kind z) (post-passed S T i kind z e .0)
       done (keep i) e = fill-within S T _ (keep-fill S ordered T i (keep-passed S T i e .1)) h
       done (drop i) e = upd-within S T i _ (drop-passed S T i e .0) h
       done (step i) e = steps T i (step-passed S T i e .0) h
-      done (ask i) e =
-          fill-within S (catchUp S T) _ (look-right S ordered (catchUp S T) i .fill)
-          (catchUp-closed S (Within S) (λ U k low m g. steps U k low g) T h)
+      done (ask i) e = fill-within S (catchUp S T) _ (look-right S ordered (catchUp S T) i .fill) caught
+      done (board items results) e = shows (listed items)
 
       go : (k : ℕ) → firstCause (tests S T c) ≡ k → Within S (perform S T c .table)
       go zero e = rw (accepted-effect S T c e) (done c e)
@@ -113,18 +120,22 @@ decode-within S T h w = fun-ext λ i. go i (ltb i (size S)) refl
         let out : size S ≤ i = ltb-false i (size S) e in
         decoded-beyond S (encodeTable S T) (length-encodeTable S T) i out ∙ sym (w i out)
 
--- what the machine's outcome gives on bytes
-abbrev pub givenBy : Sheet → List ℕ → Outcome → Given
-givenBy S x o =
-    record { number = o .number; offset = 0; kind = kindRead (o .reading); value = numberRead (o .reading); after = keeping x (encodeTable S (o .table)) }
+-- what a list of results holds: what was lent, unless the call is accepted
+abbrev pub resultsBy : ℕ → List ℕ → List Value → List ℕ
+resultsBy zero lent vs = resultsOf vs
+resultsBy (suc k) lent vs = lent
 
-effect-number : (S : Sheet) (T : Table) (c : Call) → effect S T c .number ≡ 0
-unfolding effect
-effect-number S T (post i kind z) = refl
-effect-number S T (keep i) = refl
-effect-number S T (drop i) = refl
-effect-number S T (step i) = refl
-effect-number S T (ask i) = refl
+-- what the machine's outcome gives on bytes, with a list of results lent
+abbrev pub givenBy : Sheet → List ℕ → List ℕ → Outcome → Given
+givenBy S x lent o =
+    record {
+      number = o .number;
+      offset = 0;
+      kind = kindRead (o .reading);
+      value = numberRead (o .reading);
+      results = resultsBy (o .number) lent (o .shown);
+      after = keeping x (encodeTable S (o .table));
+    }
 
 -- a cause that does not hold is passed over
 pass-over : (k : ℕ) (b : Bool) (ts : List Test) → b ≡ false → firstCause (test k b ∷ ts) ≡ firstCause ts
@@ -137,7 +148,7 @@ module _ (s : List ℕ) (edition : ℕ) (ps : List Placed) (opening : readSheet 
     (ordered : Ordered (sheetRead edition ps)) where
   -- a call on the index of the sheet and the encoding of a table
   pub call-performs : (T : Table) (c : Call) → Holdable (sheetRead edition ps) T → Within (sheetRead edition ps) T
-      → callOn s (keeping (indexBytes ps) (encodeTable (sheetRead edition ps) T)) c ≡ givenBy (sheetRead edition ps) (indexBytes ps) (perform (sheetRead edition ps) T c)
+      → callOn s (keeping (indexBytes ps) (encodeTable (sheetRead edition ps) T)) c ≡ givenBy (sheetRead edition ps) (indexBytes ps) (resultsLent c) (perform (sheetRead edition ps) T c)
   unfolding callOn perform
   call-performs T c h w = ap (λ r. callRead r (keeping x t) c) opening ∙ passed ∙ by-cause (firstCause (tests S T c))
     where
@@ -164,10 +175,10 @@ module _ (s : List ℕ) (edition : ℕ) (ps : List Placed) (opening : readSheet 
           ∙ pass-over 10 (tableWrong S t) _ (ap not (encoded-tableForm S T h))
           ∙ ap (λ U. firstCause (tests S U c)) again
 
-      passed : callRead (opens edition ps) (keeping x t) c ≡ unlessRefused (firstCause (tests S T c)) (keeping x t) (effectOn S (keeping x t) (effect S T c))
+      passed : callRead (opens edition ps) (keeping x t) c ≡ unlessRefused (firstCause (tests S T c)) (resultsLent c) (keeping x t) (effectOn S (keeping x t) (effect S T c))
       passed = rw (causes, again)
 
-      by-cause : (k : ℕ) → unlessRefused k (keeping x t) (effectOn S (keeping x t) (effect S T c)) ≡ givenBy S x (effectUnless k S T c)
+      by-cause : (k : ℕ) → unlessRefused k (resultsLent c) (keeping x t) (effectOn S (keeping x t) (effect S T c)) ≡ givenBy S x (resultsLent c) (effectUnless k S T c)
       by-cause zero = rw (effect-number S T c)
       by-cause (suc k) = refl
 

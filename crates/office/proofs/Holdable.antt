@@ -13,13 +13,14 @@ use Rattle.circuit.specs.WellFormed.{allWellFormed}
 use Rattle.circuit.specs.Circuit.{Listed}
 use Rattle.circuit.specs.Sheet.{Sheet, Item, entry, figure, Spread, defer, renew, forget, size, itemAt, isFigure, parentsOf, parents, spreadOf, isChild, evaluate, Ordered}
 use Rattle.circuit.specs.Table.{Table, Cell, Mark, unmarked, refresh, notice, unk, held, upd, entryForm}
-use Rattle.circuit.specs.Machine.{lookUp, workOut, storePosting, postCell, keepFigure, dropFigure, dropCell, renewed, tellChild, tellCell, tellStored, tellIf, tellBelow, tell, clearMark, clearCell, stepItem, stepCell, catchUp}
-use Rattle.circuit.specs.Call.{Call, post, keep, drop, step, ask}
-use Rattle.circuit.specs.Calls.{postedValue, effect, perform, tests, firstCause, run, postIt}
+use Rattle.circuit.specs.Machine.{gather, lookUp, workOut, storePosting, postCell, keepFigure, dropFigure, dropCell, renewed, tellChild, tellCell, tellStored, tellIf, tellBelow, tell, clearMark, clearCell, stepItem, stepCell, catchUp}
+use Rattle.circuit.specs.Call.{Call, post, keep, drop, step, ask, board}
+use Rattle.circuit.specs.Board.{listed}
+use Rattle.circuit.specs.Calls.{postedValue, showItems, effect, perform, tests, firstCause, run, postIt}
 use Rattle.circuit.proofs.Parts.{posted-some}
 use Rattle.circuit.proofs.RuleLaws.{apply-wellFormed, and-true, and-left, and-right}
 use Rattle.circuit.proofs.View.{view, view-at, result, strong}
-use Rattle.circuit.proofs.Fill.{Fill, Filling, stays, fills, upd-cases, look-right, work-right, keep-fill}
+use Rattle.circuit.proofs.Fill.{Fill, Filling, stays, fills, upd-cases, look-right, looks-right, work-right, keep-fill}
 use Rattle.circuit.proofs.Closure.{catchUp-closed, member-listed}
 use Rattle.circuit.proofs.Accepted.{accepted-effect, refused-table, keep-passed, drop-passed, step-passed}
 use Rattle.table.specs.Record.{mayHold}
@@ -96,6 +97,9 @@ module _ (S : Sheet) (ordered : Ordered S) where
 
   pub look-holdable : (T : Table) (i : ℕ) → Holdable S T → Holdable S (lookUp S T i .table)
   look-holdable T i h = fill-holdable T _ (look-right S ordered T i .fill) h
+
+  looks-holdable : (is : List ℕ) (T : Table) → Holdable S T → Holdable S (gather (lookUp S) T is .table)
+  looks-holdable is T h = fill-holdable T _ (looks-right S ordered T is .fill) h
 
   pub look-formed : (T : Table) (i : ℕ) → i < size S → Holdable S T → wellFormed (lookUp S T i .value) ≡ true
   look-formed T i low h = rw (look-right S ordered T i .value) (view-formed T h i low)
@@ -228,12 +232,17 @@ perform-holdable S ordered T c h = go (firstCause (tests S T c)) refl
     posted i (some v) kind z e =
         let p = posted-holdable kind z v e in post-holdable S T i v (p .0) (p .1) h
 
+    show-holdable : (is : List ℕ) → Holdable S (showItems S T is .table)
+    show-holdable [] = h
+    show-holdable (i ∷ is) = looks-holdable S ordered (i ∷ is) (catchUp S T) (catchUp-holdable S ordered T h)
+
     done : (c : Call) → firstCause (tests S T c) ≡ 0 → Holdable S (effect S T c .table)
     done (post i kind z) e = posted i (postedValue kind z) kind z refl
     done (keep i) e = keep-holdable S ordered T i (keep-passed S T i e .1) h
     done (drop i) e = drop-holdable S ordered T i (drop-passed S T i e .1) h
     done (step i) e = step-holdable S ordered T i (step-passed S T i e .0) h
     done (ask i) e = look-holdable S ordered (catchUp S T) i (catchUp-holdable S ordered T h)
+    done (board items results) e = show-holdable (listed items)
 
     go : (k : ℕ) → firstCause (tests S T c) ≡ k → Holdable S (perform S T c .table)
     go zero e = rw (accepted-effect S T c e) (done c e)

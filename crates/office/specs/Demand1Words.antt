@@ -1,6 +1,6 @@
--- Demand 1, its words: each row of "Turned back" from 8 to 14 as a statement about what is lent, and the order in which the causes
--- of an invocation count. The rows 1 to 7 are those of the sheet (layout, Causes). Assumes nothing.
-use Prim.Native.Nat.{ℕ, _*_, _^_, _<_, _≤_}
+-- Demand 1, its words: each row of "Turned back" from 8 to 14, and 02's 17, as a statement about what is lent, and the order in
+-- which the causes of an invocation count. The rows 1 to 7 are those of the sheet (layout, Causes). Assumes nothing.
+use Prim.Native.Nat.{ℕ, _+_, _*_, _^_, _<_, _≤_}
 use mathlib.Core.Path.{_≡_}
 use mathlib.Core.Bool.{Bool, true, false}
 use mathlib.Core.List.{List, [], _∷_, _++_}
@@ -11,17 +11,18 @@ use mir.Syntax.{w64}
 use mir.Val.{SFits}
 use Rattle.circuit.specs.Value.{limit}
 use Rattle.circuit.specs.Sheet.{Sheet, Ordered, size, itemAt, isFigure}
-use Rattle.circuit.specs.Call.{Call, post, keep, drop, step, ask, Opening}
-use Rattle.field.specs.Field.{Bytes}
+use Rattle.circuit.specs.Call.{Call, post, keep, drop, step, ask, board, Opening}
+use Rattle.circuit.specs.Board.{listedWidth, resultWidth, mostListed}
+use Rattle.field.specs.Field.{Bytes, le16At}
 use Rattle.layout.specs.Read.{Placed}
 use Rattle.layout.specs.Opened.{sheetOf, itemsOf}
 use Rattle.layout.specs.Index.{indexWidth, indexBytes, le32At}
 use Rattle.layout.specs.Causes.{FirstFault, Faultless, item, itemCount, tagOf, offsetOf}
 use Rattle.table.specs.Rows.{row}
 use Rattle.table.specs.Record.{width, kindIn, markIn, numberIn}
-use Rattle.office.specs.Office.{Office, Given, openOn, callOn}
+use Rattle.office.specs.Office.{Office, Given, resultsLent, openOn, callOn}
 
--- an opening, or one of the five calls with its arguments
+-- an opening, or one of the calls with its arguments
 pub data Invocation : Type 0 where
   opening : Opening → Invocation
   calling : Call → Invocation
@@ -30,6 +31,11 @@ pub data Invocation : Type 0 where
 abbrev pub serve : Invocation → List ℕ → Office → Given
 serve (opening how) s o = openOn how s o
 serve (calling c) s o = callOn s o c
+
+-- the list of results that is lent with it
+abbrev pub resultsLentTo : Invocation → List ℕ
+resultsLentTo (opening how) = []
+resultsLentTo (calling c) = resultsLent c
 
 -- 8: index not 4n bytes, or table not 10n
 abbrev pub LengthsWrong : ℕ → Office → Type 0
@@ -86,6 +92,16 @@ pub data NotPostable (kind : ℕ) (z : ℤ) : Type 0 where
 abbrev pub NoMark : List ℕ → ℕ → Type 0
 NoMark t i = markIn (row width t i) ≡ 0
 
+-- 17: a board's list of odd length or over 64 items, or a result list of another length
+pub data ListsWrong (items results : List ℕ) : Type 0 where
+  odd : (k : ℕ) → length items ≡ listedWidth * k + 1 → ListsWrong items results
+  long : listedWidth * mostListed < length items → ListsWrong items results
+  other : (k : ℕ) → length items ≡ listedWidth * k → ¬ (length results ≡ resultWidth * k) → ListsWrong items results
+
+-- 11, of a board: some item of its list, in two bytes from 2k on, is n or more
+abbrev pub SomeNoItem : Sheet → List ℕ → Type 0
+SomeNoItem S items = (k : ℕ) × (listedWidth * k + 1 < length items) × NoSuchItem S (le16At items (listedWidth * k))
+
 -- a number with its cause
 pub record Row : Type 1 where
   pub number : ℕ
@@ -109,9 +125,10 @@ ownCauses S t (keep i) = cause 11 (NoSuchItem S i) ∷ cause 12 (OfEntry S i) �
 ownCauses S t (drop i) = cause 11 (NoSuchItem S i) ∷ cause 12 (OfEntry S i) ∷ []
 ownCauses S t (step i) = cause 11 (NoSuchItem S i) ∷ cause 14 (NoMark t i) ∷ []
 ownCauses S t (ask i) = cause 11 (NoSuchItem S i) ∷ []
+ownCauses S t (board items results) = cause 17 (ListsWrong items results) ∷ cause 11 (SomeNoItem S items) ∷ []
 
--- The causes of an invocation in the order in which they count, after the sheet has been read. Openings use 8 alone. (A later request's
--- call has its own order, and may have a number twice.)
+-- The causes of an invocation in the order in which they count, after the sheet has been read. Openings use 8 alone. 01's calls have
+-- theirs by rising numbers; a board has 17 before 11. (A later request's call may have a number twice.)
 abbrev pub causesIn : Sheet → List Placed → Office → Invocation → List Row
 causesIn S ps o (opening how) = cause 8 (LengthsWrong (size S) o) ∷ []
 causesIn S ps o (calling c) = lentCauses S ps o ++ ownCauses S (o .table) c
@@ -134,6 +151,16 @@ abbrev pub HoldsAt : List Row → ℕ → Type 0
 HoldsAt [] k = ⊥
 HoldsAt (r ∷ rs) k = ((k ≡ r .number) × r .cause) ⊎ HoldsAt rs k
 
+-- the openings and 01's five calls
+abbrev pub InBase : Invocation → Type 0
+InBase (opening how) = Unit {0}
+InBase (calling (post i kind z)) = Unit {0}
+InBase (calling (keep i)) = Unit {0}
+InBase (calling (drop i)) = Unit {0}
+InBase (calling (step i)) = Unit {0}
+InBase (calling (ask i)) = Unit {0}
+InBase (calling (board items results)) = ⊥
+
 -- k is the lowest number whose cause holds
 pub record Lowest (rs : List Row) (k : ℕ) : Type 0 where
   pub holds : HoldsAt rs k
@@ -150,7 +177,7 @@ pub record NoCause (s : List ℕ) (o : Office) (r : Invocation) : Type 0 where
   pub sheet : Faultless s
   pub lent : NoneHolds (causesOf s o r)
 
--- What can be lent and given: slices of bytes, arguments of 64 bits, posted numbers signed.
+-- What can be lent and given: slices of bytes, arguments of 64 bits, posted numbers signed, lists of bytes.
 abbrev pub FitsArguments : Invocation → Type 0
 FitsArguments (opening how) = Unit {0}
 FitsArguments (calling (post i kind z)) = (i < 2 ^ 64) × (kind < 2 ^ 64) × SFits w64 z
@@ -158,6 +185,7 @@ FitsArguments (calling (keep i)) = i < 2 ^ 64
 FitsArguments (calling (drop i)) = i < 2 ^ 64
 FitsArguments (calling (step i)) = i < 2 ^ 64
 FitsArguments (calling (ask i)) = i < 2 ^ 64
+FitsArguments (calling (board items results)) = Bytes items × Bytes results
 
 pub record Lendable (r : Invocation) (s : List ℕ) (o : Office) : Type 0 where
   pub sheet : Bytes s
@@ -177,6 +205,12 @@ pub record Gets (k : ℕ) : Type 0 where
 pub record AcceptedLent (s : List ℕ) (o : Office) : Type 0 where
   pub sheet : Faultless s
   pub lent : NoneHolds (lentCauses (sheetOf s) (itemsOf s) o)
+
+-- A board's own refusals: 17 exactly if its lists are wrong, where index and table are accepted, whatever its items are; 11 exactly if
+-- one of its items is n or more, where the lists are right.
+pub record BoardRefuses (s : List ℕ) (o : Office) (items results : List ℕ) : Type 0 where
+  pub lists-17 : (callOn s o (board items results) .number ≡ 17) ↔ AcceptedLent s o × ListsWrong items results
+  pub item-11 : (callOn s o (board items results) .number ≡ 11) ↔ AcceptedLent s o × (¬ ListsWrong items results) × SomeNoItem (sheetOf s) items
 
 -- What the words above come to on the bytes of a sheet without a fault: n by the first field, parents below their items, figures
 -- by their tags, and the offsets in the index.

@@ -4,15 +4,16 @@
 use Prim.Native.Nat.{ℕ, _*_, _<_}
 use mathlib.Core.Path.{_≡_}
 use mathlib.Core.Bool.{true}
-use mathlib.Core.List.{List, [], _∷_}
+use mathlib.Core.List.{List, [], _∷_, _++_}
 use lib.IntN.{ℤ, pos}
 use lib.ListN.{length, getD}
 use Rattle.circuit.specs.Value.{Value, kindOf, numberOf}
 use Rattle.circuit.specs.Circuit.{IsSolution}
 use Rattle.circuit.specs.Sheet.{Sheet, Ordered, Entries, size, itemAt, isFigure, circuitOf}
 use Rattle.circuit.specs.Table.{Table, unmarked, notice, held, upd, noticeIf, valueIn}
-use Rattle.circuit.specs.Machine.{Looked, lookUp, workOut, tell, clearMark}
-use Rattle.circuit.specs.Call.{Call, post, keep, drop, step, ask, Opening, bare, full}
+use Rattle.circuit.specs.Machine.{Looked, Gathered, gather, lookUp, workOut, tell, clearMark}
+use Rattle.circuit.specs.Call.{Call, post, keep, drop, step, ask, board, Opening, bare, full}
+use Rattle.circuit.specs.Board.{listed}
 use Rattle.circuit.specs.Words.{CaughtUp}
 use Rattle.field.specs.Field.{Bytes}
 use Rattle.layout.specs.Layout.{Layout, LayoutItem, entryField, figureField}
@@ -23,7 +24,7 @@ use Rattle.layout.specs.Index.{indexWidth, le32At}
 use Rattle.table.specs.Rows.{row}
 use Rattle.table.specs.Record.{width, kindIn, markIn, numberIn}
 use Rattle.table.specs.Bytes.{encodeTable, decodeTable}
-use Rattle.office.specs.Office.{Office, Given, callOn}
+use Rattle.office.specs.Office.{Office, Given, callOn, resultOf, resultsOf}
 use Rattle.office.specs.Demand1Words.{AcceptedLent}
 
 -- ---- what a call answers
@@ -156,6 +157,21 @@ pub record AskLeaves (S : Sheet) (t : List ℕ) (i : ℕ) (g : Given) : Type 0 w
   pub value-is : answerOf g ≡ reading (lookUp S caught-up i .value)
   pub table-is : HasCells S (g .after .table) (lookUp S caught-up i .table)
 
+-- 02's "Catching up is done once, then the items are looked up in list order"; "for an empty list nothing changes at all".
+pub record BoardLeaves (S : Sheet) (o : Office) (items : List ℕ) (g : Given) : Type 0 where
+  pub empty : items ≡ [] → (g .after ≡ o) × (g .results ≡ [])
+  pub caught-up : Table
+  pub catches : CaughtUp S (decodeTable (o .table)) caught-up
+  pub shows : ¬ (items ≡ []) → let r : Gathered = gather (lookUp S) caught-up (listed items) in
+      (g .results ≡ resultsOf (r .values)) × HasCells S (g .after .table) (r .table)
+
+-- Asking for items one after another: each ask is accepted, and gives its kind and number in a list of results; the last one leaves
+-- what the office keeps.
+pub data Asks (s : List ℕ) : Office → List ℕ → List ℕ → Office → Type 0 where
+  no-more : {o : Office} → Asks s o [] [] o
+  then-ask : {o p : Office} {i : ℕ} {is rest : List ℕ} → callOn s o (ask i) .number ≡ 0 → Asks s (callOn s o (ask i) .after) is rest p
+      → Asks s o (i ∷ is) (resultOf (callOn s o (ask i) .kind) (callOn s o (ask i) .value) ++ rest) p
+
 -- 01's "no mark stands": every mark byte is 0
 abbrev pub NoMarkStands : Sheet → List ℕ → Type 0
 NoMarkStands S t = (k : ℕ) → k < size S → markIn (row width t k) ≡ 0
@@ -173,3 +189,8 @@ pub record CallsLeave (s : List ℕ) (o : Office) : Type 0 where
   pub steps : (i : ℕ) → let g : Given = callOn s o (step i) in g .number ≡ 0 → StepLeaves (sheetOf s) (o .table) i (g .after .table)
   pub asks : (i : ℕ) → let g : Given = callOn s o (ask i) in g .number ≡ 0 → AskLeaves (sheetOf s) (o .table) i g
   pub quiet : (i : ℕ) → let g : Given = callOn s o (ask i) in g .number ≡ 0 → NoMarkStands (sheetOf s) (g .after .table)
+  pub boards : (items results : List ℕ) → let g : Given = callOn s o (board items results) in
+      g .number ≡ 0 → BoardLeaves (sheetOf s) o items g
+  -- 02's "Values and work table are those of asking for them one after another"
+  pub board-asks : (items results : List ℕ) → let g : Given = callOn s o (board items results) in
+      g .number ≡ 0 → Asks s o (listed items) (g .results) (g .after)

@@ -11,13 +11,14 @@ use lib.IntN.{ℤ}
 use Rattle.circuit.specs.Value.{Value}
 use Rattle.circuit.specs.Circuit.{LeadsTo}
 use Rattle.circuit.specs.Sheet.{size, itemAt, isFigure, circuitOf}
-use Rattle.circuit.specs.Call.{Call, post, keep, drop, step, ask}
-use Rattle.circuit.specs.Fresh.{blank, freshRun, freshAsk}
+use Rattle.circuit.specs.Call.{Call, post, keep, drop, step, ask, board}
+use Rattle.circuit.specs.Board.{listed, listsWrong}
+use Rattle.circuit.specs.Fresh.{blank, freshRun, freshAsk, freshAsks}
 use Rattle.circuit.specs.Words.{droppedIn}
 use Rattle.layout.specs.Opened.{sheetOf}
 use Rattle.table.specs.Rows.{row}
 use Rattle.table.specs.Record.{width, kindIn, numberIn}
-use Rattle.office.specs.Office.{Office, Given, callOn, runOn, kindRead, numberRead}
+use Rattle.office.specs.Office.{Office, Given, callOn, runOn, kindRead, numberRead, resultsOf}
 use Rattle.office.specs.Demand1Words.{AcceptedLent}
 use Rattle.office.specs.Demand2Words.{Answer, answerOf, NoMarkStands}
 
@@ -33,6 +34,7 @@ postOf (keep i) = []
 postOf (drop i) = []
 postOf (step i) = []
 postOf (ask i) = []
+postOf (board items results) = []
 
 -- 01's "accepted": the call gives number 0
 abbrev pub ifAccepted : ℕ → List Posted → List Posted
@@ -65,6 +67,43 @@ pub record SameReading (s : List ℕ) (o : Office) (cs : List Call) (p : Office)
   pub same : askAfter s o cs i ≡ askAfter s p ds i
   pub fresh : askAfter s o cs i ≡ freshAfter s cs i
   pub fresh-other : askAfter s p ds i ≡ freshAfter s ds i
+
+-- What a board answers: its number and offset, and what the list of results holds afterwards.
+pub record Shown : Type 0 where
+  pub number : ℕ
+  pub offset : ℕ
+  pub results : List ℕ
+
+abbrev pub shown : ℕ → List ℕ → Shown
+shown k results = record { number = k; offset = 0; results = results }
+
+-- a board after a list of calls
+abbrev pub boardAfter : List ℕ → Office → List Call → List ℕ → List ℕ → Shown
+boardAfter s o cs items results =
+    let g : Given = callOn s (runOn s o cs) (board items results) in
+    record { number = g .number; offset = g .offset; results = g .results }
+
+-- What the fresh office gives as a board's answer: number 17 where the lists are wrong, 11 where it gives no value for one of the
+-- items, both with the results as lent; else number 0 with the values.
+abbrev pub freshShown : Bool → Option (List Value) → List ℕ → Shown
+freshShown true vs results = shown 17 results
+freshShown false none results = shown 11 results
+freshShown false (some vs) results = shown 0 (resultsOf vs)
+
+abbrev pub freshBoard : List ℕ → List Call → List ℕ → List ℕ → Shown
+freshBoard s cs items results =
+    freshShown (listsWrong items results) (freshAsks (sheetOf s) (freshRun (sheetOf s) blank cs) (listed items)) results
+
+-- a board with the same bytes lent at the offices o and p, after the lists cs and ds
+pub record SameBoard (s : List ℕ) (o : Office) (cs : List Call) (p : Office) (ds : List Call) (items results : List ℕ) : Type 0 where
+  pub same : boardAfter s o cs items results ≡ boardAfter s p ds items results
+  pub fresh : boardAfter s o cs items results ≡ freshBoard s cs items results
+  pub fresh-other : boardAfter s p ds items results ≡ freshBoard s ds items results
+
+-- every ask and every board
+pub record SameAnswers (s : List ℕ) (o : Office) (cs : List Call) (p : Office) (ds : List Call) : Type 0 where
+  pub asks : (i : ℕ) → SameReading s o cs p ds i
+  pub boards : (items results : List ℕ) → SameBoard s o cs p ds items results
 
 -- 01's "stored": the kind is not 0
 abbrev pub storedIn : List ℕ → ℕ → Bool

@@ -14,9 +14,9 @@ use Rattle.layout.specs.Layout.{machineSheet}
 use Rattle.layout.specs.Opened.{sheetOf}
 use Rattle.layout.specs.Causes.{Faultless}
 use Rattle.office.specs.Office.{Office, openOn}
-use Rattle.office.specs.Demand1Words.{Invocation, serve, causesOf, First, Lowest, Refused, NoCause, Gets, AcceptedLent, SheetWords}
+use Rattle.office.specs.Demand1Words.{Invocation, serve, resultsLentTo, causesOf, First, InBase, Lowest, Refused, NoCause, Gets, AcceptedLent, BoardRefuses, SheetWords}
 use Rattle.office.specs.Demand2Words.{FollowsLayout, Writes, NoneStored, OnlySolution, entriesIn, Gives, CallsLeave}
-use Rattle.office.specs.Demand3Words.{acceptedPosts, SameReading, Retains, OfficeAccepted}
+use Rattle.office.specs.Demand3Words.{acceptedPosts, SameAnswers, Retains, OfficeAccepted}
 
 -- Demand 1. Each fault is refused by its number and nothing else is, and a refused call changes no lent byte.
 pub record Refuses : Type 0 where
@@ -27,13 +27,16 @@ pub record Refuses : Type 0 where
   pub accepted : (r : Invocation) (s : List ℕ) (o : Office) → (serve r s o .number ≡ 0) ↔ NoCause s o r
   pub offset-0 : (r : Invocation) (s : List ℕ) (o : Office) → serve r s o .number ≡ 0 → serve r s o .offset ≡ 0
   -- a refusal leaves every lent byte as it was, and gives no value
-  pub left : (r : Invocation) (s : List ℕ) (o : Office) → ¬ (serve r s o .number ≡ 0) → serve r s o .after ≡ o
+  pub left : (r : Invocation) (s : List ℕ) (o : Office) → ¬ (serve r s o .number ≡ 0)
+      → (serve r s o .after ≡ o) × (serve r s o .results ≡ resultsLentTo r)
   pub no-value : (r : Invocation) (s : List ℕ) (o : Office) → ¬ (serve r s o .number ≡ 0)
       → (serve r s o .kind ≡ 0) × (serve r s o .value ≡ pos 0)
-  -- of the openings and the five calls: after the sheet the lowest number wins
-  pub lowest : (r : Invocation) (s : List ℕ) (o : Office) (k : ℕ) → First (causesOf s o r) k ↔ Lowest (causesOf s o r) k
+  -- of the openings and 01's five calls: after the sheet the lowest number wins
+  pub lowest : (r : Invocation) → InBase r → (s : List ℕ) (o : Office) (k : ℕ) → First (causesOf s o r) k ↔ Lowest (causesOf s o r) k
+  -- of a board: 17 comes after 10 and before 11
+  pub boards : (s : List ℕ) (o : Office) (items results : List ℕ) → BoardRefuses s o items results
   -- each number has its cause (15 is the printer's, printer/specs/Causes, and 16 the day program's, day_meaning/specs/Causes)
-  pub each : Gets 1 × Gets 2 × Gets 3 × Gets 4 × Gets 5 × Gets 6 × Gets 7 × Gets 8 × Gets 9 × Gets 10 × Gets 11 × Gets 12 × Gets 13 × Gets 14
+  pub each : Gets 1 × Gets 2 × Gets 3 × Gets 4 × Gets 5 × Gets 6 × Gets 7 × Gets 8 × Gets 9 × Gets 10 × Gets 11 × Gets 12 × Gets 13 × Gets 14 × Gets 17
   -- the sheet's words in the causes are those of its bytes
   pub words : (s : List ℕ) → Faultless s → SheetWords s
 
@@ -60,11 +63,11 @@ pub record Means : Type 0 where
 -- Demand 3, about whole lists of calls.
 pub record Agrees : Type 0 where
   -- Two offices open the same sheet, each bare or full, and call what they like; the accepted posts are the same, in the same
-  -- order. Then every ask agrees, and is what the fresh office gives that is fed either list.
+  -- order. Then every ask and every board agrees, and is what the fresh office gives that is fed either list.
   pub agree : (s : List ℕ) (o p : Office) (first second : Opening)
       → openOn first s o .number ≡ 0 → openOn second s p .number ≡ 0
       → (cs ds : List Call) → acceptedPosts s (openOn first s o .after) cs ≡ acceptedPosts s (openOn second s p .after) ds
-      → (i : ℕ) → SameReading s (openOn first s o .after) cs (openOn second s p .after) ds i
+      → SameAnswers s (openOn first s o .after) cs (openOn second s p .after) ds
   -- And after a quiet table and one accepted post, what that entry does not lead to stays stored with its value.
   pub retained : (s : List ℕ) (o : Office) (how : Opening) → openOn how s o .number ≡ 0 → Retains s (openOn how s o .after)
   -- no list leads to a refusal of index or table
