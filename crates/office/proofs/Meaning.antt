@@ -110,12 +110,12 @@ module _ (s : List ℕ) (kept : Office) (f : FollowsLayout s kept) where
       fitting = subst (λ n. ¬ LengthsWrong n kept) (sym counted) long
 
   fits-gives : (how : Opening)
-      → openOn how s kept ≡ accepted none (keeping (indexBytes (places (f .layout))) (encodeTable (machineSheet (f .layout)) (opened how (machineSheet (f .layout)))))
+      → openOn how s kept ≡ accepted none [] (keeping (indexBytes (places (f .layout))) (encodeTable (machineSheet (f .layout)) (opened how (machineSheet (f .layout)))))
   fits-gives how =
       let o : Opens s kept how = opening-opens s kept how (fits-opens how) in
       o .gives
-      ∙ ap (λ q. accepted none (keeping (indexBytes (placedFrom q)) (encodeTable (sheetFrom q) (opened how (sheetFrom q))))) (sym (o .reads) ∙ fits-reads)
-      ∙ ap (λ l. accepted none (keeping (indexBytes (places (f .layout))) (encodeTable (machineSheet l) (opened how (machineSheet l))))) (places-layout (f .layout))
+      ∙ ap (λ q. accepted none [] (keeping (indexBytes (placedFrom q)) (encodeTable (sheetFrom q) (opened how (sheetFrom q))))) (sym (o .reads) ∙ fits-reads)
+      ∙ ap (λ l. accepted none [] (keeping (indexBytes (places (f .layout))) (encodeTable (machineSheet l) (opened how (machineSheet l))))) (places-layout (f .layout))
 
 bytes32-bytes : (n : ℕ) → Bytes (bytes32 n)
 bytes32-bytes n zero = omega arith
@@ -167,7 +167,7 @@ opening-writes how s kept f = subst (Writes how l) (sym (fits-gives s kept f how
         ∙ ap (λ it. encodeCell (opened how (it ∷ []) 0)) (item-at l j)
         ∙ record-opened how (getD (l .items) j (entryField []))
 
-    wrote : Writes how l (accepted none (keeping (indexBytes ps) (encodeTable S (opened how S))))
+    wrote : Writes how l (accepted none [] (keeping (indexBytes ps) (encodeTable S (opened how S))))
     wrote =
         record {
           number-0 = refl;
