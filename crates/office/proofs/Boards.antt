@@ -4,7 +4,7 @@ use Prim.Native.Nat.{ℕ, _*_}
 use native.Mathlib.Omega.{arith}
 use mathlib.Core.Path.{_≡_, refl, sym, ap, _∙_, subst}
 use mathlib.Core.Bool.{Bool, true, false, cond, not}
-use mathlib.Core.List.{List, [], _∷_, _++_}
+use mathlib.Core.List.{List, [], _∷_, _++_, map}
 use mathlib.Core.Logic.{_⊎_, inl, inr}
 use lib.ListN.{length}
 use Rattle.circuit.specs.Value.{kindOf, numberOf}
@@ -31,7 +31,7 @@ use Rattle.item.proofs.Offsets.{same-refl, same-equal}
 use Rattle.table.specs.Record.{width}
 use Rattle.table.specs.Bytes.{encodeTable, decodeTable, tableForm, Holdable}
 use Rattle.table.proofs.Tables.{encode-decodeTable, decoded-holdable}
-use Rattle.office.specs.Office.{Office, keeping, Given, resultsLent, resultOf, resultsOf, callOn}
+use Rattle.office.specs.Office.{Office, keeping, Given, resultsLent, resultOf, resultsOf, callOn, runOn}
 use Rattle.office.specs.Demand1Words.{IndexNotAsOpened, AcceptedLent}
 use Rattle.office.specs.Demand2Words.{BoardLeaves, Asks, no-more, then-ask}
 use Rattle.office.proofs.Holdable.{perform-holdable}
@@ -44,6 +44,12 @@ ask-then : (s : List ℕ) (o p : Office) (i : ℕ) (is rest : List ℕ) (g : Giv
     → Asks s (g .after) is rest p → Asks s o (i ∷ is) (resultOf (g .kind) (g .value) ++ rest) p
 ask-then s o p i is rest g e =
     subst (λ h. h .number ≡ 0 → Asks s (h .after) is rest p → Asks s o (i ∷ is) (resultOf (h .kind) (h .value) ++ rest) p) e (λ n a. then-ask n a)
+
+-- a list of calls that begins with the asks
+asks-run : (s : List ℕ) (cs : List Call) {o p : Office} {is results : List ℕ} → Asks s o is results p → runOn s o (map ask is ++ cs) ≡ runOn s p cs
+unfolding runOn
+asks-run s cs no-more = refl
+asks-run s cs (then-ask z rest) = asks-run s cs rest
 
 -- Calls on an index and the encoding of a table are the machine's.
 module _ (s x : List ℕ) (S : Sheet) (ordered : Ordered S)
@@ -195,3 +201,8 @@ module _ (s : List ℕ) (kept : Office) (lent : AcceptedLent s kept) (bytes : By
           subst (λ k. BoardLeaves (sheetOf s) k items (callOn s k (board items results))) o
           (board-leaves-at s (indexBytes ps) (sheetOf s) (ordered edition ps reads) (bridged edition ps reads) T items results holdable within
           (ap decodeTable encoded) (subst (λ k. callOn s k (board items results) .number ≡ 0) (sym o) accepted))
+
+  -- and it counts as the asks in a list of calls
+  pub board-counts : (cs : List Call) → runOn s kept (board items results ∷ cs) ≡ runOn s kept (map ask (listed items) ++ cs)
+  unfolding runOn
+  board-counts cs = sym (asks-run s cs board-asks)

@@ -34,7 +34,7 @@ use Rattle.office.specs.Office.{Office, keeping, effectOn, callOn}
 use Rattle.office.specs.Demand1Words.{calling, NoneHolds, ownCauses, AcceptedLent}
 use Rattle.office.specs.Demand2Words.{valueOf, Stores, PostLeaves, KeepLeaves, DropLeaves, StepLeaves, AskLeaves, NoMarkStands, CallsLeave}
 use Rattle.office.proofs.Holdable.{perform-holdable}
-use Rattle.office.proofs.Boards.{board-asks, board-leaves}
+use Rattle.office.proofs.Boards.{board-leaves, board-asks, board-counts}
 use Rattle.office.proofs.Agreeing.{mark-cell, unmarked-code}
 use Rattle.office.proofs.Refusals.{turned-back, opens-sheet, unbroken-form, form-unbroken, call-accepted, own-passed, Postable, postable}
 
@@ -435,4 +435,5 @@ module _ (s : List ℕ) (kept : Office) (lent : AcceptedLent s kept) where
           quiet = ask-quiets;
           boards = λ items results z. board-leaves s kept lent bytes items results z;
           board-asks = λ items results z. board-asks s kept lent bytes items results z;
+          board-counts = λ items results z. board-counts s kept lent bytes items results z;
         }
