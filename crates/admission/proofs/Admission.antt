@@ -21,7 +21,7 @@ use Rattle.layout.specs.Index.{indexBytes}
 use Rattle.item.proofs.Located.{sheet-size, size-room}
 use Rattle.table.specs.Record.{width}
 use Rattle.table.specs.Bytes.{encodeTable, decodeTable, tableForm, tableLength}
-use Rattle.office.specs.Office.{Given, refusal, accepted, lengthsOff, indexWrong, tableWrong, unlessRefused, effectOn, callOn, openOn, keeping}
+use Rattle.office.specs.Office.{Given, resultsLent, refusal, accepted, lengthsOff, indexWrong, tableWrong, unlessRefused, effectOn, callOn, openOn, keeping}
 use Rattle.looking.specs.Pass.{Lent}
 use Rattle.admission.specs.Admission.{itemsUnless, measuredBy, measuredOf, admittedBy, admittedOf, callLent, Placing}
 use Rattle.admission.specs.declared.Admitted.the-variants.{Items, Refused}
@@ -34,27 +34,27 @@ lengths-right n a b e =
 
 -- ---- an opening
 
-pub refused-open : (how : Opening) (s x t : List ℕ) (k at : ℕ) → Refused k at ≡ measuredOf s (length x) (length t) → openOn how s (keeping x t) ≡ refusal k at (keeping x t)
+pub refused-open : (how : Opening) (s x t : List ℕ) (k at : ℕ) → Refused k at ≡ measuredOf s (length x) (length t) → openOn how s (keeping x t) ≡ refusal k at [] (keeping x t)
 unfolding openOn measuredOf firstCause
 refused-open how s x t k at e = go (readSheet s) refl e
   where
     by : (b : Bool) (n : ℕ) (g : Given) → Refused k at ≡ itemsUnless (firstCause (test 8 b ∷ [])) n
-        → unlessRefused (firstCause (test 8 b ∷ [])) (keeping x t) g ≡ refusal k at (keeping x t)
-    by true n g q = let a : 8 ≡ k = cc in let o : 0 ≡ at = cc in ap₂ (λ i j. refusal i j (keeping x t)) a o
+        → unlessRefused (firstCause (test 8 b ∷ [])) [] (keeping x t) g ≡ refusal k at [] (keeping x t)
+    by true n g q = let a : 8 ≡ k = cc in let o : 0 ≡ at = cc in ap₂ (λ i j. refusal i j [] (keeping x t)) a o
     by false n g q = let z : _≡_ {A = ℕ} 0 1 = cc in absurd (omega arith)
 
-    go : (r : SheetRead) → readSheet s ≡ r → Refused k at ≡ measuredBy r (length x) (length t) → openOn how s (keeping x t) ≡ refusal k at (keeping x t)
-    go (refused j o) q y = let a : j ≡ k = cc in let b : o ≡ at = cc in rw q (ap₂ (λ i p. refusal i p (keeping x t)) a b)
+    go : (r : SheetRead) → readSheet s ≡ r → Refused k at ≡ measuredBy r (length x) (length t) → openOn how s (keeping x t) ≡ refusal k at [] (keeping x t)
+    go (refused j o) q y = let a : j ≡ k = cc in let b : o ≡ at = cc in rw q (ap₂ (λ i p. refusal i p [] (keeping x t)) a b)
     go (opens edition ps) q y =
         rw q
-        (by (lengthsOff (length ps) (length x) (length t)) (length ps) (accepted none (keeping (indexBytes ps) (encodeTable (sheetRead edition ps) (opened how (sheetRead edition ps))))) y)
+        (by (lengthsOff (length ps) (length x) (length t)) (length ps) (accepted none [] (keeping (indexBytes ps) (encodeTable (sheetRead edition ps) (opened how (sheetRead edition ps))))) y)
 
 pub record Measured (s x t : List ℕ) (n : ℕ) : Type 0 where
   pub count-is : n ≡ size (sheetOf s)
   pub items-count : n ≡ length (itemsOf s)
   pub index-length : length x ≡ indexWidth * n
   pub table-length : length t ≡ width * n
-  pub opening : (how : Opening) → openOn how s (keeping x t) ≡ accepted none (keeping (indexBytes (itemsOf s)) (encodeTable (sheetOf s) (opened how (sheetOf s))))
+  pub opening : (how : Opening) → openOn how s (keeping x t) ≡ accepted none [] (keeping (indexBytes (itemsOf s)) (encodeTable (sheetOf s) (opened how (sheetOf s))))
 
 pub measured : (s x t : List ℕ) (n : ℕ) → Items n ≡ measuredOf s (length x) (length t) → Measured s x t n
 unfolding openOn measuredOf firstCause itemsOf sheetOf
@@ -80,19 +80,19 @@ measured s x t n e = go (readSheet s) refl e
 
 -- ---- a call
 
-pub refused-call : (s x t : List ℕ) (c : Call) (k at : ℕ) → Refused k at ≡ admittedOf s x t → callOn s (keeping x t) c ≡ refusal k at (keeping x t)
+pub refused-call : (s x t : List ℕ) (c : Call) (k at : ℕ) → Refused k at ≡ admittedOf s x t → callOn s (keeping x t) c ≡ refusal k at (resultsLent c) (keeping x t)
 unfolding callOn admittedOf firstCause
 refused-call s x t c k at e = go (readSheet s) refl e
   where
     by : (a b d : Bool) (n : ℕ) (ts : List Test) (g : Given) → Refused k at ≡ itemsUnless (firstCause (test 8 a ∷ test 9 b ∷ test 10 d ∷ [])) n
-        → unlessRefused (firstCause (test 8 a ∷ test 9 b ∷ test 10 d ∷ ts)) (keeping x t) g ≡ refusal k at (keeping x t)
-    by true b d n ts g q = let a : 8 ≡ k = cc in let o : 0 ≡ at = cc in ap₂ (λ i j. refusal i j (keeping x t)) a o
-    by false true d n ts g q = let a : 9 ≡ k = cc in let o : 0 ≡ at = cc in ap₂ (λ i j. refusal i j (keeping x t)) a o
-    by false false true n ts g q = let a : 10 ≡ k = cc in let o : 0 ≡ at = cc in ap₂ (λ i j. refusal i j (keeping x t)) a o
+        → unlessRefused (firstCause (test 8 a ∷ test 9 b ∷ test 10 d ∷ ts)) (resultsLent c) (keeping x t) g ≡ refusal k at (resultsLent c) (keeping x t)
+    by true b d n ts g q = let a : 8 ≡ k = cc in let o : 0 ≡ at = cc in ap₂ (λ i j. refusal i j (resultsLent c) (keeping x t)) a o
+    by false true d n ts g q = let a : 9 ≡ k = cc in let o : 0 ≡ at = cc in ap₂ (λ i j. refusal i j (resultsLent c) (keeping x t)) a o
+    by false false true n ts g q = let a : 10 ≡ k = cc in let o : 0 ≡ at = cc in ap₂ (λ i j. refusal i j (resultsLent c) (keeping x t)) a o
     by false false false n ts g q = let z : _≡_ {A = ℕ} 0 1 = cc in absurd (omega arith)
 
-    go : (r : SheetRead) → readSheet s ≡ r → Refused k at ≡ admittedBy r x t → callOn s (keeping x t) c ≡ refusal k at (keeping x t)
-    go (refused j o) q y = let a : j ≡ k = cc in let b : o ≡ at = cc in rw q (ap₂ (λ i p. refusal i p (keeping x t)) a b)
+    go : (r : SheetRead) → readSheet s ≡ r → Refused k at ≡ admittedBy r x t → callOn s (keeping x t) c ≡ refusal k at (resultsLent c) (keeping x t)
+    go (refused j o) q y = let a : j ≡ k = cc in let b : o ≡ at = cc in rw q (ap₂ (λ i p. refusal i p (resultsLent c) (keeping x t)) a b)
     go (opens edition ps) q y =
         rw q (by (lengthsOff (length ps) (length x) (length t)) (indexWrong ps x) (tableWrong (sheetRead edition ps) t) (length ps)
         (tests (sheetRead edition ps) (decodeTable t) c) (effectOn (sheetRead edition ps) (keeping x t) (effect (sheetRead edition ps) (decodeTable t) c)) y)

@@ -8,7 +8,7 @@ use lib.ListN.{length}
 use Rattle.circuit.specs.Call.{Call}
 use Rattle.layout.specs.Opened.{sheetOf, Located}
 use Rattle.layout.specs.Layout.{mostItems, itemLimit}
-use Rattle.office.specs.Office.{refusal, keeping, callOn}
+use Rattle.office.specs.Office.{resultsLent, refusal, keeping, callOn}
 use Rattle.looking.specs.Pass.{Lent}
 use Rattle.admission.specs.Admission.{admittedOf, callLent, Placing}
 use Rattle.admission.specs.declared.Admitted.{Admitted}
@@ -33,5 +33,5 @@ admits s x t offsets {n} answer items located room =
     }
 
 -- a refusal of what is lent is the whole call's
-pub refuses : (s x t : List ℕ) (c : Call) {k at : ℕ} {r : Admitted} → r ≡ admittedOf s x t → r ≡ Refused k at → callOn s (keeping x t) c ≡ refusal k at (keeping x t)
+pub refuses : (s x t : List ℕ) (c : Call) {k at : ℕ} {r : Admitted} → r ≡ admittedOf s x t → r ≡ Refused k at → callOn s (keeping x t) c ≡ refusal k at (resultsLent c) (keeping x t)
 refuses s x t c {k} {at} answer fault = let e : Refused k at ≡ admittedOf s x t = cc in refused-call s x t c k at e

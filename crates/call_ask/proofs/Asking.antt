@@ -1,5 +1,5 @@
 -- Ask: its own test, and what it gives and leaves. Assumes nothing.
-use Prim.Native.Nat.{ℕ, _+_, _*_, _≤_, _<_}
+use Prim.Native.Nat.{ℕ, _≤_, _<_}
 use native.Mathlib.Omega.{arith}
 use mathlib.Core.Path.{_≡_, refl, sym, ap, subst, _∙_}
 use mathlib.Core.List.{List}
@@ -16,14 +16,11 @@ use Rattle.layout.specs.Opened.{sheetOf}
 use Rattle.field.specs.Bytes.{Bytes}
 use Rattle.table.specs.Bytes.{encodeTable, decodeTable}
 use Rattle.table.proofs.Tables.{encode-decodeTable}
-use Rattle.item.proofs.Located.{size-most}
 use Rattle.looking.specs.Pass.{Lent, Leaves}
-use Rattle.stepping.specs.Stepping.{Ready, Steps}
-use Rattle.memo.specs.Memo.{Found, Memo}
+use Rattle.memo.specs.Memo.{Found}
 use Rattle.admission.specs.Admission.{callLent}
 use Rattle.call_ask.specs.Asking.{Asked, ReadingOf, LookedUp}
 use Rattle.call_ask.specs.declared.Reading.{Reading}
-use Rattle.stepping.proofs.Stepping.{ready-memo}
 
 -- ---- ask
 
@@ -44,13 +41,6 @@ module _ {s offsets t : List ℕ} (lent : Lent s offsets t) (x : List ℕ) (n it
         value-is = q .value-is ∙ ap Rattle.circuit.specs.Value.numberOf (l .value-is);
         table-is = sym (encode-decodeTable (sheetOf s) t₂ bytes (len ∙ lent .length-is) (l .formed)) ∙ ap (encodeTable (sheetOf s)) (l .table-is);
       })
-
--- the look-up after catching up is of a generation of its own
-pub caught-memo : {s tags : List ℕ} {numbers : List ℤ} → Ready s tags numbers 1 → {n : ℕ} → n ≡ size (sheetOf s)
-    → {U : Table} {t₁ : List ℕ} (tags₁ : List ℕ) (numbers₁ : List ℤ)
-    → length tags₁ ≡ length tags → length numbers₁ ≡ length numbers → Steps s (2 * n) U t₁ tags₁ → (T : Table) → Memo (sheetOf s) T tags₁ numbers₁ (2 * n + 1)
-caught-memo {s} {tags} {numbers} ready {n} n-is tags₁ numbers₁ a b steps T =
-    ready-memo (record { tag-room = omega (arith, ready .tag-room); number-room = omega (arith, ready .number-room); generations = omega (arith, size-most s); older = steps .older }) T
 
 -- what a look-up after catching up gives
 pub caught-looked : (s : List ℕ) {t₁ : List ℕ} (T : Table) → decodeTable t₁ ≡ T

@@ -91,7 +91,7 @@ gather-take look T ps (suc k) h =
     ∙ ap (gather look T) (sym (take-suc ps k 0 h))
 
 -- all the parents
-gather-all : (look : Table → ℕ → Looked) (T : Table) (ps : List ℕ) → gatherTo look T ps (length ps) ≡ gather look T ps
+pub gather-all : (look : Table → ℕ → Looked) (T : Table) (ps : List ℕ) → gatherTo look T ps (length ps) ≡ gather look T ps
 gather-all look T ps = gather-take look T ps (length ps) (omega arith) ∙ ap (gather look T) (take-length ps)
 
 -- no parent is looked up yet

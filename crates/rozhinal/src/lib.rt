@@ -1,4 +1,4 @@
-// The functions that a C program calls: the openings, the five calls and the printer, with numbers and byte slices. A slice is a
+// The functions that a C program calls: the openings, the six calls and the printer, with numbers and byte slices. A slice is a
 // pointer and a length in C; include/rozhinal.h declares them. Each is one call of the function that does the work.
 ghost use Rattle.circuit.specs.Call as call;
 ghost use Rattle.circuit.specs.Call.{bare, full};
@@ -6,6 +6,7 @@ ghost use Rattle.office.specs.Office.{openOn, callOn, keeping};
 ghost use Rattle.admission.specs.Answers.{Answered};
 ghost use Rattle.call_open.specs.Opening.{Opened};
 ghost use Rattle.call_ask.specs.Asking.{Asked};
+ghost use Rattle.call_board.specs.Showing.{BoardShown};
 ghost use Rattle.printer.specs.Contract.{PrintsCode};
 use admission::Answer;
 use call_ask::Reading;
@@ -64,6 +65,19 @@ pub extern "C" fn rozhinal_ask(sheet: &[u8], index: &[u8], table: &mut [u8], ite
     ensures { λ r. ⌜ Asked (callOn (now (sheet .entry)) (keeping (now (index .entry)) (now (table .entry))) (call.ask item)) r (now (table .exit)) ⌝ }
 {
     call_ask::ask(sheet, index, table, item)
+}
+
+#[no_mangle]
+pub extern "C" fn rozhinal_board(
+    sheet: &[u8],
+    index: &[u8],
+    table: &mut [u8],
+    items: &[u8],
+    results: &mut [u8],
+) -> Answer
+    ensures { λ r. ⌜ BoardShown (callOn (now (sheet .entry)) (keeping (now (index .entry)) (now (table .entry))) (call.board (now (items .entry)) (now (results .entry)))) r (now (results .exit)) (now (table .exit)) ⌝ }
+{
+    call_board::board(sheet, index, table, items, results)
 }
 
 #[no_mangle]

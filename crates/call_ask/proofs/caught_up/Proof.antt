@@ -7,7 +7,8 @@ use lib.ListN.{replicate}
 use Rattle.layout.specs.Layout.{itemLimit, mostItems}
 use Rattle.stepping.proofs.Starting.{same-all, fresh-ready}
 use Rattle.stepping.proofs.Ascending.{lent-on}
-use Rattle.call_ask.proofs.Asking.{caught-memo, caught-looked}
+use Rattle.catching.proofs.Catching.{caught-memo}
+use Rattle.call_ask.proofs.Asking.{caught-looked}
 use borrow.Author.Needs.{needs}
 use Rattle.call_ask.proofs.caught_up.Statement.{statement}
 use Rattle.call_ask.proofs.caught_up.Tie as tie
