@@ -1,4 +1,4 @@
--- The lists of 02's board: the items in the bytes of one, and what is refused of their lengths (17). Assumes nothing.
+-- The two lists of 02's board: the items in the bytes of the first, and which lengths are refused (17). Assumes nothing.
 use Prim.Native.Nat.{ℕ, _*_, _/_, _%_}
 use mathlib.Core.Bool.{Bool, not, _&&_}
 use mathlib.Core.List.{List, [], _∷_}
@@ -17,7 +17,7 @@ resultWidth = 9
 abbrev pub mostListed : ℕ
 mostListed = 64
 
--- the items of a list, two bytes each, the low byte first, in list order
+-- the items of a list, two bytes each, the low byte first, in list order; a last odd byte is no item (17 refuses such a list)
 unfoldable pub listed : List ℕ → List ℕ
 listed [] = []
 listed (low ∷ []) = []

@@ -38,9 +38,9 @@ pub record LookingUp (S : Sheet) (T : Table) : Type 0 where
       → itemAt S i ≡ figure op keep spread ps
       → let g : Gathered = gather (lookUp S) T ps in
       workOut S T i ≡ looked (g .table) (apply op (g .values)) (g .flag)
-  -- of no parents
+  -- of no items
   pub none-gathered : gather (lookUp S) T [] ≡ gathered T [] false
-  -- of a parent and the rest, which are looked up on the table that the first left
+  -- of an item and the rest, which are looked up on the table that the first left
   pub next-gathered : (p : ℕ) (ps : List ℕ)
       → let r : Looked = lookUp S T p in
       let g : Gathered = gather (lookUp S) (r .table) ps in

@@ -1,4 +1,4 @@
--- Words of 01's "Two offices" (no mark stands, dropped, accepted) and of an ask (stepping until none is marked), and what a
+-- Words of 01's "Two offices" (no mark stands, dropped, accepted) and of catching up (stepping until none is marked), and what a
 -- table's entries hold. Assumes nothing.
 use Prim.Native.Nat.{ℕ, _<_}
 use mathlib.Core.Path.{_≡_}

@@ -1,13 +1,16 @@
 -- A board on lent bytes: what it leaves, and that it is the asks for its items one after another. Assumes that what is lent is
 -- accepted and that the table is bytes.
-use Prim.Native.Nat.{ℕ, _*_}
+use Prim.Native.Nat.{ℕ, _*_, _<_}
 use native.Mathlib.Omega.{arith}
 use mathlib.Core.Path.{_≡_, refl, sym, ap, _∙_, subst}
 use mathlib.Core.Bool.{Bool, true, false, cond, not}
 use mathlib.Core.List.{List, [], _∷_, _++_, map}
 use mathlib.Core.Logic.{_⊎_, inl, inr}
 use lib.ListN.{length}
-use Rattle.circuit.specs.Value.{kindOf, numberOf}
+use borrow.Author.Tests.{leb-false}
+use mir.Syntax.{w64}
+use mir.Val.{toZ, ofZ}
+use Rattle.circuit.specs.Value.{Value, null, out, num, kindOf, numberOf, wellFormed}
 use Rattle.circuit.specs.Sheet.{Sheet, Ordered, size, beyond}
 use Rattle.circuit.specs.Table.{Table}
 use Rattle.circuit.specs.Machine.{Looked, Gathered, gather, lookUp, catchUp}
@@ -25,31 +28,50 @@ use Rattle.layout.proofs.Scan.{opened-ordered}
 use Rattle.layout.proofs.IndexLaws.{index-length}
 use Rattle.layout.proofs.Tests.{Tells, holds, fails, tells-eq}
 use Rattle.layout.proofs.Causes.{opens-faultless}
-use Rattle.word.specs.Word.{Bytes}
+use Rattle.word.specs.Word.{Bytes, size64, bytes64}
+use Rattle.word.proofs.Bytes.{leAt-drop, signed-again, length-bytes64, bytes-cons, bytes-leBytes}
 use Rattle.item.specs.Offsets.{sameBytes}
 use Rattle.item.proofs.Offsets.{same-refl, same-equal}
 use Rattle.table.specs.Record.{width}
 use Rattle.table.specs.Bytes.{encodeTable, decodeTable, tableForm, Holdable}
+use Rattle.table.proofs.Records.{number-fits}
 use Rattle.table.proofs.Tables.{encode-decodeTable, decoded-holdable}
 use Rattle.office.specs.Office.{Office, keeping, Given, resultsLent, resultOf, resultsOf, callOn, runOn}
 use Rattle.office.specs.Demand1Words.{IndexNotAsOpened, AcceptedLent}
-use Rattle.office.specs.Demand2Words.{BoardLeaves, Asks, no-more, then-ask}
-use Rattle.office.proofs.Holdable.{perform-holdable}
+use Rattle.office.specs.Demand2Words.{ResultWords, BoardLeaves, Asks, no-more, then-ask}
+use Rattle.office.specs.Demand3Words.{acceptedPosts, CountsAsAsks}
+use Rattle.office.proofs.Holdable.{look-formed, catchUp-holdable, perform-holdable}
 use Rattle.office.proofs.Bridge.{Within, perform-within, decoded-beyond, givenBy, call-performs}
 use Rattle.office.proofs.Agreeing.{at, sized}
 use Rattle.office.proofs.Refusals.{opens-sheet, unbroken-form}
 
+kind-small : (v : Value) → kindOf v < 256
+kind-small null = omega arith
+kind-small out = omega arith
+kind-small (num z) = omega arith
+
+-- the nine bytes of a value
+pub result-words : (v : Value) → wellFormed v ≡ true → ResultWords (resultOf (kindOf v) (numberOf v)) (kindOf v) (numberOf v)
+result-words v formed =
+    record {
+      long = omega (arith, length-bytes64 (numberOf v));
+      bytes = bytes-cons (kindOf v) (bytes64 (numberOf v)) (kind-small v) (bytes-leBytes size64 (ofZ w64 (numberOf v)));
+      kind-is = refl;
+      number-is = ap (toZ w64) (leAt-drop size64 (resultOf (kindOf v) (numberOf v)) 1 0) ∙ signed-again (numberOf v) (number-fits v formed);
+    }
+
 -- an ask of which is known what it gives, and the asks after it
-ask-then : (s : List ℕ) (o p : Office) (i : ℕ) (is rest : List ℕ) (g : Given) → callOn s o (ask i) ≡ g → g .number ≡ 0
-    → Asks s (g .after) is rest p → Asks s o (i ∷ is) (resultOf (g .kind) (g .value) ++ rest) p
-ask-then s o p i is rest g e =
-    subst (λ h. h .number ≡ 0 → Asks s (h .after) is rest p → Asks s o (i ∷ is) (resultOf (h .kind) (h .value) ++ rest) p) e (λ n a. then-ask n a)
+ask-then : (s : List ℕ) (o p : Office) (i : ℕ) (is r rest : List ℕ) (g : Given) → callOn s o (ask i) ≡ g → g .number ≡ 0
+    → ResultWords r (g .kind) (g .value) → Asks s (g .after) is rest p → Asks s o (i ∷ is) (r ++ rest) p
+ask-then s o p i is r rest g e =
+    subst (λ h. h .number ≡ 0 → ResultWords r (h .kind) (h .value) → Asks s (h .after) is rest p → Asks s o (i ∷ is) (r ++ rest) p) e (λ n w a. then-ask n w a)
 
 -- a list of calls that begins with the asks
-asks-run : (s : List ℕ) (cs : List Call) {o p : Office} {is results : List ℕ} → Asks s o is results p → runOn s o (map ask is ++ cs) ≡ runOn s p cs
-unfolding runOn
-asks-run s cs no-more = refl
-asks-run s cs (then-ask z rest) = asks-run s cs rest
+asks-run : (s : List ℕ) (cs : List Call) {o p : Office} {is results : List ℕ} → Asks s o is results p
+    → (runOn s o (map ask is ++ cs) ≡ runOn s p cs) × (acceptedPosts s o (map ask is ++ cs) ≡ acceptedPosts s p cs)
+unfolding runOn acceptedPosts
+asks-run s cs no-more = (refl, refl)
+asks-run s cs (then-ask z w rest) = let later = asks-run s cs rest in (later .0, rw (z, later .1))
 
 -- Calls on an index and the encoding of a table are the machine's.
 module _ (s x : List ℕ) (S : Sheet) (ordered : Ordered S)
@@ -70,8 +92,9 @@ module _ (s x : List ℕ) (S : Sheet) (ordered : Ordered S)
       → (let U : Table = lookedUp T i .table in Holdable S U → Within S U → Quiet S U → Asks s (office U) is rest p)
       → Asks s (office T) (i ∷ is) (resultOf (kindOf (lookedUp T i .value)) (numberOf (lookedUp T i .value)) ++ rest) p
   ask-first T h w i low is rest p later =
-      ask-then s (office T) p i is rest (givenBy S x [] (readingOf (lookedUp T i)))
+      ask-then s (office T) p i is _ rest (givenBy S x [] (readingOf (lookedUp T i)))
       (performs T (ask i) h w ∙ ap (givenBy S x []) (asked T i low)) refl
+      (result-words (lookedUp T i .value) (look-formed S ordered (catchUp S T) i (leb-false (size S) i low) (catchUp-holdable S ordered T h)))
       (later (subst (λ o. Holdable S (o .table)) (asked T i low) (perform-holdable S ordered T (ask i) h))
       (subst (λ o. Within S (o .table)) (asked T i low) (perform-within S ordered T (ask i) w))
       (look-quiet S ordered (catchUp S T) i (catchUp-quiet S ordered T)))
@@ -203,6 +226,6 @@ module _ (s : List ℕ) (kept : Office) (lent : AcceptedLent s kept) (bytes : By
           (ap decodeTable encoded) (subst (λ k. callOn s k (board items results) .number ≡ 0) (sym o) accepted))
 
   -- and it counts as the asks in a list of calls
-  pub board-counts : (cs : List Call) → runOn s kept (board items results ∷ cs) ≡ runOn s kept (map ask (listed items) ++ cs)
-  unfolding runOn
-  board-counts cs = sym (asks-run s cs board-asks)
+  pub board-counts : (cs : List Call) → CountsAsAsks s kept items results cs
+  unfolding runOn acceptedPosts
+  board-counts cs = let run = asks-run s cs board-asks in record { posts = rw accepted (sym (run .1)); keeps = sym (run .0) }

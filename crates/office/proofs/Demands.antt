@@ -1,11 +1,13 @@
 -- The three demands hold. Assumes nothing.
 use Rattle.circuit.proofs.Equations.{equations}
+use Rattle.circuit.proofs.Board.{listed-count, listed-at}
 use Rattle.office.specs.Demands.{Refuses, Means, Agrees, Demands}
 use Rattle.office.proofs.Refusals.{turned-back, board-refuses}
 use Rattle.office.proofs.Examples.{each-given}
 use Rattle.office.proofs.Words.{sheet-words}
 use Rattle.office.proofs.Meaning.{opens-exactly, opening-writes, fits-sheet, one-layout, accepted-opened, bare-unstored, gives-solution}
 use Rattle.office.proofs.Leaves.{leaves}
+use Rattle.office.proofs.Boards.{result-words, board-counts}
 use Rattle.office.proofs.Accepted.{office-accepted}
 use Rattle.office.proofs.Agreeing.{offices-agree, offices-retain}
 
@@ -36,12 +38,20 @@ means =
       unstored = bare-unstored;
       solution = gives-solution;
       leaves = λ s o b lent. leaves s o lent b;
+      lists = λ items. record { count-is = listed-count items; item-is = listed-at items };
+      results = result-words;
       equations = equations;
     }
 
 -- Demand 3.
 pub agrees : Agrees
-agrees = record { agree = offices-agree; retained = λ s o how e. offices-retain s o how e; never-refused = λ s o how e cs. office-accepted s o how e cs }
+agrees =
+    record {
+      agree = offices-agree;
+      retained = λ s o how e. offices-retain s o how e;
+      counts = λ s o bytes lent items results e cs. board-counts s o lent bytes items results e cs;
+      never-refused = λ s o how e cs. office-accepted s o how e cs;
+    }
 
 pub demands : Demands
 demands = record { refuses = refuses; means = means; agrees = agrees }

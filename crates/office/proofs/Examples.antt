@@ -29,7 +29,7 @@ use Rattle.table.specs.Rows.{rowsBelow, allBelow}
 use Rattle.table.specs.Record.{encodeCell, decodeCell, codesForm, numberForm, recordForm}
 use Rattle.table.specs.Bytes.{encodeTable, tableForm}
 use Rattle.item.specs.Offsets.{sameBytes}
-use Rattle.office.specs.Office.{Office, keeping, Given, resultsOf, refusal, accepted, callRead, callOn, openRead, openOn}
+use Rattle.office.specs.Office.{Office, keeping, Given, resultsOf, refusal, accepted, callRead, callOn, openRead, openOn, runOn}
 use Rattle.office.specs.Demand1Words.{Invocation, opening, calling, serve, resultsLentTo, FitsArguments, Gets}
 use Rattle.office.specs.Demand2Words.{Answer, answerOf}
 
@@ -248,3 +248,10 @@ pub example-day : answers exampleBytes (keeping exampleIndex bareTable) (post 0 
     ≡ answer 0 0 (pos 0) ∷ answer 0 0 (pos 0) ∷ answer 0 3 (pos 700) ∷ answer 0 0 (pos 0) ∷ answer 0 3 (pos 500) ∷ answer 12 0 (pos 0) ∷ answer 11 0 (pos 0) ∷ []
 unfolding calls machine answers exampleBytes exampleIndex bareTable
 example-day = refl
+
+-- a board of B, A and B again, after its two posts: kind 3 each, 700, 1000 and 700
+pub example-board : callOn exampleBytes (runOn exampleBytes (keeping exampleIndex bareTable) (post 0 3 (pos 1000) ∷ post 1 3 (pos 300) ∷ []))
+    (board (4 ∷ 0 ∷ 0 ∷ 0 ∷ 4 ∷ 0 ∷ []) (replicate 27 9)) .results
+    ≡ (3 ∷ 188 ∷ 2 ∷ 0 ∷ 0 ∷ 0 ∷ 0 ∷ 0 ∷ 0 ∷ 3 ∷ 232 ∷ 3 ∷ 0 ∷ 0 ∷ 0 ∷ 0 ∷ 0 ∷ 0 ∷ 3 ∷ 188 ∷ 2 ∷ 0 ∷ 0 ∷ 0 ∷ 0 ∷ 0 ∷ 0 ∷ [])
+unfolding calls machine runOn exampleBytes exampleIndex bareTable
+example-board = refl

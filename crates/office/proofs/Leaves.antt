@@ -3,20 +3,22 @@ use Prim.Native.Nat.{ℕ, _*_, _<_}
 use native.Mathlib.Omega.{arith}
 use mathlib.Core.Path.{_≡_, refl, sym, ap, _∙_, subst}
 use mathlib.Core.Bool.{Bool, true, false, cond}
-use mathlib.Core.List.{List}
+use mathlib.Core.List.{List, []}
 use mathlib.Core.Logic.{inl, inr, ⊎-elim}
 use lib.IntN.{ℤ, pos}
 use lib.ListN.{length}
 use Rattle.circuit.specs.Value.{Value, null, out, num, same, kindOf, numberOf, wellFormed}
 use Rattle.circuit.specs.Sheet.{Sheet, Ordered, size}
 use Rattle.circuit.specs.Table.{Table, Cell, Mark, unmarked, refresh, notice, unk, held, upd, noticeIf, markOf, valueIn}
-use Rattle.circuit.specs.Machine.{workOut, storePosting, postCell, keepFigure, keepCell, dropFigure, dropCell, droppedMark, tell, clearMark, stepItem, stepCell, catchUp}
-use Rattle.circuit.specs.Call.{Call, post, keep, drop, step, ask}
+use Rattle.circuit.specs.Machine.{gather, lookUp, workOut, storePosting, postCell, keepFigure, keepCell, dropFigure, dropCell, droppedMark, tell, clearMark, stepItem, stepCell, catchUp}
+use Rattle.circuit.specs.Call.{Call, post, keep, drop, step, ask, board}
+use Rattle.circuit.specs.Board.{listed}
 use Rattle.circuit.specs.Calls.{perform, effect, postIt}
 use Rattle.circuit.specs.Words.{Quiet}
 use Rattle.circuit.proofs.RuleLaws.{same-true, same-refl}
-use Rattle.circuit.proofs.Fill.{upd-same, upd-other}
-use Rattle.circuit.proofs.CatchUp.{asked-quiet, catchUp-ends}
+use Rattle.circuit.proofs.Fill.{Fill, upd-same, upd-other, looks-right}
+use Rattle.circuit.proofs.Equations.{caught-unique}
+use Rattle.circuit.proofs.CatchUp.{fill-quiet, asked-quiet, catchUp-quiet, catchUp-ends}
 use Rattle.circuit.proofs.Accepted.{accepted-effect, effect-number}
 use Rattle.layout.specs.Read.{Placed, opens, readSheet}
 use Rattle.layout.specs.Opened.{sheetOf}
@@ -32,9 +34,9 @@ use Rattle.table.proofs.Rows.{bytes-rows}
 use Rattle.table.proofs.Tables.{length-encodeTable, encoded-record, encode-decodeTable, encodeTable-ext, decoded-holdable, encoded-tableForm, holdable-wellFormed}
 use Rattle.office.specs.Office.{Office, keeping, effectOn, callOn}
 use Rattle.office.specs.Demand1Words.{calling, NoneHolds, ownCauses, AcceptedLent}
-use Rattle.office.specs.Demand2Words.{valueOf, Stores, PostLeaves, KeepLeaves, DropLeaves, StepLeaves, AskLeaves, NoMarkStands, CallsLeave}
+use Rattle.office.specs.Demand2Words.{valueOf, Stores, PostLeaves, KeepLeaves, DropLeaves, StepLeaves, AskLeaves, BoardLeaves, NoMarkStands, CallsLeave}
 use Rattle.office.proofs.Holdable.{perform-holdable}
-use Rattle.office.proofs.Boards.{board-leaves, board-asks, board-counts}
+use Rattle.office.proofs.Boards.{board-leaves, board-asks}
 use Rattle.office.proofs.Agreeing.{mark-cell, unmarked-code}
 use Rattle.office.proofs.Refusals.{turned-back, opens-sheet, unbroken-form, form-unbroken, call-accepted, own-passed, Postable, postable}
 
@@ -421,6 +423,30 @@ module _ (s : List ℕ) (kept : Office) (lent : AcceptedLent s kept) where
                     let same-v : same w v ≡ true = ap (λ u. same u v) (value-same w v kinds numbers) ∙ same-refl v in
                     let bad : _≡_ {A = ℕ} 0 1 = cc in omega arith
 
+    board-quiets : (items results : List ℕ) → callOn s kept (board items results) .number ≡ 0 → ¬ (items ≡ [])
+        → NoMarkStands (sheetOf s) (callOn s kept (board items results) .after .table)
+    board-quiets items results z n k low =
+        ap (λ u. markIn (row width u k)) (left .shows n .1)
+        ∙ ap markIn (encoded-record S U k low) ∙ mark-cell (U k) ∙ unmarked-code (markOf (U k)) (fill-quiet S ordered C U (size S) fill quiet k low)
+      where
+        S : Sheet
+        S = sheetOf s
+
+        left : BoardLeaves S kept items (callOn s kept (board items results))
+        left = board-leaves s kept lent bytes items results z
+
+        C : Table
+        C = left .caught-up
+
+        U : Table
+        U = gather (lookUp S) C (listed items) .table
+
+        fill : Fill S C U
+        fill = looks-right S ordered C (listed items) .fill
+
+        quiet : Quiet S C
+        quiet = subst (Quiet S) (caught-unique (catchUp-ends S ordered (decodeTable t)) (left .catches)) (catchUp-quiet S ordered (decodeTable t))
+
     pub leaves : CallsLeave s kept
     leaves =
         record {
@@ -435,5 +461,5 @@ module _ (s : List ℕ) (kept : Office) (lent : AcceptedLent s kept) where
           quiet = ask-quiets;
           boards = λ items results z. board-leaves s kept lent bytes items results z;
           board-asks = λ items results z. board-asks s kept lent bytes items results z;
-          board-counts = λ items results z. board-counts s kept lent bytes items results z;
+          board-quiet = board-quiets;
         }

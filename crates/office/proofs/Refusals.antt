@@ -381,6 +381,7 @@ board-refuses s kept items results =
     record {
       lists-17 = (λ e. lists (by-first 17 (omega arith) e), λ h. from-first 17 (omega arith) (h .0) (inl (refl, h .1)));
       item-11 = (λ e. item (by-first 11 (omega arith) e), λ h. from-first 11 (omega arith) (h .0) (inr (h .1, inl (refl, h .2))));
+      results-left = λ n. turned-back (calling c) s kept .left n .1;
     }
   where
     c : Call

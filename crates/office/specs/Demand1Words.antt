@@ -177,7 +177,7 @@ pub record NoCause (s : List ℕ) (o : Office) (r : Invocation) : Type 0 where
   pub sheet : Faultless s
   pub lent : NoneHolds (causesOf s o r)
 
--- What can be lent and given: slices of bytes, arguments of 64 bits, posted numbers signed, lists of bytes.
+-- What can be lent and given: slices of bytes, arguments of 64 bits, posted numbers signed, and a board's two lists of bytes.
 abbrev pub FitsArguments : Invocation → Type 0
 FitsArguments (opening how) = Unit {0}
 FitsArguments (calling (post i kind z)) = (i < 2 ^ 64) × (kind < 2 ^ 64) × SFits w64 z
@@ -206,11 +206,12 @@ pub record AcceptedLent (s : List ℕ) (o : Office) : Type 0 where
   pub sheet : Faultless s
   pub lent : NoneHolds (lentCauses (sheetOf s) (itemsOf s) o)
 
--- A board's own refusals: 17 exactly if its lists are wrong, where index and table are accepted, whatever its items are; 11 exactly if
--- one of its items is n or more, where the lists are right.
+-- A board's own refusals, where sheet, index and table are accepted: 17 exactly if its lists are wrong, whatever its items are; 11
+-- exactly if the lists are right and one of its items is n or more. Refused for whatever cause, it leaves the results as they were lent.
 pub record BoardRefuses (s : List ℕ) (o : Office) (items results : List ℕ) : Type 0 where
   pub lists-17 : (callOn s o (board items results) .number ≡ 17) ↔ AcceptedLent s o × ListsWrong items results
   pub item-11 : (callOn s o (board items results) .number ≡ 11) ↔ AcceptedLent s o × (¬ ListsWrong items results) × SomeNoItem (sheetOf s) items
+  pub results-left : ¬ (callOn s o (board items results) .number ≡ 0) → callOn s o (board items results) .results ≡ results
 
 -- What the words above come to on the bytes of a sheet without a fault: n by the first field, parents below their items, figures
 -- by their tags, and the offsets in the index.

@@ -1,7 +1,7 @@
--- Demand 2, its words: the layout that a sheet follows, what the openings write, the solution, and the sentences of 01 on what
--- each call leaves of the table. Looking up, working out and telling are the machine's (circuit, Machine), with their equations,
+-- Demand 2, its words: the layout that a sheet follows, what the openings write, the solution, and the sentences of 01 and 02 on
+-- what each call leaves of the table. Looking up, working out and telling are the machine's (circuit, Machine), with their equations,
 -- without a bound, in circuit, Equations. Assumes nothing.
-use Prim.Native.Nat.{ℕ, _*_, _<_}
+use Prim.Native.Nat.{ℕ, _*_, _/_, _<_}
 use mathlib.Core.Path.{_≡_}
 use mathlib.Core.Bool.{true}
 use mathlib.Core.List.{List, [], _∷_, _++_, map}
@@ -13,9 +13,10 @@ use Rattle.circuit.specs.Sheet.{Sheet, Ordered, Entries, size, itemAt, isFigure
 use Rattle.circuit.specs.Table.{Table, unmarked, notice, held, upd, noticeIf, valueIn}
 use Rattle.circuit.specs.Machine.{Looked, Gathered, gather, lookUp, workOut, tell, clearMark}
 use Rattle.circuit.specs.Call.{Call, post, keep, drop, step, ask, board, Opening, bare, full}
-use Rattle.circuit.specs.Board.{listed}
+use Rattle.circuit.specs.Board.{listedWidth, resultWidth, listed}
 use Rattle.circuit.specs.Words.{CaughtUp}
-use Rattle.field.specs.Field.{Bytes}
+use Rattle.field.specs.Field.{Bytes, le16At}
+use Rattle.word.specs.Word.{le64At}
 use Rattle.layout.specs.Layout.{Layout, LayoutItem, entryField, figureField}
 use Rattle.layout.specs.Write.{within, writeSheet}
 use Rattle.layout.specs.Places.{offsetWritten}
@@ -24,7 +25,7 @@ use Rattle.layout.specs.Index.{indexWidth, le32At}
 use Rattle.table.specs.Rows.{row}
 use Rattle.table.specs.Record.{width, kindIn, markIn, numberIn}
 use Rattle.table.specs.Bytes.{encodeTable, decodeTable}
-use Rattle.office.specs.Office.{Office, Given, callOn, runOn, resultOf, resultsOf}
+use Rattle.office.specs.Office.{Office, Given, callOn, resultsOf}
 use Rattle.office.specs.Demand1Words.{AcceptedLent}
 
 -- ---- what a call answers
@@ -104,7 +105,7 @@ abbrev pub StoredRight : List ℕ → List ℕ → (ℕ → Value) → Type 0
 StoredRight s t values =
     (k : ℕ) → k < size (sheetOf s) → isFigure (itemAt (sheetOf s) k) ≡ true → ¬ (kindIn (row width t k) ≡ 0) → Stores t k (values k)
 
--- Ask answers, keep stores, and a board shows these values; and so does every figure that is stored on the way.
+-- Ask answers, keep stores, and a board shows these values; and every figure that is stored on the way holds its own.
 pub record Gives (s : List ℕ) (o : Office) (values : ℕ → Value) : Type 0 where
   pub asked : (i : ℕ) → i < size (sheetOf s) → answerOf (callOn s o (ask i)) ≡ reading (values i)
   pub asked-stored : (i : ℕ) → i < size (sheetOf s) → StoredRight s (callOn s o (ask i) .after .table) values
@@ -114,6 +115,18 @@ pub record Gives (s : List ℕ) (o : Office) (values : ℕ → Value) : Type 0 w
       → StoredRight s (callOn s o (keep i) .after .table) values
   pub shown : (items results : List ℕ) → let g : Given = callOn s o (board items results) in g .number ≡ 0 → g .results ≡ resultsOf (map values (listed items))
   pub shown-stored : (items results : List ℕ) → let g : Given = callOn s o (board items results) in g .number ≡ 0 → StoredRight s (g .after .table) values
+
+-- 02's "a list of items (2 bytes each)": item k is in the two bytes from 2k on, and there are no others.
+pub record ListWords (items : List ℕ) : Type 0 where
+  pub count-is : length (listed items) ≡ length items / listedWidth
+  pub item-is : (k : ℕ) → k < length items / listedWidth → getD (listed items) k 0 ≡ le16At items (listedWidth * k)
+
+-- 02's "table-form kinds and numbers (9 bytes each)": nine bytes, the kind in the first and the number in the other eight.
+pub record ResultWords (r : List ℕ) (kind : ℕ) (z : ℤ) : Type 0 where
+  pub long : length r ≡ resultWidth
+  pub bytes : Bytes r
+  pub kind-is : getD r 0 0 ≡ kind
+  pub number-is : le64At r 1 ≡ z
 
 -- ---- the table
 
@@ -167,12 +180,13 @@ pub record BoardLeaves (S : Sheet) (o : Office) (items : List ℕ) (g : Given) :
   pub shows : ¬ (items ≡ []) → let r : Gathered = gather (lookUp S) caught-up (listed items) in
       (g .results ≡ resultsOf (r .values)) × HasCells S (g .after .table) (r .table)
 
--- Asking for items one after another: each ask is accepted, and gives its kind and number in a list of results; the last one leaves
--- what the office keeps.
+-- Asking for items one after another. `Asks s o is results p`: from what the office keeps, o, each ask for an item of is, in list
+-- order, is accepted; the results are the kinds and numbers of their answers; and p is what the last one leaves.
 pub data Asks (s : List ℕ) : Office → List ℕ → List ℕ → Office → Type 0 where
   no-more : {o : Office} → Asks s o [] [] o
-  then-ask : {o p : Office} {i : ℕ} {is rest : List ℕ} → callOn s o (ask i) .number ≡ 0 → Asks s (callOn s o (ask i) .after) is rest p
-      → Asks s o (i ∷ is) (resultOf (callOn s o (ask i) .kind) (callOn s o (ask i) .value) ++ rest) p
+  then-ask : {o p : Office} {i : ℕ} {is r rest : List ℕ} → callOn s o (ask i) .number ≡ 0
+      → ResultWords r (callOn s o (ask i) .kind) (callOn s o (ask i) .value) → Asks s (callOn s o (ask i) .after) is rest p
+      → Asks s o (i ∷ is) (r ++ rest) p
 
 -- 01's "no mark stands": every mark byte is 0
 abbrev pub NoMarkStands : Sheet → List ℕ → Type 0
@@ -196,6 +210,5 @@ pub record CallsLeave (s : List ℕ) (o : Office) : Type 0 where
   -- 02's "Values and work table are those of asking for them one after another"
   pub board-asks : (items results : List ℕ) → let g : Given = callOn s o (board items results) in
       g .number ≡ 0 → Asks s o (listed items) (g .results) (g .after)
-  -- 02's "For the two offices an accepted board counts as those asks"
-  pub board-counts : (items results : List ℕ) → callOn s o (board items results) .number ≡ 0
-      → (cs : List Call) → runOn s o (board items results ∷ cs) ≡ runOn s o (map ask (listed items) ++ cs)
+  pub board-quiet : (items results : List ℕ) → let g : Given = callOn s o (board items results) in
+      g .number ≡ 0 → ¬ (items ≡ []) → NoMarkStands (sheetOf s) (g .after .table)

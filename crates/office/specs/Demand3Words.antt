@@ -3,7 +3,7 @@
 use Prim.Native.Nat.{ℕ, zero, suc, _<_, _≤_}
 use mathlib.Core.Path.{_≡_}
 use mathlib.Core.Bool.{Bool, true, false, not}
-use mathlib.Core.List.{List, [], _∷_, _++_}
+use mathlib.Core.List.{List, [], _∷_, _++_, map}
 use mathlib.Core.Logic.{_⊎_}
 use mathlib.Core.Option.{Option, none, some}
 use lib.Dec.{eqb}
@@ -83,8 +83,8 @@ boardAfter s o cs items results =
     let g : Given = callOn s (runOn s o cs) (board items results) in
     record { number = g .number; offset = g .offset; results = g .results }
 
--- What the fresh office gives as a board's answer: number 17 where the lists are wrong, 11 where it gives no value for one of the
--- items, both with the results as lent; else number 0 with the values.
+-- What the fresh office gives as a board's answer: number 17 where the lists are wrong (the lengths are the arguments'; 17 itself is
+-- fixed by demand 1), 11 where it gives no value for one of the items, both with the results as lent; else number 0 with the values.
 abbrev pub freshShown : Bool → Option (List Value) → List ℕ → Shown
 freshShown true vs results = shown 17 results
 freshShown false none results = shown 11 results
@@ -124,6 +124,12 @@ Retains s o =
     → (ds : List Call) → acceptedPosts s (g .after) ds ≡ []
     → (k : ℕ) → k < size (sheetOf s) → isFigure (itemAt (sheetOf s) k) ≡ true → (LeadsTo (circuitOf (sheetOf s)) e k → ⊥)
     → storedIn (p .table) k ≡ true → StaysStored (p .table) ds (runOn s (g .after) ds .table) k
+
+-- 02's "For the two offices an accepted board counts as those asks": with either at the front of a list, the same posts are accepted,
+-- and the office keeps the same afterwards.
+pub record CountsAsAsks (s : List ℕ) (o : Office) (items results : List ℕ) (cs : List Call) : Type 0 where
+  pub posts : acceptedPosts s o (board items results ∷ cs) ≡ acceptedPosts s o (map ask (listed items) ++ cs)
+  pub keeps : runOn s o (board items results ∷ cs) ≡ runOn s o (map ask (listed items) ++ cs)
 
 -- At an office, whatever was called before, index and table are accepted, and a call is given 0, or 11 or more.
 pub record OfficeAccepted (s : List ℕ) (o : Office) (cs : List Call) : Type 0 where

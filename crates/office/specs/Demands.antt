@@ -1,22 +1,23 @@
--- The three demands of document 01, a record for each, in its order. They are demands on `openOn` and `callOn` (Office), which the
+-- The three demands of document 01, with 02's board, a record for each, in its order. They are demands on `openOn` and `callOn` (Office), which the
 -- contracts of the exported functions cite: a function gives and leaves exactly what these say, for all lent bytes. That every call
 -- ends and touches only what it was lent is proved of each function by the language. Assumes nothing.
 use Prim.Native.Nat.{ℕ}
 use mathlib.Core.Path.{_≡_}
+use mathlib.Core.Bool.{true}
 use mathlib.Core.List.{List}
 use mathlib.Core.Logic.{_↔_}
 use lib.IntN.{pos}
-use Rattle.circuit.specs.Value.{Value}
+use Rattle.circuit.specs.Value.{Value, kindOf, numberOf, wellFormed}
 use Rattle.circuit.specs.Equations.{Equations}
-use Rattle.circuit.specs.Call.{Call, Opening, bare}
+use Rattle.circuit.specs.Call.{Call, board, Opening, bare}
 use Rattle.field.specs.Field.{Bytes}
 use Rattle.layout.specs.Layout.{machineSheet}
 use Rattle.layout.specs.Opened.{sheetOf}
 use Rattle.layout.specs.Causes.{Faultless}
-use Rattle.office.specs.Office.{Office, openOn}
+use Rattle.office.specs.Office.{Office, resultOf, callOn, openOn}
 use Rattle.office.specs.Demand1Words.{Invocation, serve, resultsLentTo, causesOf, First, InBase, Lowest, Refused, NoCause, Gets, AcceptedLent, BoardRefuses, SheetWords}
-use Rattle.office.specs.Demand2Words.{FollowsLayout, Writes, NoneStored, OnlySolution, entriesIn, Gives, CallsLeave}
-use Rattle.office.specs.Demand3Words.{acceptedPosts, SameAnswers, Retains, OfficeAccepted}
+use Rattle.office.specs.Demand2Words.{FollowsLayout, Writes, NoneStored, OnlySolution, entriesIn, Gives, ListWords, ResultWords, CallsLeave}
+use Rattle.office.specs.Demand3Words.{acceptedPosts, SameAnswers, Retains, CountsAsAsks, OfficeAccepted}
 
 -- Demand 1. Each fault is refused by its number and nothing else is, and a refused call changes no lent byte.
 pub record Refuses : Type 0 where
@@ -41,7 +42,7 @@ pub record Refuses : Type 0 where
   pub words : (s : List ℕ) → Faultless s → SheetWords s
 
 -- Demand 2. A sheet opens exactly if it follows the layout; a figure worked out with nothing stored is the circuit's solution;
--- every call leaves exactly the table that 01 describes.
+-- every call leaves exactly the table that 01 describes, and a board the table and the results that 02 describes.
 pub record Means : Type 0 where
   -- a sheet that is lent with an index and a table of 4 and 10 bytes an item
   pub opens : (how : Opening) (s : List ℕ) (o : Office) → Bytes s → (openOn how s o .number ≡ 0) ↔ FollowsLayout s o
@@ -57,6 +58,10 @@ pub record Means : Type 0 where
       → (values : ℕ → Value) × OnlySolution (sheetOf s) (entriesIn (o .table)) values × Gives s o values
   -- of each accepted table
   pub leaves : (s : List ℕ) (o : Office) → Bytes (o .table) → AcceptedLent s o → CallsLeave s o
+  -- the items of a board's list are those of its bytes
+  pub lists : (items : List ℕ) → ListWords items
+  -- a result holds the kind and the number of its value
+  pub results : (v : Value) → wellFormed v ≡ true → ResultWords (resultOf (kindOf v) (numberOf v)) (kindOf v) (numberOf v)
   -- looking up, working out, catching up and the fresh office, as 01 has them
   pub equations : Equations
 
@@ -70,6 +75,9 @@ pub record Agrees : Type 0 where
       → SameAnswers s (openOn first s o .after) cs (openOn second s p .after) ds
   -- And after a quiet table and one accepted post, what that entry does not lead to stays stored with its value.
   pub retained : (s : List ℕ) (o : Office) (how : Opening) → openOn how s o .number ≡ 0 → Retains s (openOn how s o .after)
+  -- In such a list an accepted board counts as the asks for its items.
+  pub counts : (s : List ℕ) (o : Office) → Bytes (o .table) → AcceptedLent s o → (items results : List ℕ)
+      → callOn s o (board items results) .number ≡ 0 → (cs : List Call) → CountsAsAsks s o items results cs
   -- no list leads to a refusal of index or table
   pub never-refused : (s : List ℕ) (o : Office) (how : Opening) → openOn how s o .number ≡ 0
       → (cs : List Call) → OfficeAccepted s (openOn how s o .after) cs
