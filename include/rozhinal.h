@@ -2,12 +2,13 @@
  * Rozhinal 1.0.0: an engine for quota ledgers.
  *
  * A sheet is a circuit of items. An entry is posted; a figure is worked out from earlier items, its
- * parents, by one of eight rules. The caller lends three slices of bytes to each call, and to a
- * board two more:
+ * parents, by one of eight rules. The caller lends three slices of bytes to each call:
  *
  *   sheet   the circuit, as the caller made it; no call changes it
  *   index   written by an opening, then only read
  *   table   written by an opening, then changed by the calls
+ *
+ * To a board it lends two more, the items to read and room for their values.
  *
  * The engine keeps no state, allocates nothing, and reads and writes no byte but those lent to the
  * call. A call may run in any thread, also while another call runs, as long as none of them is lent
