@@ -31,8 +31,8 @@
  *
  * Stack: looking up goes from a figure to its parents, so the depth is bounded by the levels of a
  * sheet (at most ROZHINAL_MAX_LEVEL), and each call has scratch space for ROZHINAL_MAX_ITEMS items.
- * On sheets of 64 levels an ask was measured at 104,032 bytes, a step at 103,648, a keep at 68,800
- * and a post at 9,512; ROZHINAL_STACK_BYTES is enough for every call.
+ * On sheets of 64 levels an ask was measured at 103,216 bytes, a board at 103,184, a step at
+ * 102,640, a keep at 67,600 and a post at 9,512; ROZHINAL_STACK_BYTES is enough for every call.
  */
 #ifndef ROZHINAL_H
 #define ROZHINAL_H
