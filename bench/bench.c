@@ -13,7 +13,8 @@
 #include <string.h>
 #include <valgrind/callgrind.h>
 
-enum call_kind { OPEN_BARE, OPEN_FULL, POST, KEEP, DROP, STEP, ASK, PRINT };
+enum call_kind { OPEN_BARE, OPEN_FULL, POST, KEEP, DROP, STEP, ASK, BOARD, PRINT };
+enum { BOARD_ITEMS = ROZHINAL_MAX_BOARD };
 
 struct call {
     enum call_kind kind;
@@ -37,9 +38,12 @@ struct side {
                             uint64_t);
     rozhinal_reading (*ask)(const uint8_t *, size_t, const uint8_t *, size_t, uint8_t *, size_t,
                             uint64_t);
+    rozhinal_answer (*board)(const uint8_t *, size_t, const uint8_t *, size_t, uint8_t *, size_t,
+                             const uint8_t *, size_t, uint8_t *, size_t);
     int64_t (*print)(uint64_t, int64_t, uint8_t *, size_t);
     uint8_t index[ROZHINAL_INDEX_BYTES(ROZHINAL_MAX_ITEMS)];
     uint8_t table[ROZHINAL_TABLE_BYTES(ROZHINAL_MAX_ITEMS)];
+    uint8_t results[ROZHINAL_RESULTS_BYTES(BOARD_ITEMS)];
     uint8_t scratch[ROZHINAL_PRINT_BYTES];
 };
 
@@ -52,6 +56,7 @@ static struct side library = {
     .drop = rozhinal_drop,
     .step = rozhinal_step,
     .ask = rozhinal_ask,
+    .board = rozhinal_board,
     .print = rozhinal_print,
 };
 
@@ -64,11 +69,14 @@ static struct side plain = {
     .drop = plain_drop,
     .step = plain_step,
     .ask = plain_ask,
+    .board = plain_board,
     .print = plain_print,
 };
 
 static struct sheet sheet;
+static uint8_t board_items[ROZHINAL_ITEMS_BYTES(BOARD_ITEMS)];
 static const char *workload = "preparing";
+enum { LABEL_BYTES = 128 };
 
 /* ---- Calls ----------------------------------------------------------------------------------- */
 
@@ -121,6 +129,10 @@ static rozhinal_reading make_call(struct side *side, const struct call *call)
     case ASK:
         COUNTED(reading = side->ask(LENT, call->item));
         return reading;
+    case BOARD:
+        COUNTED(answer = side->board(LENT, board_items, sizeof board_items, side->results,
+                                     sizeof side->results));
+        break;
     case PRINT:
         COUNTED(reading.value = side->print(call->posted, call->number, side->scratch,
                                             sizeof side->scratch));
@@ -140,6 +152,8 @@ static void compare(rozhinal_reading a, rozhinal_reading b)
         fail("another index");
     if (memcmp(library.table, plain.table, sizeof plain.table) != 0)
         fail("another table");
+    if (memcmp(library.results, plain.results, sizeof plain.results) != 0)
+        fail("other results");
     if (memcmp(library.scratch, plain.scratch, sizeof plain.scratch) != 0)
         fail("other scratch bytes");
 }
@@ -155,7 +169,7 @@ static rozhinal_reading prepare(struct call call)
 /* Counts calls of one side: a dump with the side, the workload and the items. */
 static rozhinal_reading counted(struct side *side, const struct call *calls, size_t how_many)
 {
-    char label[128];
+    char label[LABEL_BYTES];
     rozhinal_reading reading = { 0, 0, 0, 0 };
     snprintf(label, sizeof label, "%s|%s|%zu", side->name, workload, sheet.count);
     CALLGRIND_START_INSTRUMENTATION;
@@ -233,6 +247,77 @@ static size_t marked(enum rozhinal_mark mark)
     return 0;
 }
 
+static void one_post_all_stored(size_t groups)
+{
+    make_ledger(&sheet, groups, 1);
+    settle(OPEN_FULL);
+    prepare(post_of(0, 4321));
+}
+
+static void one_post_half_stored(size_t groups)
+{
+    make_ledger(&sheet, groups, 0);
+    settle(OPEN_BARE);
+    keep_half_the_figures();
+    prepare(post_of(0, 4321));
+}
+
+static void one_post_none_stored(size_t groups)
+{
+    make_ledger(&sheet, groups, 0);
+    settle(OPEN_BARE);
+    prepare(post_of(0, 4321));
+}
+
+static void every_entry_posted(size_t groups)
+{
+    make_ledger(&sheet, groups, 1);
+    settle(OPEN_FULL);
+    post_every_entry(1);
+}
+
+static const struct state {
+    const char *name;
+    void (*make)(size_t groups);
+} states[] = {
+    { "after one post, all stored", one_post_all_stored },
+    { "after one post, half stored", one_post_half_stored },
+    { "after one post, none stored", one_post_none_stored },
+    { "after every entry was posted", every_entry_posted },
+};
+enum { STATES = sizeof states / sizeof states[0] };
+
+/* ---- Boards ---------------------------------------------------------------------------------- */
+
+/* Puts figures from the whole sheet on the board, and gives the asks for them. */
+static void list_figures(struct call asks[BOARD_ITEMS])
+{
+    size_t figures[ROZHINAL_MAX_ITEMS], count = 0;
+    for (size_t i = 0; i < sheet.count; i++)
+        if (!is_entry(&sheet, i))
+            figures[count++] = i;
+    for (size_t k = 0; k < BOARD_ITEMS; k++) {
+        size_t item = figures[(k + 1) * count / BOARD_ITEMS - 1];
+        board_items[2 * k] = (uint8_t)(item & 0xFF);
+        board_items[2 * k + 1] = (uint8_t)(item >> 8);
+        asks[k] = call_of(ASK, item);
+    }
+}
+
+/* The results of the board are what asks give. */
+static void compare_with_asks(const struct call asks[BOARD_ITEMS])
+{
+    for (size_t k = 0; k < BOARD_ITEMS; k++) {
+        const uint8_t *result = library.results + ROZHINAL_RESULTS_BYTES(k);
+        rozhinal_reading reading = prepare(asks[k]);
+        uint64_t number = 0;
+        for (size_t b = 8; b > 0; b--)
+            number = number << 8 | result[b];
+        if (result[0] != reading.kind || number != (uint64_t)reading.value)
+            fail("the board differs from an ask");
+    }
+}
+
 /* ---- Workloads ------------------------------------------------------------------------------- */
 
 static void count_openings(size_t groups)
@@ -257,30 +342,33 @@ static void count_small_calls(size_t groups)
     count("keep, nothing stored", call_of(KEEP, sheet.top));
 }
 
-static void count_asks_after_a_post(size_t groups)
+/* A call in a state that leaves it something to catch up with. */
+static void name_workload(char name[LABEL_BYTES], const char *call, const struct state *state)
 {
-    make_ledger(&sheet, groups, 1);
-    settle(OPEN_FULL);
-    prepare(post_of(0, 4321));
-    count("ask after one post, all stored", call_of(ASK, sheet.top));
-
-    make_ledger(&sheet, groups, 0);
-    settle(OPEN_BARE);
-    keep_half_the_figures();
-    prepare(post_of(0, 4321));
-    count("ask after one post, half stored", call_of(ASK, sheet.top));
-
-    settle(OPEN_BARE);
-    prepare(post_of(0, 4321));
-    count("ask after one post, none stored", call_of(ASK, sheet.top));
+    snprintf(name, LABEL_BYTES, "%s %s", call, state->name);
 }
 
-static void count_asks_after_all_posts(size_t groups)
+static void count_ask(const struct state *state, size_t groups)
 {
-    make_ledger(&sheet, groups, 1);
-    settle(OPEN_FULL);
-    post_every_entry(1);
-    count("ask after every entry was posted", call_of(ASK, sheet.top));
+    char name[LABEL_BYTES];
+    name_workload(name, "ask", state);
+    state->make(groups);
+    count(name, call_of(ASK, sheet.top));
+}
+
+/* A board of figures from the whole sheet, and asks for the same in the same state. */
+static void count_board(const struct state *state, size_t groups)
+{
+    char name[LABEL_BYTES];
+    struct call asks[BOARD_ITEMS];
+    state->make(groups);
+    list_figures(asks);
+    name_workload(name, "board of 64", state);
+    count(name, call_of(BOARD, 0));
+    compare_with_asks(asks);
+    state->make(groups);
+    name_workload(name, "64 asks", state);
+    count_all(name, asks, BOARD_ITEMS);
 }
 
 static void count_chain(void)
@@ -319,10 +407,11 @@ int main(void)
     enum { MOST_GROUPS = 8 };
     count_openings(MOST_GROUPS);
     count_small_calls(MOST_GROUPS);
-    for (size_t groups = MOST_GROUPS; groups > 0; groups /= 2) {
-        count_asks_after_a_post(groups);
-        count_asks_after_all_posts(groups);
-    }
+    for (size_t groups = MOST_GROUPS; groups > 0; groups /= 2)
+        for (size_t k = 0; k < STATES; k++)
+            count_ask(&states[k], groups);
+    for (size_t k = 0; k < STATES; k++)
+        count_board(&states[k], MOST_GROUPS);
     count_chain();
     count_fan();
     count_printer();

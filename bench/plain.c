@@ -689,6 +689,45 @@ rozhinal_reading plain_ask(const uint8_t *sheet, size_t sheet_len,
     return (rozhinal_reading){ ROZHINAL_ACCEPTED, 0, value.kind, value.number };
 }
 
+/* The tests of 17 and 11. */
+static rozhinal_answer check_lists(const uint8_t *items, size_t items_len, size_t results_len,
+                                   size_t item_count)
+{
+    size_t listed = items_len / ROZHINAL_BOARD_ITEM_BYTES;
+    if (items_len % ROZHINAL_BOARD_ITEM_BYTES != 0 || listed > ROZHINAL_MAX_BOARD
+        || results_len != ROZHINAL_RESULTS_BYTES(listed))
+        return refuse(ROZHINAL_REFUSED_LISTS, 0);
+    for (size_t k = 0; k < listed; k++)
+        if (get_u16(items + ROZHINAL_ITEMS_BYTES(k)) >= item_count)
+            return refuse(ROZHINAL_REFUSED_ITEM, 0);
+    return accepted;
+}
+
+rozhinal_answer plain_board(const uint8_t *sheet, size_t sheet_len,
+                            const uint8_t *index, size_t index_len,
+                            uint8_t *table, size_t table_len,
+                            const uint8_t *items, size_t items_len,
+                            uint8_t *results, size_t results_len)
+{
+    struct layout layout;
+    rozhinal_answer answer =
+        enter(sheet, sheet_len, index, index_len, table, table_len, &layout);
+    if (answer.number == 0)
+        answer = check_lists(items, items_len, results_len, layout.count);
+    if (answer.number != 0 || items_len == 0)
+        return answer;
+    struct desk desk;
+    sit_down(&desk, sheet, &layout, table);
+    catch_up(&desk);
+    for (size_t k = 0; k < items_len / ROZHINAL_BOARD_ITEM_BYTES; k++) {
+        struct value value = look_up(&desk, get_u16(items + ROZHINAL_ITEMS_BYTES(k)));
+        uint8_t *result = results + ROZHINAL_RESULTS_BYTES(k);
+        result[0] = value.kind;
+        put_i64(result + 1, value.number);
+    }
+    return accepted;
+}
+
 /* ---- Printer --------------------------------------------------------------------------------- */
 
 static const uint64_t powers_of_ten[] = {

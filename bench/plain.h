@@ -33,6 +33,11 @@ rozhinal_reading plain_ask(const uint8_t *sheet, size_t sheet_len,
                            const uint8_t *index, size_t index_len,
                            uint8_t *table, size_t table_len,
                            uint64_t item);
+rozhinal_answer plain_board(const uint8_t *sheet, size_t sheet_len,
+                            const uint8_t *index, size_t index_len,
+                            uint8_t *table, size_t table_len,
+                            const uint8_t *items, size_t items_len,
+                            uint8_t *results, size_t results_len);
 int64_t plain_print(uint64_t kind, int64_t number, uint8_t *scratch, size_t scratch_len);
 
 #endif

@@ -30,21 +30,23 @@ struct office {
 
 /* ---- Showing items ---- */
 
-static void print_value(uint64_t kind, int64_t number)
+/* A value at the right end of so many columns; 0 for just its length. */
+static void print_value(int columns, uint64_t kind, int64_t number)
 {
     uint8_t scratch[ROZHINAL_PRINT_BYTES];
     int64_t length = rozhinal_print(kind, number, scratch, sizeof scratch);
     if (length > 0)
-        printf("%.*s", (int)length, (const char *)scratch);
+        printf("%*.*s", columns, (int)length, (const char *)scratch);
     else
-        printf("%s", "UNK");
+        printf("%*s", columns, "UNK");
 }
 
-static int64_t record_number(const uint8_t *record)
+/* The number in 8 bytes of a record or a result. */
+static int64_t number_at(const uint8_t *bytes)
 {
     uint64_t bits = 0;
     for (size_t k = 8; k > 0; k--)
-        bits = bits << 8 | record[1 + k];
+        bits = bits << 8 | bytes[k - 1];
     int64_t number;
     memcpy(&number, &bits, sizeof number);
     return number;
@@ -59,7 +61,7 @@ static void show_item(const struct office *office, size_t i)
                         : record[0] != ROZHINAL_UNK ? "stored" : "not stored";
     const char *mark = record[1] <= ROZHINAL_MARK_NOTICE ? marks[record[1]] : "?";
     printf("%4zu  %-16s  %-10s  %-7s  ", i, item.name, state, mark);
-    print_value(record[0], record_number(record));
+    print_value(0, record[0], number_at(record + 2));
     putchar('\n');
 }
 
@@ -197,9 +199,59 @@ static void ask(struct office *office, uint64_t item)
         refuse(reading.number);
     } else if (save(office)) {
         printf("%s = ", item_at(office->book.sheet, office->book.index, (size_t)item).name);
-        print_value(reading.kind, reading.value);
+        print_value(0, reading.kind, reading.value);
         putchar('\n');
     }
+}
+
+/* The list of a board from words that each name an item; if one does not, says so. */
+static bool list_items(const struct office *office, char **words, size_t count, uint8_t *items)
+{
+    for (size_t k = 0; k < count; k++) {
+        uint64_t item;
+        if (!find_item(office, words[k], &item))
+            return false;
+        if (item >= office->count) {
+            print_word(words[k]);
+            puts(" is no item");
+            return false;
+        }
+        items[2 * k] = (uint8_t)(item & 0xFF);
+        items[2 * k + 1] = (uint8_t)(item >> 8);
+    }
+    return true;
+}
+
+static void show_board(const struct book *book, const uint8_t *items, const uint8_t *results,
+                       size_t count)
+{
+    enum { VALUE_COLUMNS = 14 };
+    for (size_t k = 0; k < count; k++) {
+        const uint8_t *result = results + ROZHINAL_RESULTS_BYTES(k);
+        size_t item = (size_t)items[2 * k] + 256 * (size_t)items[2 * k + 1];
+        printf("%-16s  ", item_at(book->sheet, book->index, item).name);
+        print_value(VALUE_COLUMNS, result[0], number_at(result + 1));
+        putchar('\n');
+    }
+}
+
+static void board(struct office *office, char **words, size_t count)
+{
+    uint8_t items[ROZHINAL_ITEMS_BYTES(ROZHINAL_MAX_BOARD)];
+    uint8_t results[ROZHINAL_RESULTS_BYTES(ROZHINAL_MAX_BOARD)];
+    if (count > ROZHINAL_MAX_BOARD) {
+        printf("a board has at most %d items, not %zu\n", ROZHINAL_MAX_BOARD, count);
+        return;
+    }
+    if (!list_items(office, words, count, items))
+        return;
+    rozhinal_answer answer =
+        rozhinal_board(LENT(&office->book), items, ROZHINAL_ITEMS_BYTES(count), results,
+                       ROZHINAL_RESULTS_BYTES(count));
+    if (answer.number != ROZHINAL_ACCEPTED)
+        refuse(answer.number);
+    else if (save(office))
+        show_board(&office->book, items, results, count);
 }
 
 static void list_one(const struct office *office, uint64_t item)
@@ -210,15 +262,16 @@ static void list_one(const struct office *office, uint64_t item)
         refuse(ROZHINAL_REFUSED_ITEM);
 }
 
-enum verb { POST, ASK, KEEP, DROP, STEP, LIST, HELP, QUIT, VERBS };
+enum verb { POST, ASK, BOARD, KEEP, DROP, STEP, LIST, HELP, QUIT, VERBS };
 
 static const struct {
     const char *word, *arguments;
-    size_t least, most; /* words, with the verb */
+    size_t least, most; /* words, with the verb; a board counts its items itself */
     const char *help;
 } verbs[VERBS] = {
     [POST] = { "post", "ITEM NUMBER", 3, 3, "post kilograms, or `null` for nothing recorded" },
     [ASK] = { "ask", "ITEM", 2, 2, "catch up, and read an item" },
+    [BOARD] = { "board", "ITEM...", 2, SIZE_MAX, "catch up once, and read up to 64 items" },
     [KEEP] = { "keep", "ITEM", 2, 2, "store a figure" },
     [DROP] = { "drop", "ITEM", 2, 2, "store a figure no longer" },
     [STEP] = { "step", "ITEM", 2, 2, "do the work of an item's mark" },
@@ -230,7 +283,7 @@ static const struct {
 static void help(void)
 {
     for (size_t k = 0; k < VERBS; k++)
-        printf("%-4s %-12s %s\n", verbs[k].word, verbs[k].arguments, verbs[k].help);
+        printf("%-5s %-12s %s\n", verbs[k].word, verbs[k].arguments, verbs[k].help);
 }
 
 /* The verb of a command with a right number of words; VERBS if there is none, and says so. */
@@ -277,6 +330,8 @@ static bool command(struct office *office, char **words, size_t count)
     enum verb verb = verb_of(words, count);
     if (verb == HELP)
         help();
+    else if (verb == BOARD)
+        board(office, words + 1, count - 1);
     else if (verb == LIST && count == 1)
         list_all(office);
     else if (verb < HELP)
@@ -302,7 +357,8 @@ static size_t cut_words(char *line, char **words, size_t most)
     return count;
 }
 
-enum { LINE_MOST = 1000 };
+/* Room for a board of the longest names. */
+enum { LINE_MOST = 2000, WORDS_MOST = 1 + ROZHINAL_MAX_BOARD };
 enum input { A_LINE, NO_COMMAND, CUT_OFF, THE_END };
 
 /* The next line, without its end. What cannot be a command is read to its end and not kept. */
@@ -329,7 +385,7 @@ static enum input read_line(char line[LINE_MOST + 1])
 /* Takes commands until quit or the end of the input; false if the input ends within a line. */
 static bool take_commands(struct office *office)
 {
-    char line[LINE_MOST + 1], *words[3];
+    char line[LINE_MOST + 1], *words[WORDS_MOST];
     bool prompt = isatty(STDIN_FILENO);
     for (;;) {
         if (prompt)
@@ -338,7 +394,7 @@ static bool take_commands(struct office *office)
         enum input input = read_line(line);
         if (input == THE_END || input == CUT_OFF)
             return input == THE_END;
-        size_t count = input == A_LINE ? cut_words(line, words, 3) : 0;
+        size_t count = input == A_LINE ? cut_words(line, words, WORDS_MOST) : 0;
         if (input == NO_COMMAND)
             printf("a line with a zero byte, or of over %d bytes, is no command\n", LINE_MOST);
         else if (count > 0 && !command(office, words, count))

@@ -72,6 +72,7 @@ const char *refusal_words(uint64_t number)
         "the item has no mark",
         "the scratch is too small",
         "a field of the day log is wrong",
+        "the list of a board or of its results has the wrong length",
     };
     return number < sizeof words / sizeof *words ? words[number] : "an unknown refusal";
 }

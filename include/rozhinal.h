@@ -8,9 +8,11 @@
  *   index   written by an opening, then only read
  *   table   written by an opening, then changed by the calls
  *
+ * To a board it lends two more, the items to read and room for their values.
+ *
  * The engine keeps no state, allocates nothing, and reads and writes no byte but those lent to the
- * call. A call may run in any thread, also while another call runs, as long as no two running calls
- * are lent the same table and none is lent an index that an opening is writing.
+ * call. A call may run in any thread, also while another call runs, as long as none of them is lent
+ * bytes that another may write: a table, the index of an opening, the results of a board, scratch.
  *
  * What is lent:
  *
@@ -29,8 +31,8 @@
  *
  * Stack: looking up goes from a figure to its parents, so the depth is bounded by the levels of a
  * sheet (at most ROZHINAL_MAX_LEVEL), and each call has scratch space for ROZHINAL_MAX_ITEMS items.
- * On sheets of 64 levels an ask was measured at 104,032 bytes, a step at 103,648, a keep at 68,800
- * and a post at 9,512; ROZHINAL_STACK_BYTES is enough for every call.
+ * On sheets of 64 levels an ask was measured at 103,216 bytes, a board at 103,184, a step at
+ * 102,640, a keep at 67,600 and a post at 9,512; ROZHINAL_STACK_BYTES is enough for every call.
  */
 #ifndef ROZHINAL_H
 #define ROZHINAL_H
@@ -59,6 +61,7 @@ extern "C" {
 #define ROZHINAL_MAX_PARENTS 16
 #define ROZHINAL_MAX_LEVEL 64
 #define ROZHINAL_MAX_NAME 16
+#define ROZHINAL_MAX_BOARD 64
 
 /* ---- The sheet ------------------------------------------------------------------------------- */
 
@@ -138,7 +141,7 @@ static inline size_t rozhinal_item_count(const uint8_t *sheet, size_t sheet_len)
  *
  * The kind of an entry is ROZHINAL_NULL or ROZHINAL_NUMBER. Only a stored figure, one whose kind is
  * not ROZHINAL_UNK, can have the mark ROZHINAL_MARK_REFRESH. While any mark is left a stored figure
- * may be out of date: read values by rozhinal_ask, not from the table.
+ * may be out of date: read values by rozhinal_ask or rozhinal_board, not from the table.
  */
 #define ROZHINAL_RECORD_BYTES 10
 #define ROZHINAL_TABLE_BYTES(n) ((size_t)ROZHINAL_RECORD_BYTES * (n))
@@ -162,7 +165,8 @@ enum rozhinal_mark {
  * The number of an answer. 1 to 7 are faults of the sheet: the answer's offset is that of the first
  * field at fault, and the number the lowest that applies to it. For a field that is absent the
  * offset is the sheet's length; for bytes after the last field it is where they begin. With every
- * other number the offset is 0. The lowest number that applies is given.
+ * other number the offset is 0. After the sheet the tests come in the order of their numbers, with
+ * 17 between 10 and 11; the first that applies is given.
  */
 enum rozhinal_refusal {
     ROZHINAL_ACCEPTED = 0,
@@ -185,7 +189,10 @@ enum rozhinal_refusal {
     ROZHINAL_REFUSED_UNMARKED = 14, /* a step of an item that has no mark */
     ROZHINAL_REFUSED_SCRATCH = 15,  /* the printer's scratch is under ROZHINAL_PRINT_BYTES */
     /* the day program's alone; no function gives it */
-    ROZHINAL_REFUSED_DAY = 16 /* a field of the day log is wrong */
+    ROZHINAL_REFUSED_DAY = 16, /* a field of the day log is wrong */
+    /* faults of the lists of a board; tested before 11 */
+    ROZHINAL_REFUSED_LISTS = 17 /* items_len is odd or for over ROZHINAL_MAX_BOARD items, or
+                                   results_len is not the size for so many items */
 };
 
 /* The answer of a call. Accepted: number 0 and offset 0. */
@@ -267,6 +274,37 @@ rozhinal_reading rozhinal_ask(const uint8_t *sheet, size_t sheet_len,
                               const uint8_t *index, size_t index_len,
                               uint8_t *table, size_t table_len,
                               uint64_t item);
+
+/* ---- The board ------------------------------------------------------------------------------- */
+
+/*
+ * The items of a board: for each its number, 2 bytes, little-endian. An item may be listed twice. A
+ * number over 65,535 is no item, and must not be cut to 2 bytes.
+ */
+#define ROZHINAL_BOARD_ITEM_BYTES 2
+#define ROZHINAL_ITEMS_BYTES(k) ((size_t)ROZHINAL_BOARD_ITEM_BYTES * (k))
+
+/*
+ * The results of a board: for each item listed, in the same order,
+ *
+ *   byte 0      kind, an enum rozhinal_kind, never ROZHINAL_UNK
+ *   bytes 1-8   number, as in the table; 0 unless the kind is ROZHINAL_NUMBER
+ */
+#define ROZHINAL_BOARD_RESULT_BYTES 9
+#define ROZHINAL_RESULTS_BYTES(k) ((size_t)ROZHINAL_BOARD_RESULT_BYTES * (k))
+
+/*
+ * Reads up to ROZHINAL_MAX_BOARD items: steps the lowest marked item until none is marked, then
+ * looks the items up in the order of the list and writes their values to results. Values and table
+ * are those of asking for the items one after another, but the sheet is read once. An empty list
+ * with empty results is accepted and changes nothing at all; marks stay. Refuses with 1 to 10 as
+ * every call, then with 17, then with 11 if a number in the list is no item.
+ */
+rozhinal_answer rozhinal_board(const uint8_t *sheet, size_t sheet_len,
+                               const uint8_t *index, size_t index_len,
+                               uint8_t *table, size_t table_len,
+                               const uint8_t *items, size_t items_len,
+                               uint8_t *results, size_t results_len);
 
 /* ---- Printer --------------------------------------------------------------------------------- */
 
