@@ -84,3 +84,29 @@ fn other_results(rng: &mut Rng, board: &mut Board) {
     };
     board.results = rng.bytes(other);
 }
+
+#[cfg(test)]
+mod tests {
+    use super::super::{small_specs, write_sheet};
+    use super::*;
+    use crate::model::board::board;
+    use crate::model::calls::open;
+    use crate::model::sheet::read_sheet;
+
+    #[test]
+    fn boards_are_as_named() {
+        let mut rng = Rng::new(8);
+        let mut met = [0; 18];
+        for _ in 0..1_000 {
+            let sheet = write_sheet(&small_specs(&mut rng));
+            let items = read_sheet(&sheet).unwrap();
+            let (mut index, mut table) = (vec![0; 4 * items.len()], vec![0; 10 * items.len()]);
+            open(false, &sheet, &mut index, &mut table);
+            let mut number =
+                |mut b: Board| board(&sheet, &index, &mut table, &b.items, &mut b.results).number;
+            assert_eq!(number(good_board(&mut rng, &items)), 0);
+            met[number(any_board(&mut rng, &items)) as usize] += 1;
+        }
+        assert!(met[0] > 500 && met[11] > 40 && met[17] > 100, "{met:?}");
+    }
+}
