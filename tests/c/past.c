@@ -25,12 +25,11 @@ static uint8_t *lend(size_t length, const char *named, const char *what)
 int main(int count, char **arguments)
 {
     const char *named = count == 2 ? arguments[1] : "nothing";
-    uint8_t *index = lend(INDEX, named, "index"), *table = lend(TABLE, named, "table");
+    uint8_t index[INDEX], *table = lend(TABLE, named, "table");
     uint8_t *items = lend(2 * LISTED, named, "items"), *results = lend(RESULTS, named, "results");
     rozhinal_answer opened = rozhinal_open_bare(sheet, sizeof sheet, index, INDEX, table, TABLE);
     rozhinal_answer board = rozhinal_board(sheet, sizeof sheet, index, INDEX, table, TABLE, items,
                                            2 * LISTED, results, RESULTS);
-    free(index);
     free(table);
     free(items);
     free(results);

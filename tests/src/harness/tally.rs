@@ -82,12 +82,12 @@ impl Tally {
         let (count, even) = (items.len() / ITEM, items.len() % ITEM == 0);
         let within = even && count <= MOST_ITEMS;
         let right = RESULT * count;
-        let mut listed: Vec<&[u8]> = items.chunks(ITEM).collect();
-        listed.sort();
+        let mut listed = items.chunks(ITEM).enumerate();
+        let mut twice = || listed.any(|(k, item)| items.chunks(ITEM).take(k).any(|i| i == item));
         let met = [
             number == 0 && count == 0,
             number == 0 && count == MOST_ITEMS,
-            number == 0 && listed.windows(2).any(|two| two[0] == two[1]),
+            number == 0 && twice(),
             number == 17 && !even,
             number == 17 && even && count == MOST_ITEMS + 1 && results == right,
             number == 17 && within && results.abs_diff(right) == RESULT,
