@@ -123,7 +123,8 @@ static const struct {
     { "ask", ask },             { "drop", drop }, { "post", post }, { "board", board },
     { "drop", drop },           { "board", board },                 { "open_full", open_full },
     { "post", post },           { "step", step }, { "ask", ask },   { "post", post },
-    { "board", board },         { "print", print },
+    { "board", board },         { "open_bare", open_bare },         { "keep", keep },
+    { "post", post },           { "board", board },                 { "print", print },
 };
 enum { CALLS = sizeof calls / sizeof *calls };
 
