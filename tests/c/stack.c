@@ -14,7 +14,7 @@
 
 enum { ITEMS = ROZHINAL_MAX_ITEMS, LEVELS = ROZHINAL_MAX_LEVEL, WIDTH = (ITEMS - 1) / LEVELS };
 enum { ENTRIES = ITEMS - LEVELS * WIDTH, LAST = ITEMS - 1, PARENTS = ROZHINAL_MAX_PARENTS };
-enum { STACK = 16 << 20, PAINT = 0xA5 };
+enum { STACK = 4 << 20, PAINT = 0xA5 };
 
 static uint8_t sheet[65536], index[ROZHINAL_INDEX_BYTES(ITEMS)], table[ROZHINAL_TABLE_BYTES(ITEMS)];
 static size_t sheet_len;
