@@ -16,9 +16,12 @@ _Static_assert(offsetof(rozhinal_reading, value) == 24, "reading.value");
 _Static_assert(sizeof(size_t) == 8 && sizeof(void *) == 8, "a slice is two 64-bit words");
 _Static_assert(ROZHINAL_INDEX_BYTES(5) == 20 && ROZHINAL_TABLE_BYTES(5) == 50, "index and table");
 _Static_assert(ROZHINAL_REFUSED_DAY == 16 && ROZHINAL_REFUSED_SIZES == 8, "refusals");
+_Static_assert(ROZHINAL_REFUSED_LISTS == 17 && ROZHINAL_MAX_BOARD == 64, "the board");
+_Static_assert(ROZHINAL_ITEMS_BYTES(64) == 128 && ROZHINAL_RESULTS_BYTES(64) == 576, "its lists");
 _Static_assert(ROZHINAL_NUMBER == 3 && ROZHINAL_MARK_NOTICE == 2, "kinds and marks");
 
 enum { ITEMS = 5, INDEX = 4 * ITEMS, TABLE = 10 * ITEMS, SHEET = 46 };
+enum { MOST = ROZHINAL_MAX_BOARD, OVER = MOST + 1, PAIR = 2, RESULT = 9 };
 
 static const uint8_t example[SHEET] = {
     1, 4, 0, 1, 0, 5, 0,                        /* edition 1, 5 items */
@@ -36,6 +39,8 @@ struct lent {
     uint8_t index[INDEX];
     uint8_t table[TABLE];
     uint8_t scratch[ROZHINAL_PRINT_BYTES];
+    uint8_t items[PAIR * OVER];
+    uint8_t results[RESULT * OVER];
 };
 
 static struct lent now, before;
@@ -180,6 +185,120 @@ static void other_refusals(void)
     require(memcmp(&now, &before, sizeof now) == 0, "a refused print changed a lent byte");
 }
 
+/* ---- The board ---- */
+
+static rozhinal_answer board(size_t items_len, size_t results_len)
+{
+    return rozhinal_board(LENT, now.items, items_len, now.results, results_len);
+}
+
+static void list(size_t place, unsigned item)
+{
+    now.items[PAIR * place] = (uint8_t)(item & 0xFF);
+    now.items[PAIR * place + 1] = (uint8_t)(item >> 8);
+}
+
+static int64_t result_number(const uint8_t *result)
+{
+    uint64_t bits = 0;
+    for (size_t k = RESULT; k > 1; k--)
+        bits = bits << 8 | result[k - 1];
+    return (int64_t)bits;
+}
+
+/* The first results are those of asks one after another on the table before, and so is the table. */
+static void require_asks(size_t count)
+{
+    struct lent after = now;
+    memcpy(now.table, before.table, sizeof now.table);
+    for (size_t k = 0; k < count; k++) {
+        const uint8_t *result = now.results + RESULT * k;
+        rozhinal_reading r = rozhinal_ask(LENT, now.items[PAIR * k]);
+        require(r.number == 0 && r.kind == result[0] && r.value == result_number(result),
+                "a board and asks one after another");
+    }
+    require(memcmp(&now, &after, sizeof now) == 0, "the tables of a board and of asks");
+}
+
+/* A board of these items, with its results; the last two of them if there are many. */
+static void show_board(const char *what, size_t count)
+{
+    memset(now.results, 0xEE, sizeof now.results);
+    before = now;
+    rozhinal_answer a = board(PAIR * count, RESULT * count);
+    printf("board of %s: %" PRIu64 " %" PRIu64, what, a.number, a.offset);
+    for (size_t k = count > 5 ? count - 2 : 0; k < count; k++) {
+        const uint8_t *result = now.results + RESULT * k;
+        printf(" %u %" PRId64, (unsigned)result[0], result_number(result));
+    }
+    putchar('\n');
+    for (size_t k = RESULT * count; k < sizeof now.results; k++)
+        require(now.results[k] == 0xEE, "a byte after the results");
+    require_asks(count);
+    before = now;
+}
+
+static void the_board(void)
+{
+    start();
+    accepted("open bare", rozhinal_open_bare(LENT));
+    accepted("post 0 1000", rozhinal_post(LENT, 0, ROZHINAL_NUMBER, 1000));
+    accepted("post 1 300", rozhinal_post(LENT, 1, ROZHINAL_NUMBER, 300));
+    require(board(0, 0).number == 0 && memcmp(&now, &before, sizeof now) == 0,
+            "an empty board changes nothing");
+    require(now.table[1] == ROZHINAL_MARK_NOTICE, "a mark after an empty board");
+    for (size_t k = 0; k < ITEMS; k++)
+        list(k, (unsigned)(ITEMS - 1 - k));
+    show_board("4, 3, 2, 1, 0", ITEMS);
+    require(now.table[1] == ROZHINAL_MARK_NONE, "a mark after a board");
+    require(now.table[30] == ROZHINAL_NUMBER && now.table[40] == ROZHINAL_UNK, "what is kept");
+    accepted("post 0 limit", rozhinal_post(LENT, 0, ROZHINAL_NUMBER, ROZHINAL_LIMIT));
+    accepted("post 2 1", rozhinal_post(LENT, 2, ROZHINAL_NUMBER, 1));
+    list(1, 0), list(2, 4);
+    show_board("4, 0, 4", 3);
+    accepted("post 0 -1", rozhinal_post(LENT, 0, ROZHINAL_NUMBER, -1));
+    for (size_t k = 0; k < MOST; k++)
+        list(k, k % 2 == 0 ? 4 : 0);
+    show_board("64 items", MOST);
+}
+
+static void board_refusals(void)
+{
+    start();
+    accepted("open bare", rozhinal_open_bare(LENT));
+    accepted("post 0 1000", rozhinal_post(LENT, 0, ROZHINAL_NUMBER, 1000));
+    memset(now.items, 0, sizeof now.items);
+    before = now;
+    refused("65 items", board(PAIR * OVER, RESULT * OVER));
+    refused("64 items and a byte", board(PAIR * MOST + 1, RESULT * MOST));
+    refused("64 items but a byte", board(PAIR * MOST - 1, RESULT * MOST));
+    refused("half an item", board(1, 0));
+    refused("results a byte short", board(PAIR * MOST, RESULT * MOST - 1));
+    refused("results a byte long", board(PAIR * MOST, RESULT * MOST + 1));
+    refused("results of one item too many", board(PAIR, 2 * RESULT));
+    refused("no results for an item", board(PAIR, 0));
+    refused("results for no item", board(0, RESULT));
+    list(MOST - 1, ITEMS);
+    before = now;
+    refused("item 5 in the last place", board(PAIR * MOST, RESULT * MOST));
+    list(0, 256 + 4);
+    before = now;
+    refused("item 260 in the first place", board(PAIR, RESULT));
+    refused("65 items, one of them 260", board(PAIR * OVER, RESULT * OVER));
+    now.table[1] = ROZHINAL_MARK_REFRESH;
+    before = now;
+    refused("65 items, and an entry marked refresh", board(PAIR * OVER, RESULT * OVER));
+    now.index[4]++;
+    before = now;
+    refused("65 items, and a changed index", board(PAIR * OVER, RESULT * OVER));
+    refused("65 items, and a table of 49 bytes",
+            rozhinal_board(SHEET_SLICE, now.index, INDEX, now.table, TABLE - 1, now.items,
+                           PAIR * OVER, now.results, RESULT * OVER));
+    now.sheet[11] = 5;
+    before = now;
+    refused("65 items, and a tag of 5", board(PAIR * OVER, RESULT * OVER));
+}
+
 /* A null pointer goes with length 0. */
 static void null_pointers(void)
 {
@@ -191,6 +310,11 @@ static void null_pointers(void)
     rozhinal_reading r = rozhinal_ask(SHEET_SLICE, NULL, 0, NULL, 0, 4);
     refused("no index and no table", (rozhinal_answer){ r.number, r.offset });
     printf("print into nothing: %" PRId64 "\n", rozhinal_print(ROZHINAL_NULL, 0, NULL, 0));
+    refused("a board of nothing", rozhinal_board(NULL, 0, NULL, 0, NULL, 0, NULL, 0, NULL, 0));
+    accepted("open bare", rozhinal_open_bare(LENT));
+    accepted("no items and no results", rozhinal_board(LENT, NULL, 0, NULL, 0));
+    refused("no results", rozhinal_board(LENT, now.items, PAIR, NULL, 0));
+    refused("no items", rozhinal_board(LENT, NULL, 0, now.results, RESULT));
 }
 
 int main(void)
@@ -198,6 +322,8 @@ int main(void)
     the_example();
     sheet_refusals();
     other_refusals();
+    the_board();
+    board_refusals();
     null_pointers();
     return faults == 0 ? 0 : 1;
 }

@@ -1,22 +1,37 @@
 /*
- * A program at fault, for a look at the memory checker: the table that it lends to an opening is a
- * byte shorter than it says. The library writes that byte, and the checker must see it.
+ * A program at fault, for a look at the memory checker: what it lends is a byte shorter than it
+ * says, the table of an opening, or the items or the results of a board, as its argument names. The
+ * library reads or writes that byte, and the checker must see it.
  */
 #include "rozhinal.h"
 
 #include <stdlib.h>
+#include <string.h>
 
 static const uint8_t sheet[] = { 1, 4, 0, 1, 0, 1, 0, 2, 1, 0, 'A', 4, 0, 0 };
 
-int main(void)
+enum { INDEX = ROZHINAL_INDEX_BYTES(1), TABLE = ROZHINAL_TABLE_BYTES(1) };
+enum { LISTED = 2, RESULTS = 2 * 9 };
+
+/* Zero bytes, as many as are said, or one less if they are what is named. */
+static uint8_t *lend(size_t length, const char *named, const char *what)
 {
-    uint8_t *index = malloc(ROZHINAL_INDEX_BYTES(1));
-    uint8_t *table = malloc(ROZHINAL_TABLE_BYTES(1) - 1);
-    if (index == NULL || table == NULL)
-        return 1;
-    rozhinal_answer answer = rozhinal_open_bare(sheet, sizeof sheet, index, ROZHINAL_INDEX_BYTES(1),
-                                                table, ROZHINAL_TABLE_BYTES(1));
-    free(index);
+    uint8_t *bytes = calloc(strcmp(named, what) == 0 ? length - 1 : length, 1);
+    if (bytes == NULL)
+        exit(1);
+    return bytes;
+}
+
+int main(int count, char **arguments)
+{
+    const char *named = count == 2 ? arguments[1] : "nothing";
+    uint8_t index[INDEX], *table = lend(TABLE, named, "table");
+    uint8_t *items = lend(2 * LISTED, named, "items"), *results = lend(RESULTS, named, "results");
+    rozhinal_answer opened = rozhinal_open_bare(sheet, sizeof sheet, index, INDEX, table, TABLE);
+    rozhinal_answer board = rozhinal_board(sheet, sizeof sheet, index, INDEX, table, TABLE, items,
+                                           2 * LISTED, results, RESULTS);
     free(table);
-    return answer.number == ROZHINAL_ACCEPTED ? 0 : 1;
+    free(items);
+    free(results);
+    return opened.number == ROZHINAL_ACCEPTED && board.number == ROZHINAL_ACCEPTED ? 0 : 1;
 }

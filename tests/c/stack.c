@@ -14,7 +14,7 @@
 
 enum { ITEMS = ROZHINAL_MAX_ITEMS, LEVELS = ROZHINAL_MAX_LEVEL, WIDTH = (ITEMS - 1) / LEVELS };
 enum { ENTRIES = ITEMS - LEVELS * WIDTH, LAST = ITEMS - 1, PARENTS = ROZHINAL_MAX_PARENTS };
-enum { STACK = 16 << 20, PAINT = 0xA5 };
+enum { STACK = 4 << 20, PAINT = 0xA5 };
 
 static uint8_t sheet[65536], index[ROZHINAL_INDEX_BYTES(ITEMS)], table[ROZHINAL_TABLE_BYTES(ITEMS)];
 static size_t sheet_len;
@@ -66,6 +66,17 @@ static void drop(void) { number = rozhinal_drop(LENT, LAST).number; }
 static void step(void) { number = rozhinal_step(LENT, 0).number; }
 static void ask(void) { number = rozhinal_ask(LENT, LAST).number; }
 
+/* The last items, the highest first. */
+static void board(void)
+{
+    static uint8_t items[2 * 64], results[9 * 64];
+    for (size_t k = 0; k < 64; k++) {
+        items[2 * k] = (LAST - k) & 0xFF;
+        items[2 * k + 1] = (uint8_t)((LAST - k) >> 8);
+    }
+    number = rozhinal_board(LENT, items, sizeof items, results, sizeof results).number;
+}
+
 static void print(void)
 {
     uint8_t scratch[ROZHINAL_PRINT_BYTES];
@@ -109,8 +120,11 @@ static const struct {
     { "open_bare", open_bare }, { "post", post }, { "keep", keep }, { "drop", drop },
     { "step", step },           { "keep", keep }, { "post", post }, { "step", step },
     { "post", post },           { "ask", ask },   { "drop", drop }, { "post", post },
-    { "ask", ask },             { "open_full", open_full },         { "post", post },
-    { "step", step },           { "ask", ask },   { "print", print },
+    { "ask", ask },             { "drop", drop }, { "post", post }, { "board", board },
+    { "drop", drop },           { "board", board },                 { "open_full", open_full },
+    { "post", post },           { "step", step }, { "ask", ask },   { "post", post },
+    { "board", board },         { "open_bare", open_bare },         { "keep", keep },
+    { "post", post },           { "board", board },                 { "print", print },
 };
 enum { CALLS = sizeof calls / sizeof *calls };
 

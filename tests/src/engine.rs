@@ -20,6 +20,16 @@ pub trait Engine {
         table: &mut Guarded,
     ) -> Reply;
 
+    /// The morning board, with its item list and its result list.
+    fn board(
+        &mut self,
+        sheet: &mut Guarded,
+        index: &mut Guarded,
+        table: &mut Guarded,
+        items: &mut Guarded,
+        results: &mut Guarded,
+    ) -> Reply;
+
     fn print(&mut self, kind: u64, number: i64, scratch: &mut Guarded) -> i64;
 }
 

@@ -86,6 +86,18 @@ extern "C" {
         table_len: usize,
         item: u64,
     ) -> Reading;
+    fn rozhinal_board(
+        sheet: *const u8,
+        sheet_len: usize,
+        index: *const u8,
+        index_len: usize,
+        table: *mut u8,
+        table_len: usize,
+        items: *const u8,
+        items_len: usize,
+        results: *mut u8,
+        results_len: usize,
+    ) -> Answer;
     fn rozhinal_print(kind: u64, number: i64, scratch: *mut u8, scratch_len: usize) -> i64;
 }
 
@@ -141,6 +153,23 @@ impl Engine for Linked {
                 }
             }
         }
+    }
+
+    fn board(
+        &mut self,
+        sheet: &mut Guarded,
+        index: &mut Guarded,
+        table: &mut Guarded,
+        items: &mut Guarded,
+        results: &mut Guarded,
+    ) -> Reply {
+        let (s, sl) = (sheet.pointer() as *const u8, sheet.length());
+        let (i, il) = (index.pointer() as *const u8, index.length());
+        let (t, tl) = (table.pointer(), table.length());
+        let (l, ll) = (items.pointer() as *const u8, items.length());
+        let (r, rl) = (results.pointer(), results.length());
+        // Safety: as above.
+        reply(unsafe { rozhinal_board(s, sl, i, il, t, tl, l, ll, r, rl) })
     }
 
     fn print(&mut self, kind: u64, number: i64, scratch: &mut Guarded) -> i64 {

@@ -2,6 +2,8 @@
 //! machine, which fills cells from a whole solution and catches up in one ascending sweep.
 //! It can be made wrong in one respect.
 
+mod board;
+
 use crate::engine::{DayProgram, Engine};
 use crate::guarded::Guarded;
 use crate::model::calls::{self, Call, Reply};
@@ -31,6 +33,20 @@ pub enum Wrong {
     WritesPastTheTable,
     PrinterClearsTheRest,
     PrinterSays15First,
+    EmptyBoardCatchesUp,
+    BoardSays11Before17,
+    BoardSays17BeforeTheTable,
+    BoardTakes65Items,
+    BoardTakesOddLength,
+    BoardTakesLongerResults,
+    BoardWritesNumberFirst,
+    BoardDoesNotCatchUp,
+    BoardStoresNothing,
+    BoardStoresAll,
+    BoardChangesItems,
+    BoardWritesPastResults,
+    RefusedBoardWritesResults,
+    RefusedBoardCatchesUp,
 }
 
 pub struct Mock(pub Wrong);
@@ -275,6 +291,17 @@ impl Engine for Mock {
             _ => {}
         }
         reply
+    }
+
+    fn board(
+        &mut self,
+        sheet: &mut Guarded,
+        index: &mut Guarded,
+        table: &mut Guarded,
+        items: &mut Guarded,
+        results: &mut Guarded,
+    ) -> Reply {
+        self.give_board(sheet.bytes(), index.bytes(), table.bytes_mut(), items, results)
     }
 
     fn print(&mut self, kind: u64, number: i64, scratch: &mut Guarded) -> i64 {

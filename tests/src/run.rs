@@ -100,7 +100,7 @@ mod tests {
     const SHORT: Plan = Plan {
         seed: 5,
         fixed: false,
-        calls: 10_000,
+        calls: 50_000,
         offices: 10,
         days: 0,
         alone: false,
@@ -141,7 +141,7 @@ mod tests {
         assert!(found.contains("--seed 5 --part"), "{found}");
     }
 
-    /// Each wrong engine is found within a few thousand calls.
+    /// Each wrong engine is found by random calls alone.
     #[test]
     fn wrong_engines_are_found() {
         use Wrong::*;
@@ -163,6 +163,20 @@ mod tests {
             WritesPastTheTable,
             PrinterClearsTheRest,
             PrinterSays15First,
+            EmptyBoardCatchesUp,
+            BoardSays11Before17,
+            BoardSays17BeforeTheTable,
+            BoardTakes65Items,
+            BoardTakesOddLength,
+            BoardTakesLongerResults,
+            BoardWritesNumberFirst,
+            BoardDoesNotCatchUp,
+            BoardStoresNothing,
+            BoardStoresAll,
+            BoardChangesItems,
+            BoardWritesPastResults,
+            RefusedBoardWritesResults,
+            RefusedBoardCatchesUp,
         ] {
             let found = try_mock(&SHORT, wrong).err().unwrap_or_default();
             assert!(found.contains("--seed 5 --part"), "{wrong:?} was not found: {found}");

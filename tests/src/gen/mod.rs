@@ -1,11 +1,13 @@
-//! Random sheets, tables, calls and day logs, whole and damaged.
+//! Random sheets, tables, calls, boards and day logs, whole and damaged.
 
+mod boards;
 mod calls;
 mod damage;
 mod sheets;
 mod tables;
 mod write;
 
+pub use boards::{any_board, board_of, good_board};
 pub use calls::{any_call, bad_post, day_field, day_log, good_post, other_call};
 pub use damage::{bad_sheet, damaged, damaged_sheet};
 pub use sheets::{shape, sheet, small_specs, Shape};

@@ -3,6 +3,7 @@
 use super::tally::Tally;
 use crate::engine::Engine;
 use crate::guarded::Guarded;
+use crate::model::board::{self, Board};
 use crate::model::calls::{self, Call, Reply};
 use crate::model::printer;
 use crate::rng::Rng;
@@ -15,10 +16,11 @@ pub struct Lent {
     pub table: Vec<u8>,
 }
 
-#[derive(Clone, Copy, Debug)]
+#[derive(Clone, Debug)]
 pub enum Act {
     Open { full: bool },
     Give(Call),
+    Board(Board),
 }
 
 pub fn hex(bytes: &[u8]) -> String {
@@ -29,6 +31,31 @@ impl Lent {
     fn dump(&self, title: &str) -> String {
         let (s, i, t) = (hex(&self.sheet), hex(&self.index), hex(&self.table));
         format!("{title}\n  sheet {s}\n  index {i}\n  table {t}\n")
+    }
+}
+
+fn dump_lists(board: &Board) -> String {
+    format!("  items {}\n  results {}\n", hex(&board.items), hex(&board.results))
+}
+
+/// Sheet, index and table as an engine gets them.
+struct Handed {
+    sheet: Guarded,
+    index: Guarded,
+    table: Guarded,
+}
+
+impl Handed {
+    fn lent(&self) -> Lent {
+        Lent {
+            sheet: self.sheet.bytes().to_vec(),
+            index: self.index.bytes().to_vec(),
+            table: self.table.bytes().to_vec(),
+        }
+    }
+
+    fn guards(&self) -> [bool; 3] {
+        [&self.sheet, &self.index, &self.table].map(|g| g.guards_hold())
     }
 }
 
@@ -65,25 +92,26 @@ impl<'a> Comparison<'a> {
         Ok(reply)
     }
 
+    fn hand(&mut self, lent: &Lent) -> Handed {
+        let (sheet, index) = (self.lend(&lent.sheet), self.lend(&lent.index));
+        Handed { sheet, index, table: self.lend(&lent.table) }
+    }
+
     fn act_only(&mut self, act: &Act, lent: &mut Lent) -> Result<Reply, String> {
         let before = lent.clone();
         let reply = match act {
+            Act::Board(board) => return self.board(&mut board.clone(), lent),
             Act::Open { full } => calls::open(*full, &lent.sheet, &mut lent.index, &mut lent.table),
             Act::Give(call) => calls::call(call, &lent.sheet, &lent.index, &mut lent.table),
         };
         self.tally.count_act(act, reply.number);
-        let (mut sheet, mut index) = (self.lend(&before.sheet), self.lend(&before.index));
-        let mut table = self.lend(&before.table);
+        let mut handed = self.hand(&before);
+        let Handed { sheet, index, table } = &mut handed;
         let given = match act {
-            Act::Open { full } => self.engine.open(*full, &mut sheet, &mut index, &mut table),
-            Act::Give(call) => self.engine.call(call, &mut sheet, &mut index, &mut table),
+            Act::Give(call) => self.engine.call(call, sheet, index, table),
+            _ => self.engine.open(matches!(act, Act::Open { full: true }), sheet, index, table),
         };
-        let after = Lent {
-            sheet: sheet.bytes().to_vec(),
-            index: index.bytes().to_vec(),
-            table: table.bytes().to_vec(),
-        };
-        let guards = [sheet.guards_hold(), index.guards_hold(), table.guards_hold()];
+        let (after, guards) = (handed.lent(), handed.guards());
         if given == reply && after == *lent && guards == [true; 3] {
             return Ok(reply);
         }
@@ -92,6 +120,35 @@ impl<'a> Comparison<'a> {
             before.dump("before"),
             lent.dump("after, model"),
             after.dump("after, engine"),
+        ))
+    }
+
+    /// A board on both sides. The result list, too, becomes what both leave.
+    pub fn board(&mut self, board: &mut Board, lent: &mut Lent) -> Result<Reply, String> {
+        let (before, lists) = (lent.clone(), board.clone());
+        let Board { items, results } = board;
+        let reply = board::board(&lent.sheet, &lent.index, &mut lent.table, items, results);
+        self.tally.count_board(&lists, reply.number);
+        let mut handed = self.hand(&before);
+        let Handed { sheet, index, table } = &mut handed;
+        let (mut items, mut results) = (self.lend(&lists.items), self.lend(&lists.results));
+        let given = self.engine.board(sheet, index, table, &mut items, &mut results);
+        let (after, guards) = (handed.lent(), handed.guards());
+        let left = Board { items: items.bytes().to_vec(), results: results.bytes().to_vec() };
+        let list_guards = [items.guards_hold(), results.guards_hold()];
+        let same = given == reply && after == *lent && left == *board;
+        if same && guards == [true; 3] && list_guards == [true; 2] {
+            return Ok(reply);
+        }
+        Err(format!(
+            "board\n{}{}model {reply:?}\nengine {given:?}\n{}{}{}{}guards of sheet, index, table hold: {guards:?}\n\
+             guards of items, results hold: {list_guards:?}",
+            before.dump("before"),
+            dump_lists(&lists),
+            lent.dump("after, model"),
+            dump_lists(board),
+            after.dump("after, engine"),
+            dump_lists(&left),
         ))
     }
 

@@ -1,9 +1,12 @@
 //! Comparisons that are the same in every run: each byte of the example changed to each value,
 //! each length, the limits from both sides, and the ledgers that go stale.
 
+use super::boards::plain_board;
 use super::compare::{Act, Comparison, Lent};
+use super::fixed_boards::run_fixed_boards;
 use super::lists::{plain_call, Office};
-use crate::gen::{plain_chain, spec_figure, write_sheet, Spec};
+use crate::gen::{self, plain_chain, spec_figure, write_sheet, Spec};
+use crate::model::board::Board;
 use crate::model::calls::Call;
 use crate::model::printer::SCRATCH;
 use crate::model::sheet::{index_of, read_sheet, EXAMPLE, MAX_ITEMS, MAX_LEVEL};
@@ -20,24 +23,28 @@ pub fn run_fixed(c: &mut Comparison) -> Result<(), String> {
     names(c)?;
     figures(c)?;
     long_fields(c)?;
-    stale_ledgers(c)
+    stale_ledgers(c)?;
+    run_fixed_boards(c)
 }
 
-fn post(item: u64, number: i64) -> Call {
+pub fn post(item: u64, number: i64) -> Call {
     Call::Post { item, kind: 3, number }
 }
 
-/// The five calls, each accepted on the example after `busy_example`.
-const CALLS: [Call; 5] = [
-    Call::Post { item: 1, kind: 1, number: 0 },
-    Call::Keep { item: 4 },
-    Call::Drop { item: 3 },
-    Call::Step { item: 0 },
-    Call::Ask { item: 4 },
-];
+/// The five calls and a board, each accepted on the example after `busy_example`.
+fn acts() -> [Act; 6] {
+    [
+        Act::Give(Call::Post { item: 1, kind: 1, number: 0 }),
+        Act::Give(Call::Keep { item: 4 }),
+        Act::Give(Call::Drop { item: 3 }),
+        Act::Give(Call::Step { item: 0 }),
+        Act::Give(Call::Ask { item: 4 }),
+        Act::Board(Board { items: vec![4, 0, 2, 0, 4, 0], results: vec![9; 27] }),
+    ]
+}
 
 /// The example with values, a stored figure and marks.
-fn busy_example(c: &mut Comparison) -> Result<Lent, String> {
+pub fn busy_example(c: &mut Comparison) -> Result<Lent, String> {
     let mut lent = Lent { sheet: EXAMPLE.to_vec(), index: vec![9; 20], table: vec![9; 50] };
     c.act(&Act::Open { full: false }, &mut lent)?;
     for call in [post(0, 1_000), post(1, -300), Call::Keep { item: 3 }] {
@@ -67,14 +74,14 @@ fn printer(c: &mut Comparison) -> Result<(), String> {
 /// Each byte of the example sheet as each value, and each shorter sheet.
 fn sheet_bytes(c: &mut Comparison) -> Result<(), String> {
     let busy = busy_example(c)?;
-    let mut turn = 0;
+    let (mut turn, acts) = (0, acts());
     let mut both = |c: &mut Comparison, sheet: Vec<u8>| -> Result<(), String> {
         turn += 1;
         c.act(
             &Act::Open { full: turn % 2 == 0 },
             &mut Lent { sheet: sheet.clone(), ..busy.clone() },
         )?;
-        c.act(&Act::Give(CALLS[turn % 5]), &mut Lent { sheet, ..busy.clone() })?;
+        c.act(&acts[turn % 6], &mut Lent { sheet, ..busy.clone() })?;
         Ok(())
     };
     for at in 0..EXAMPLE.len() {
@@ -92,17 +99,17 @@ fn sheet_bytes(c: &mut Comparison) -> Result<(), String> {
 
 /// Each byte of index and table as each value.
 fn index_and_table_bytes(c: &mut Comparison) -> Result<(), String> {
-    let busy = busy_example(c)?;
+    let (busy, acts) = (busy_example(c)?, acts());
     for byte in 0..=255 {
         for at in 0..busy.index.len() {
             let mut lent = busy.clone();
             lent.index[at] = byte;
-            c.act(&Act::Give(CALLS[(at + byte as usize) % 5]), &mut lent)?;
+            c.act(&acts[(at + byte as usize) % 6], &mut lent)?;
         }
         for at in 0..busy.table.len() {
             let mut lent = busy.clone();
             lent.table[at] = byte;
-            c.act(&Act::Give(CALLS[(at / 10 + byte as usize) % 5]), &mut lent)?;
+            c.act(&acts[(at / 10 + byte as usize) % 6], &mut lent)?;
         }
     }
     Ok(())
@@ -111,9 +118,8 @@ fn index_and_table_bytes(c: &mut Comparison) -> Result<(), String> {
 /// Indexes and tables of each length up to twice the right one.
 fn lengths(c: &mut Comparison) -> Result<(), String> {
     let busy = busy_example(c)?;
-    let mut acts: Vec<Act> = CALLS.iter().map(|&call| Act::Give(call)).collect();
-    acts.extend([Act::Open { full: false }, Act::Open { full: true }]);
-    for act in &acts {
+    let openings = [Act::Open { full: false }, Act::Open { full: true }];
+    for act in acts().iter().chain(&openings) {
         for length in 0..=100 {
             let mut lent = busy.clone();
             lent.table.resize(length, 0);
@@ -145,7 +151,7 @@ fn arguments(c: &mut Comparison) -> Result<(), String> {
 }
 
 /// Opens a sheet, with index and table of the right length for so many items.
-fn opened(
+pub fn opened(
     c: &mut Comparison,
     sheet: Vec<u8>,
     items: usize,
@@ -156,7 +162,7 @@ fn opened(
     Ok((lent, number))
 }
 
-fn expect(what: &str, given: u64, right: u64) -> Result<(), String> {
+pub fn expect(what: &str, given: u64, right: u64) -> Result<(), String> {
     match given == right {
         true => Ok(()),
         false => Err(format!("{what}: both sides give {given}, and the paper {right}")),
@@ -356,6 +362,10 @@ fn ledger(c: &mut Comparison, specs: &[Spec], calls: &[Call], last: i64) -> Resu
         let mut office = Some(Office::new(&items));
         let mut value = None;
         for call in calls {
+            if let Call::Ask { item } = *call {
+                let board = gen::board_of(&mut c.rng, &[item as u16; 2]);
+                plain_board(c, board, &mut lent.clone(), &mut office)?;
+            }
             value = Some(plain_call(c, *call, &mut lent, &mut office)?.value);
         }
         if value != Some(last) || lent.index != index_of(&items) {

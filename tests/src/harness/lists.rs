@@ -1,12 +1,15 @@
 //! Lists of calls, from an opening or from any accepted table.
 
+use super::boards::{fresh_board, plain_board};
 use super::compare::{Act, Comparison, Lent};
 use crate::gen::{self, Numbers, Shape};
+use crate::model::board::Board;
 use crate::model::calls::{Call, Reply};
 use crate::model::fresh::FreshOffice;
 use crate::model::sheet::{index_of, read_sheet, Item};
 use crate::model::table::to_pair;
 use crate::rng::Rng;
+use std::fmt::Debug;
 
 /// One list of calls, compared after every call: from an opening, or from any accepted table.
 pub fn run_list(c: &mut Comparison, from_table: bool) -> Result<(), String> {
@@ -33,6 +36,10 @@ pub fn run_list(c: &mut Comparison, from_table: bool) -> Result<(), String> {
             125..=149 => random_print(c)?,
             150..=299 if office.is_none() => {
                 lent.table = gen::accepted_table(&mut c.rng, &items);
+            }
+            300..=379 => {
+                let board = gen::any_board(&mut c.rng, &items);
+                plain_board(c, board, &mut lent, &mut office)?;
             }
             _ => {
                 let call = gen::any_call(&mut c.rng, &items, &lent.table, numbers);
@@ -110,13 +117,13 @@ fn changed_call(
             changed.table.resize(10 * others.len(), 0);
         }
     }
-    let act = if c.rng.percent(20) {
-        Act::Open { full: c.rng.percent(50) }
-    } else {
-        Act::Give(gen::any_call(&mut c.rng, items, &lent.table, Numbers::Any))
+    let act = match c.rng.below(100) {
+        0..=19 => Act::Open { full: c.rng.percent(50) },
+        20..=34 => Act::Board(gen::any_board(&mut c.rng, items)),
+        _ => Act::Give(gen::any_call(&mut c.rng, items, &lent.table, Numbers::Any)),
     };
     let reply = c.act(&act, &mut changed)?;
-    let only_table = what == 1 && matches!(act, Act::Give(_));
+    let only_table = what == 1 && !matches!(act, Act::Open { .. });
     if only_table && reply.number == 0 && changed.table != lent.table {
         *lent = changed;
         *office = None;
@@ -157,6 +164,13 @@ impl<'i> Office<'i> {
         Office { items, fresh: FreshOffice::new(items), stays: vec![false; items.len()] }
     }
 
+    /// What is stored where no mark stands must stay.
+    fn note(&mut self, before: &[u8]) {
+        if before.chunks(10).all(|t| t[1] == 0) {
+            self.stays = stored(before);
+        }
+    }
+
     fn judge(
         &mut self,
         c: &mut Comparison,
@@ -165,10 +179,7 @@ impl<'i> Office<'i> {
         before: &[u8],
         after: &[u8],
     ) -> Result<(), String> {
-        let stored = |table: &[u8]| -> Vec<bool> { table.chunks(10).map(|t| t[0] != 0).collect() };
-        if before.chunks(10).all(|t| t[1] == 0) {
-            self.stays = stored(before);
-        }
+        self.note(before);
         self.fresh.feed(call);
         match *call {
             Call::Post { item, .. } if reply.number == 0 => {
@@ -184,17 +195,57 @@ impl<'i> Office<'i> {
                 if given != right {
                     return Err(format!("{call:?} gives {reply:?}, the fresh office {right:?}"));
                 }
-                if after.chunks(10).any(|t| t[1] != 0) && reply.number == 0 {
-                    return Err(format!("a mark stands after {call:?}"));
+                if reply.number == 0 {
+                    unmarked(call, after)?;
                 }
             }
             _ => {}
         }
+        self.still_stored(call, after)
+    }
+
+    /// A board posts and drops nothing. An empty one, or one refused, leaves the table as it was.
+    pub fn judge_board(
+        &mut self,
+        c: &mut Comparison,
+        lists: &Board,
+        results: &[u8],
+        reply: &Reply,
+        before: &[u8],
+        after: &[u8],
+    ) -> Result<(), String> {
+        self.note(before);
+        let right = fresh_board(&self.fresh, lists);
+        if (reply.number, results) != (right.0, &right.1[..]) {
+            return Err(format!("{lists:?} gives {reply:?}, by the fresh office {right:?}"));
+        }
+        if reply.number == 0 && !lists.items.is_empty() {
+            c.tally.judged += lists.items.len() as u64 / 2;
+            unmarked(lists, after)?;
+        } else if before != after {
+            return Err(format!("{lists:?} changes the table"));
+        }
+        self.still_stored(lists, after)
+    }
+
+    fn still_stored(&self, call: &dyn Debug, after: &[u8]) -> Result<(), String> {
         let now = stored(after);
         match (0..self.items.len()).find(|&i| self.stays[i] && !now[i]) {
             Some(i) => Err(format!("after {call:?} figure {i} is no longer stored")),
             None => Ok(()),
         }
+    }
+}
+
+/// Which items of a table are stored.
+fn stored(table: &[u8]) -> Vec<bool> {
+    table.chunks(10).map(|t| t[0] != 0).collect()
+}
+
+fn unmarked(call: &dyn Debug, after: &[u8]) -> Result<(), String> {
+    match after.chunks(10).all(|t| t[1] == 0) {
+        true => Ok(()),
+        false => Err(format!("a mark stands after {call:?}")),
     }
 }
 
@@ -254,9 +305,34 @@ mod tests {
         tests.iter().filter(|t| t.1).map(|t| t.0).collect()
     }
 
-    /// Counts the pairs of causes that one call has, the lowest first.
+    /// Every cause from 8 to 17 of a board on an accepted sheet, in the order of the tests.
+    fn board_causes(lists: &Board, items: &[Item], index: &[u8], table: &[u8]) -> Vec<usize> {
+        let long = (index.len() == 4 * items.len(), table.len() == 10 * items.len());
+        let mut listed = lists.items.chunks_exact(2).map(|i| u16::from_le_bytes([i[0], i[1]]));
+        let half = lists.items.len() % 2 != 0;
+        let tests = [
+            (8, long != (true, true)),
+            (9, long.0 && index != index_of(items)),
+            (10, long.1 && decode(items, table).is_none()),
+            (17, half || listed.len() > 64 || lists.results.len() != 9 * listed.len()),
+            (11, listed.any(|i| i as usize >= items.len())),
+        ];
+        tests.iter().filter(|t| t.1).map(|t| t.0).collect()
+    }
+
+    /// Counts the pairs of causes that one call has, the given one first.
     struct Recorder {
-        met: [[u64; 16]; 16],
+        met: [[u64; 18]; 18],
+    }
+
+    impl Recorder {
+        fn record(&mut self, reply: Reply, causes: Option<Vec<usize>>) -> Reply {
+            if let Some(causes) = causes {
+                assert_eq!(reply.number, causes.first().map_or(0, |&n| n as u64));
+                causes.iter().for_each(|&b| self.met[reply.number as usize][b] += 1);
+            }
+            reply
+        }
     }
 
     impl Engine for Recorder {
@@ -277,17 +353,23 @@ mod tests {
             index: &mut Guarded,
             table: &mut Guarded,
         ) -> Reply {
-            let items = read_sheet(sheet.bytes());
-            let causes = match &items {
-                Ok(items) => all_causes(call, items, index.bytes(), table.bytes()),
-                Err(_) => vec![],
-            };
-            let reply = Mock(Wrong::Nothing).call(call, sheet, index, table);
-            if items.is_ok() {
-                assert_eq!(reply.number, causes.first().map_or(0, |&n| n as u64));
-            }
-            causes.iter().for_each(|&b| self.met[reply.number as usize][b] += 1);
-            reply
+            let items = read_sheet(sheet.bytes()).ok();
+            let causes = items.map(|i| all_causes(call, &i, index.bytes(), table.bytes()));
+            self.record(Mock(Wrong::Nothing).call(call, sheet, index, table), causes)
+        }
+
+        fn board(
+            &mut self,
+            sheet: &mut Guarded,
+            index: &mut Guarded,
+            table: &mut Guarded,
+            items: &mut Guarded,
+            results: &mut Guarded,
+        ) -> Reply {
+            let circuit = read_sheet(sheet.bytes()).ok();
+            let lists = Board { items: items.bytes().to_vec(), results: results.bytes().to_vec() };
+            let causes = circuit.map(|c| board_causes(&lists, &c, index.bytes(), table.bytes()));
+            self.record(Mock(Wrong::Nothing).board(sheet, index, table, items, results), causes)
         }
 
         fn print(&mut self, kind: u64, number: i64, scratch: &mut Guarded) -> i64 {
@@ -298,7 +380,7 @@ mod tests {
     /// Calls with two causes are met, so that the order of the numbers is compared.
     #[test]
     fn pairs_of_causes_are_met() {
-        let mut recorder = Recorder { met: [[0; 16]; 16] };
+        let mut recorder = Recorder { met: [[0; 18]; 18] };
         for list in 0..1_500 {
             let mut c = Comparison::new(&mut recorder, Rng::part(7, list));
             run_list(&mut c, list % 5 == 0).unwrap();
@@ -313,6 +395,9 @@ mod tests {
                 assert!(met >= 3, "{low} with {high}: {met}");
             }
         }
-        assert!(recorder.met[12][13] >= 3);
+        for (first, second) in [(12, 13), (8, 17), (9, 17), (10, 17), (17, 11)] {
+            let met = recorder.met[first][second];
+            assert!(met >= 3, "{first} with {second}: {met}");
+        }
     }
 }

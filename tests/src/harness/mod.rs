@@ -1,8 +1,10 @@
 //! The comparison of an engine with the model.
 
+pub mod boards;
 pub mod compare;
 pub mod days;
 pub mod fixed;
+pub mod fixed_boards;
 pub mod lists;
 pub mod offices;
 pub mod tally;

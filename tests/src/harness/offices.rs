@@ -1,5 +1,6 @@
 //! Two offices with the same accepted posts in the same order agree, and the fresh office too.
 
+use super::boards::{plain_board, same_boards};
 use super::compare::{Comparison, Lent};
 use super::lists::{open, plain_call, Office};
 use crate::gen::{self, Shape};
@@ -19,8 +20,10 @@ pub fn run_offices(c: &mut Comparison) -> Result<(), String> {
     };
     let posts: Vec<Call> =
         (0..c.rng.below(most)).map(|_| gen::good_post(&mut c.rng, &items, numbers)).collect();
-    let (mut one, first) = run_office(c, &sheet, &items, &posts)?;
-    let (mut two, second) = run_office(c, &sheet, &items, &posts)?;
+    let one = run_office(c, &sheet, &items, &posts)?;
+    let two = run_office(c, &sheet, &items, &posts)?;
+    same_boards(c, &items, &one, &two)?;
+    let ((mut one, first), (mut two, second)) = (one, two);
     let n = items.len() as u64;
     let mut asked: Vec<u64> = match shape {
         Shape::Wide => (0..10).map(|_| c.rng.below(n)).collect(),
@@ -48,7 +51,7 @@ fn outcome(reply: &Reply) -> Option<(u8, i64)> {
     }
 }
 
-/// An office with these accepted posts, and any other calls between them.
+/// An office with these accepted posts, and any other calls and boards between them.
 fn run_office<'i>(
     c: &mut Comparison,
     sheet: &[u8],
@@ -61,6 +64,11 @@ fn run_office<'i>(
     let busy = c.rng.below(6);
     for k in 0..=posts.len() {
         for _ in 0..c.rng.below(busy + 1) {
+            if c.rng.percent(12) {
+                let board = gen::any_board(&mut c.rng, items);
+                plain_board(c, board, &mut lent, &mut office)?;
+                continue;
+            }
             let call = match c.rng.percent(8) {
                 true => gen::bad_post(&mut c.rng, items),
                 false => gen::other_call(&mut c.rng, items, &lent.table),

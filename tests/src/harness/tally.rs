@@ -1,11 +1,12 @@
 //! How much was compared.
 
 use super::compare::Act;
+use crate::model::board::{Board, ITEM, MOST_ITEMS, RESULT};
 use crate::model::calls::Call;
 use std::fmt;
 
 /// The functions compared, and the refusals that each can give.
-pub const FUNCTIONS: [(&str, &[usize]); 8] = [
+pub const FUNCTIONS: [(&str, &[usize]); 9] = [
     ("open bare", &[1, 2, 3, 4, 5, 6, 7, 8]),
     ("open full", &[1, 2, 3, 4, 5, 6, 7, 8]),
     ("post", &[1, 2, 3, 4, 5, 6, 7, 8, 9, 10, 11, 12, 13]),
@@ -13,10 +14,24 @@ pub const FUNCTIONS: [(&str, &[usize]); 8] = [
     ("drop", &[1, 2, 3, 4, 5, 6, 7, 8, 9, 10, 11, 12]),
     ("step", &[1, 2, 3, 4, 5, 6, 7, 8, 9, 10, 11, 14]),
     ("ask", &[1, 2, 3, 4, 5, 6, 7, 8, 9, 10, 11]),
+    ("board", &[1, 2, 3, 4, 5, 6, 7, 8, 9, 10, 17, 11]),
     ("print", &[10, 15]),
 ];
 
-const PRINT: usize = 7;
+const BOARD: usize = 7;
+const PRINT: usize = 8;
+
+/// The lists of boards that must be met: of accepted ones, then of those refused with 17.
+pub const BOARDS: [&str; 8] = [
+    "no item",
+    "64 items",
+    "an item twice",
+    "odd length",
+    "65 items",
+    "results for one item more or less",
+    "results a byte short",
+    "results a byte long",
+];
 
 /// The refusals in the lines of a day, by the line's first word.
 pub const LINES: [(&str, &[usize]); 3] =
@@ -25,7 +40,11 @@ pub const LINES: [(&str, &[usize]); 3] =
 #[derive(Default, Clone, Debug)]
 pub struct Tally {
     /// How often each function gave each number; 0 is accepted.
-    pub given: [[u64; 16]; FUNCTIONS.len()],
+    pub given: [[u64; 18]; FUNCTIONS.len()],
+    /// How often each of `BOARDS` was met.
+    pub boards: [u64; BOARDS.len()],
+    /// Accepted boards held against asks one after another.
+    pub boards_as_asks: u64,
     pub lists: u64,
     /// Lists that begin with an accepted table of no opening.
     pub lists_from_tables: u64,
@@ -51,8 +70,31 @@ impl Tally {
             Act::Give(Call::Drop { .. }) => 4,
             Act::Give(Call::Step { .. }) => 5,
             Act::Give(Call::Ask { .. }) => 6,
+            Act::Board(_) => BOARD,
         };
         self.given[function][number as usize] += 1;
+    }
+
+    /// Counts a board by its lists as lent.
+    pub fn count_board(&mut self, lists: &Board, number: u64) {
+        self.given[BOARD][number as usize] += 1;
+        let (items, results) = (&lists.items, lists.results.len());
+        let (count, even) = (items.len() / ITEM, items.len() % ITEM == 0);
+        let within = even && count <= MOST_ITEMS;
+        let right = RESULT * count;
+        let mut listed = items.chunks(ITEM).enumerate();
+        let mut twice = || listed.any(|(k, item)| items.chunks(ITEM).take(k).any(|i| i == item));
+        let met = [
+            number == 0 && count == 0,
+            number == 0 && count == MOST_ITEMS,
+            number == 0 && twice(),
+            number == 17 && !even,
+            number == 17 && even && count == MOST_ITEMS + 1 && results == right,
+            number == 17 && within && results.abs_diff(right) == RESULT,
+            number == 17 && within && results + 1 == right,
+            number == 17 && within && results == right + 1,
+        ];
+        self.boards.iter_mut().zip(met).for_each(|(times, met)| *times += met as u64);
     }
 
     pub fn count_print(&mut self, number: u64) {
@@ -75,13 +117,17 @@ impl Tally {
         self.given[..PRINT].iter().flatten().sum()
     }
 
-    /// The refusals that some function can give, or a day print, and that were never met.
+    /// The refusals that some function can give, or a day print, and the lists of boards, that were
+    /// never met.
     pub fn never_met(&self) -> Vec<String> {
         let mut missing = Vec::new();
         for ((name, numbers), given) in FUNCTIONS.iter().zip(&self.given) {
             for &number in numbers.iter().chain(&[0]).filter(|&&n| given[n] == 0) {
                 missing.push(format!("{name} {number}"));
             }
+        }
+        for (name, _) in BOARDS.iter().zip(&self.boards).filter(|(_, &times)| times == 0) {
+            missing.push(format!("board, {name}"));
         }
         for ((word, numbers), printed) in LINES.iter().zip(&self.printed) {
             for &number in numbers.iter().filter(|&&n| self.days > 0 && printed[n] == 0) {
@@ -104,6 +150,13 @@ impl fmt::Display for Tally {
             }
             writeln!(f)?;
         }
+        let boards: Vec<String> = BOARDS
+            .iter()
+            .zip(&self.boards)
+            .map(|(name, times)| format!("{name}: {times}"))
+            .collect();
+        writeln!(f, "boards by their lists: {}", boards.join(", "))?;
+        writeln!(f, "boards held against asks one after another: {}", self.boards_as_asks)?;
         writeln!(
             f,
             "lists: {} ({} from a table of no opening); pairs of offices: {}",
@@ -134,7 +187,7 @@ mod tests {
 
     /// Everything that must be met, met once.
     fn full() -> Tally {
-        let mut tally = Tally { days: 1, ..Tally::default() };
+        let mut tally = Tally { days: 1, boards: [1; BOARDS.len()], ..Tally::default() };
         for ((_, numbers), given) in FUNCTIONS.iter().zip(&mut tally.given) {
             numbers.iter().chain(&[0]).for_each(|&n| given[n] = 1);
         }
@@ -155,6 +208,11 @@ mod tests {
                 assert_eq!(tally.never_met(), [format!("{name} {number}")]);
             }
         }
+        for (at, name) in BOARDS.iter().enumerate() {
+            let mut tally = full();
+            tally.boards[at] = 0;
+            assert_eq!(tally.never_met(), [format!("board, {name}")]);
+        }
         for (at, (word, numbers)) in LINES.iter().enumerate() {
             for &number in *numbers {
                 let mut tally = full();
@@ -171,13 +229,40 @@ mod tests {
         let mut numbers: Vec<usize> = tables.flat_map(|t| t.1).copied().collect();
         numbers.sort();
         numbers.dedup();
-        assert_eq!(numbers, (1..=16).collect::<Vec<usize>>());
+        assert_eq!(numbers, (1..=17).collect::<Vec<usize>>());
+    }
+
+    /// Each of the lists counts as what it is, and as nothing else.
+    #[test]
+    fn boards_are_counted() {
+        let cases = [
+            (0, 0, 0, 0),
+            (128, 576, 0, 1),
+            (4, 18, 0, 2),
+            (127, 567, 17, 3),
+            (130, 585, 17, 4),
+            (4, 27, 17, 5),
+            (4, 9, 17, 5),
+            (0, 9, 17, 5),
+            (4, 17, 17, 6),
+            (0, 1, 17, 7),
+        ];
+        for (items, results, number, at) in cases {
+            let mut tally = Tally::default();
+            let list = (0..items).map(|i| if items == 4 { 0 } else { i as u8 }).collect();
+            tally.count_board(&Board { items: list, results: vec![0; results] }, number);
+            let mut right = [0; BOARDS.len()];
+            right[at] = 1;
+            assert_eq!((tally.boards, tally.given[BOARD][number as usize]), (right, 1));
+        }
     }
 
     #[test]
     fn lines_are_counted() {
         let mut tally = Tally::default();
-        ["OK", "ASK 4 700", "NO 12", "SHEET 2 46", "DAY 16 0"].map(|l| tally.count_line(l));
+        for line in ["OK", "ASK 4 700", "NO 12", "SHEET 2 46", "DAY 16 0"] {
+            tally.count_line(line);
+        }
         assert_eq!(tally.day_lines, 5);
         assert_eq!((tally.printed[0][12], tally.printed[1][2], tally.printed[2][16]), (1, 1, 1));
         assert_eq!(tally.printed.iter().flatten().sum::<u64>(), 3);

@@ -24,13 +24,13 @@ pub enum Call {
     Ask { item: u64 },
 }
 
-const ACCEPTED: Reply = Reply { number: 0, offset: 0, kind: 0, value: 0 };
+pub(super) const ACCEPTED: Reply = Reply { number: 0, offset: 0, kind: 0, value: 0 };
 
-fn refused(fault: Fault) -> Reply {
+pub(super) fn refused(fault: Fault) -> Reply {
     Reply { number: fault.number, offset: fault.offset, ..ACCEPTED }
 }
 
-fn cause(number: u64) -> Fault {
+pub(super) fn cause(number: u64) -> Fault {
     Fault { number, offset: 0 }
 }
 
@@ -64,7 +64,11 @@ fn lengths(items: &[Item], index: &[u8], table: &[u8]) -> Result<(), Fault> {
 }
 
 /// Refusals 1 to 10.
-fn read_lent(sheet: &[u8], index: &[u8], table: &[u8]) -> Result<(Vec<Item>, Vec<Cell>), Fault> {
+pub(super) fn read_lent(
+    sheet: &[u8],
+    index: &[u8],
+    table: &[u8],
+) -> Result<(Vec<Item>, Vec<Cell>), Fault> {
     let items = read_sheet(sheet)?;
     lengths(&items, index, table)?;
     if index != index_of(&items) {
@@ -75,7 +79,7 @@ fn read_lent(sheet: &[u8], index: &[u8], table: &[u8]) -> Result<(Vec<Item>, Vec
 }
 
 /// Refusal 11.
-fn item_of(items: &[Item], item: u64) -> Result<usize, Fault> {
+pub(super) fn item_of(items: &[Item], item: u64) -> Result<usize, Fault> {
     if item >= items.len() as u64 {
         return Err(cause(11));
     }

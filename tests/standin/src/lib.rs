@@ -8,6 +8,7 @@
 #[path = "../../src/model/mod.rs"]
 mod model;
 
+use model::board::board;
 use model::calls::{call, open, Call, Reply};
 use std::slice::{from_raw_parts, from_raw_parts_mut};
 
@@ -127,6 +128,24 @@ pub unsafe extern "C" fn rozhinal_ask(
     let (index, table) = (read(index, index_len), write(table, table_len));
     let reply = call(&Call::Ask { item }, read(sheet, sheet_len), index, table);
     Reading { number: reply.number, offset: reply.offset, kind: reply.kind, value: reply.value }
+}
+
+#[no_mangle]
+pub unsafe extern "C" fn rozhinal_board(
+    sheet: *const u8,
+    sheet_len: usize,
+    index: *const u8,
+    index_len: usize,
+    table: *mut u8,
+    table_len: usize,
+    items: *const u8,
+    items_len: usize,
+    results: *mut u8,
+    results_len: usize,
+) -> Answer {
+    let (index, table) = (read(index, index_len), write(table, table_len));
+    let (items, results) = (read(items, items_len), write(results, results_len));
+    answer(board(read(sheet, sheet_len), index, table, items, results))
 }
 
 #[no_mangle]

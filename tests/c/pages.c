@@ -1,0 +1,82 @@
+/*
+ * Every function with slices that begin, then that end, where memory begins or ends, and with what
+ * it only reads in memory that cannot be written. An access outside them ends the program.
+ */
+#define _GNU_SOURCE
+#include "rozhinal.h"
+
+#include <stdio.h>
+#include <stdlib.h>
+#include <string.h>
+#include <sys/mman.h>
+
+enum { PAGE = 4096, LISTED = 64, ITEMS = 5 };
+enum { INDEX = ROZHINAL_INDEX_BYTES(ITEMS), TABLE = ROZHINAL_TABLE_BYTES(ITEMS) };
+
+static const uint8_t example[] = {
+    1, 4, 0, 1, 0, ITEMS, 0, 2, 1, 0, 'A', 2, 1, 0, 'L', 2, 1, 0, 'S',
+    3, 9, 0, 1, 1, 0, 2, 0, 0, 2, 0, 'T', 3, 9, 0, 2, 0, 0, 2, 3, 0, 1, 0, 'B', 4, 0, 0,
+};
+
+static void require(int right, const char *what)
+{
+    if (!right) {
+        puts(what);
+        exit(1);
+    }
+}
+
+/* So many bytes, at the end or at the front of a page between two that cannot be accessed. */
+static uint8_t *slice(size_t length, int at_end)
+{
+    uint8_t *pages = mmap(NULL, 3 * PAGE, PROT_NONE, MAP_PRIVATE | MAP_ANONYMOUS, -1, 0);
+    require(pages != MAP_FAILED, "no memory");
+    require(mprotect(pages + PAGE, PAGE, PROT_READ | PROT_WRITE) == 0, "no page to write to");
+    memset(pages + PAGE, 0, PAGE);
+    return pages + PAGE + (at_end ? PAGE - length : 0);
+}
+
+/* From now on the page of these bytes can only be read. */
+static void only_read(uint8_t *bytes)
+{
+    uint8_t *page = bytes - (uintptr_t)bytes % PAGE;
+    require(mprotect(page, PAGE, PROT_READ) == 0, "no page to read from");
+}
+
+#define LENT sheet, sizeof example, index, INDEX, table, TABLE
+#define LISTS items, 2 * LISTED, results, 9 * LISTED
+
+static void run(int at_end)
+{
+    uint8_t *sheet = slice(sizeof example, at_end), *index = slice(INDEX, at_end);
+    uint8_t *table = slice(TABLE, at_end), *scratch = slice(ROZHINAL_PRINT_BYTES, at_end);
+    uint8_t *items = slice(2 * LISTED, at_end), *results = slice(9 * LISTED, at_end);
+    uint8_t *beyond = slice(2 * LISTED, at_end);
+    memcpy(sheet, example, sizeof example);
+    for (size_t k = 0; k < LISTED; k++)
+        items[2 * k] = (uint8_t)(k % ITEMS);
+    beyond[2 * LISTED - 2] = ITEMS;
+    only_read(sheet), only_read(items), only_read(beyond);
+    require(rozhinal_open_full(LENT).number == 0, "open full");
+    require(rozhinal_open_bare(LENT).number == 0, "open bare");
+    only_read(index);
+    require(rozhinal_post(LENT, 0, ROZHINAL_NUMBER, 1000).number == 0, "post");
+    require(rozhinal_keep(LENT, 4).number == 0, "keep");
+    require(rozhinal_step(LENT, 0).number == 0, "step");
+    require(rozhinal_board(LENT, LISTS).number == 0, "board");
+    require(results[0] == ROZHINAL_NUMBER && results[9 * 63 + 1] == (1000 & 0xFF), "results");
+    require(rozhinal_drop(LENT, 4).number == 0, "drop");
+    require(rozhinal_post(LENT, 1, ROZHINAL_NUMBER, 300).number == 0, "post");
+    require(rozhinal_board(LENT, beyond, 2 * LISTED, results, 9 * LISTED).number == 11, "item 5");
+    require(rozhinal_board(LENT, items, 2 * LISTED - 1, results, 9 * LISTED).number == 17, "odd");
+    require(rozhinal_board(LENT, items, 0, results, 0).number == 0, "an empty board");
+    require(rozhinal_ask(LENT, ITEMS).number == 11, "a refused ask");
+    require(rozhinal_print(ROZHINAL_NUMBER, -7, scratch, ROZHINAL_PRINT_BYTES) == 2, "print");
+}
+
+int main(void)
+{
+    run(0);
+    run(1);
+    return 0;
+}
