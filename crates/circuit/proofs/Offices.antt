@@ -1,8 +1,8 @@
 -- Two offices agree (`two-offices`): for any two sound tables with the same entries, and any two lists of calls that make
 -- the same postings in order, every ask and every board has the same answer in both, which is the fresh office's. The four pairs
 -- of openings are an instance (`two-openings`). Assumes that the sheet is ordered.
-use Prim.Native.Nat.{ℕ, zero, suc}
-use mathlib.Core.Path.{_≡_, refl, sym, ap, ap₂, subst, _∙_}
+use Prim.Native.Nat.{ℕ, zero, suc, _<_}
+use mathlib.Core.Path.{_≡_, refl, sym, ap, subst, _∙_}
 use mathlib.Core.Bool.{Bool, true, false, cond, _||_}
 use mathlib.Core.List.{List, [], _∷_, _++_, map}
 use mathlib.Core.Option.{Option, none, some}
@@ -10,11 +10,10 @@ use borrow.Author.Tests.{leb-false}
 use Rattle.circuit.specs.Value.{Value}
 use Rattle.circuit.specs.Sheet.{Sheet, size, itemAt, beyond, isFigure, Ordered, Entries}
 use Rattle.circuit.specs.Table.{Table, opened}
-use Rattle.circuit.specs.Machine.{lookUp, gather, catchUp}
+use Rattle.circuit.specs.Machine.{lookUp, catchUp}
 use Rattle.circuit.specs.Call.{Call, post, keep, drop, step, ask, board, Posting, Opening, bare, full}
 use Rattle.circuit.specs.Board.{listed, listsWrong}
 use Rattle.circuit.specs.Calls.{Outcome, tests, firstCause, isNone, someNoItem, postedValue, showItems, effect, effectUnless, perform, run, postingOf, ifAccepted, postingsMade, postings}
-use Rattle.circuit.specs.Words.{Quiet}
 use Rattle.circuit.specs.Fresh.{called, blank, setEntry, hear, hearAll, give, freshAsk, valuesWith, freshAsks, freshRun}
 use Rattle.circuit.proofs.Solution.{give-solves}
 use Rattle.circuit.proofs.Fresh.{setIf, hear-post}
@@ -22,7 +21,7 @@ use Rattle.circuit.proofs.View.{view}
 use Rattle.circuit.proofs.Fill.{look-right, looks-right}
 use Rattle.circuit.proofs.CatchUp.{catchUp-quiet}
 use Rattle.circuit.proofs.Reading.{quiet-look}
-use Rattle.circuit.proofs.RuleLaws.{or-false}
+use Rattle.circuit.proofs.Board.{map-in-sheet}
 use Rattle.circuit.proofs.Accepted.{effect-number}
 use Rattle.circuit.proofs.Sound.{Sound, catchUp-sound, run-sound, bare-sound, full-sound}
 
@@ -90,6 +89,12 @@ fresh-entered S (c ∷ cs) E T =
     ∙ ap (λ F. entered F (postings S (perform S T c .table) cs)) (hear-made S E T c)
     ∙ sym (entered-append (postingsMade S T c) (postings S (perform S T c .table) cs) E)
 
+-- what a look-up gives after catching up on a sound table
+caught-value : (S : Sheet) → Ordered S → (E : Entries) (T : Table) → Sound S E T → (i : ℕ) → i < size S → lookUp S (catchUp S T) i .value ≡ give S E i
+caught-value S ordered E T sound i low =
+    let caught = catchUp-sound S ordered E T sound in
+    quiet-look S ordered E (give S E) (give-solves S ordered E) (catchUp S T) (caught .invariant) (caught .formed) (caught .holds) (catchUp-quiet S ordered T) i low
+
 -- an ask of a sound table is answered as the fresh office answers
 pub ask-answers : (S : Sheet) → Ordered S → (E : Entries) (T : Table) → Sound S E T → (i : ℕ)
     → Answers (freshAsk S E i) (perform S T (ask i))
@@ -98,15 +103,7 @@ ask-answers S ordered E T sound i = go (beyond S i) refl
   where
     go : (b : Bool) → beyond S i ≡ b → Answers (cond b none (some (give S E i))) (effectUnless (cond b 11 0) S T (ask i))
     go true e = (refl, refl)
-    go false e = (refl, ap some value)
-      where
-        caught : Sound S E (catchUp S T)
-        caught = catchUp-sound S ordered E T sound
-
-        value : lookUp S (catchUp S T) i .value ≡ give S E i
-        value =
-            quiet-look S ordered E (give S E) (give-solves S ordered E) (catchUp S T) (caught .invariant) (caught .formed) (caught .holds)
-            (catchUp-quiet S ordered T) i (leb-false (size S) i e)
+    go false e = (refl, ap some (caught-value S ordered E T sound i (leb-false (size S) i e)))
 
 -- The fresh office gives the items' values exactly if each is in the sheet.
 fresh-values : (S : Sheet) (E : Entries) (is : List ℕ) → freshAsks S E is ≡ cond (someNoItem S is) none (some (map (give S E) is))
@@ -120,24 +117,14 @@ fresh-values S E (i ∷ is) = rw (fresh-values S E is) (go (beyond S i) (someNoI
     go false true = refl
     go false false = refl
 
--- the views of items of the sheet, on a sound table without a mark, are the fresh office's values
-quiet-views : (S : Sheet) → Ordered S → (E : Entries) (T : Table) → Sound S E T → Quiet S T → (is : List ℕ) → someNoItem S is ≡ false
-    → map (λ i. view S T i .value) is ≡ map (give S E) is
-unfolding someNoItem
-quiet-views S ordered E T sound quiet [] e = refl
-quiet-views S ordered E T sound quiet (i ∷ is) e =
-    let parts = or-false (beyond S i) (someNoItem S is) e in
-    ap₂ _∷_
-    (sym (look-right S ordered T i .value)
-    ∙ quiet-look S ordered E (give S E) (give-solves S ordered E) T (sound .invariant) (sound .formed) (sound .holds) quiet i (leb-false (size S) i (parts .0)))
-    (quiet-views S ordered E T sound quiet is (parts .1))
-
 show-values : (S : Sheet) → Ordered S → (E : Entries) (T : Table) → Sound S E T → (is : List ℕ) → someNoItem S is ≡ false
     → showItems S T is .shown ≡ map (give S E) is
 show-values S ordered E T sound [] e = refl
 show-values S ordered E T sound (i ∷ is) e =
-    looks-right S ordered (catchUp S T) (i ∷ is) .values
-    ∙ quiet-views S ordered E (catchUp S T) (catchUp-sound S ordered E T sound) (catchUp-quiet S ordered T) (i ∷ is) e
+    looks-right S ordered (catchUp S T) (i ∷ is) .values ∙ map-in-sheet S _ (give S E) seen (i ∷ is) e
+  where
+    seen : (j : ℕ) → j < size S → view S (catchUp S T) j .value ≡ give S E j
+    seen j low = sym (look-right S ordered (catchUp S T) j .value) ∙ caught-value S ordered E T sound j low
 
 -- a board on a sound table is answered as the fresh office answers
 pub board-shows : (S : Sheet) → Ordered S → (E : Entries) (T : Table) → Sound S E T → (items results : List ℕ)

@@ -2,7 +2,7 @@
 use Prim.Native.Nat.{ℕ, zero, suc, _<_}
 use mathlib.Core.Path.{_≡_, refl, ap}
 use mathlib.Core.Bool.{true}
-use mathlib.Core.List.{List}
+use mathlib.Core.List.{List, []}
 use native.Mathlib.Omega.{arith}
 use borrow.Author.Tests.{leb-false, not-false}
 use Rattle.circuit.specs.Value.{Value, wellFormed}
@@ -52,8 +52,8 @@ ask-prints s x t i e = go (readSheet s) refl e
         look-formed S ordered (catchUp S (decodeTable t)) i low (catchUp-holdable S ordered (decodeTable t) (decoded-holdable S t form))
 
     accepts : (edition : ℕ) (ps : List Placed) (m : ℕ) → readSheet s ≡ opens edition ps → firstCause (callTests (sheetRead edition ps) ps (keeping x t) (ask i)) ≡ m
-        → unlessRefused m (keeping x t) (effectOn (sheetRead edition ps) (keeping x t) (effect (sheetRead edition ps) (decodeTable t) (ask i))) .number ≡ 0
-        → lineOf (ask i) (unlessRefused m (keeping x t) (effectOn (sheetRead edition ps) (keeping x t) (effect (sheetRead edition ps) (decodeTable t) (ask i)))) ≡
+        → unlessRefused m [] (keeping x t) (effectOn (sheetRead edition ps) (keeping x t) (effect (sheetRead edition ps) (decodeTable t) (ask i))) .number ≡ 0
+        → lineOf (ask i) (unlessRefused m [] (keeping x t) (effectOn (sheetRead edition ps) (keeping x t) (effect (sheetRead edition ps) (decodeTable t) (ask i)))) ≡
         askLine i (printed (asked edition ps t i))
     accepts edition ps zero r h n = ap (askLine i) (value-text (asked edition ps t i) (formed edition ps r h))
     accepts edition ps (suc m) r h n = absurd (omega arith)

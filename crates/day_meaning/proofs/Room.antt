@@ -10,7 +10,7 @@ use lib.Dec.{eqb}
 use lib.ListN.{length, take, getD, length-append, length-take}
 use lib.ListN
 use lib.Seq.{getD-take, getD-drop, take-all, length-take-le}
-use Rattle.circuit.specs.Call.{bare, Call, post, keep, drop, step, ask}
+use Rattle.circuit.specs.Call.{bare, Call, post, keep, drop, step, ask, board}
 use Rattle.circuit.specs.Calls.{Test, test, firstCause, tests, Outcome, effect}
 use Rattle.field.specs.Field.{cutAt, Bytes}
 use Rattle.field.specs.declared.Cut.{Cut}
@@ -25,7 +25,7 @@ use Rattle.layout.proofs.Scan.{opened-count}
 use Rattle.layout.specs.Layout.{mostItems}
 use Rattle.table.specs.Bytes.{decodeTable}
 use Rattle.table.specs.Record.{width}
-use Rattle.office.specs.Office.{Given, lengthsWrong, openRead, openOn, callOn, callTests, unlessRefused, effectOn, keeping}
+use Rattle.office.specs.Office.{Given, resultsLent, lengthsWrong, openRead, openOn, callOn, callTests, unlessRefused, effectOn, keeping}
 use Rattle.office.proofs.Agreeing.{opening-opens}
 use Rattle.printer.specs.Decimal.{digits}
 use Rattle.printer.specs.Printing.{textOf, leastScratch}
@@ -40,12 +40,14 @@ use Rattle.day_meaning.proofs.Storing.{part-whole}
 use Rattle.day_meaning.proofs.Playing.{play-absent, play-short, play-fault, play-call}
 use Rattle.day_meaning.proofs.Laws.{item-count}
 
+-- the item of a call that a day log can order
 abbrev itemOf : Call → ℕ
 itemOf (post i kind z) = i
 itemOf (keep i) = i
 itemOf (drop i) = i
 itemOf (step i) = i
 itemOf (ask i) = i
+itemOf (board items results) = 0
 
 -- a field that orders a call has at least 2 bytes, the first of which are the item
 pub record Ordering (content : List ℕ) (c : Call) : Type 0 where
@@ -104,31 +106,32 @@ ordering tag content c = a (eqb tag postTag) (eqb tag askTag) (eqb tag keepTag) 
     a true b₂ b₃ b₄ b₅ h = post-ordering content c h
     a false b₂ b₃ b₄ b₅ h = q b₂ b₃ b₄ b₅ h
 
--- the numbers of a call's refusals
-cause-at-most : (k : ℕ) (b : Bool) (ts : List Test) → k ≤ 14 → firstCause ts ≤ 14 → firstCause (test k b ∷ ts) ≤ 14
+-- the numbers of a call's refusals have at most two digits
+cause-at-most : (k : ℕ) (b : Bool) (ts : List Test) → k ≤ 99 → firstCause ts ≤ 99 → firstCause (test k b ∷ ts) ≤ 99
 unfolding firstCause
 cause-at-most k true ts h r = h
 cause-at-most k false ts h r = r
 
-no-cause : firstCause [] ≤ 14
+no-cause : firstCause [] ≤ 99
 unfolding firstCause
 no-cause = omega arith
 
-number-at-most : (s x t : List ℕ) (c : Call) (edition : ℕ) (ps : List Placed) → readSheet s ≡ opens edition ps → callOn s (keeping x t) c .number ≤ 14
+number-at-most : (s x t : List ℕ) (c : Call) (edition : ℕ) (ps : List Placed) → readSheet s ≡ opens edition ps → callOn s (keeping x t) c .number ≤ 99
 unfolding callOn tests
 number-at-most s x t c edition ps r = rw r (given (firstCause (callTests (sheetRead edition ps) ps (keeping x t) c)) (all c) (effect (sheetRead edition ps) (decodeTable t) c))
   where
-    own : (c : Call) → firstCause (tests (sheetRead edition ps) (decodeTable t) c) ≤ 14
+    own : (c : Call) → firstCause (tests (sheetRead edition ps) (decodeTable t) c) ≤ 99
     own (post i kind z) = cause-at-most 11 _ _ (omega arith) (cause-at-most 12 _ _ (omega arith) (cause-at-most 13 _ _ (omega arith) no-cause))
     own (keep i) = cause-at-most 11 _ _ (omega arith) (cause-at-most 12 _ _ (omega arith) no-cause)
     own (drop i) = cause-at-most 11 _ _ (omega arith) (cause-at-most 12 _ _ (omega arith) no-cause)
     own (step i) = cause-at-most 11 _ _ (omega arith) (cause-at-most 14 _ _ (omega arith) no-cause)
     own (ask i) = cause-at-most 11 _ _ (omega arith) no-cause
+    own (board items results) = cause-at-most 17 _ _ (omega arith) (cause-at-most 11 _ _ (omega arith) no-cause)
 
-    all : (c : Call) → firstCause (callTests (sheetRead edition ps) ps (keeping x t) c) ≤ 14
+    all : (c : Call) → firstCause (callTests (sheetRead edition ps) ps (keeping x t) c) ≤ 99
     all c = cause-at-most 8 _ _ (omega arith) (cause-at-most 9 _ _ (omega arith) (cause-at-most 10 _ _ (omega arith) (own c)))
 
-    given : (m : ℕ) → m ≤ 14 → (o : Outcome) → unlessRefused m (keeping x t) (effectOn (sheetRead edition ps) (keeping x t) o) .number ≤ 14
+    given : (m : ℕ) → m ≤ 99 → (o : Outcome) → unlessRefused m (resultsLent c) (keeping x t) (effectOn (sheetRead edition ps) (keeping x t) o) .number ≤ 99
     given zero h o = omega arith
     given (suc m) h o = h
 
@@ -136,10 +139,10 @@ number-at-most s x t c edition ps r = rw r (given (firstCause (callTests (sheetR
 text-small : (kind : ℕ) (z : _) → length (textOf (partsOf kind z)) ≤ 19
 text-small kind z = rw (sym (part-whole kind leastScratch z z refl refl)) (part-small kind z leastScratch)
 
-no-line-short : (n : ℕ) → n ≤ 14 → length (noLine n) ≤ 30
+no-line-short : (n : ℕ) → n ≤ 99 → length (noLine n) ≤ 30
 no-line-short n h = rw (length-append (digits n) lineEnd) (omega (arith, length-at-most 1 n (omega arith)))
 
-answer-short : (n : ℕ) → n ≤ 14 → length (answerLine n) ≤ 30
+answer-short : (n : ℕ) → n ≤ 99 → length (answerLine n) ≤ 30
 answer-short zero h = omega arith
 answer-short (suc n) h = no-line-short (suc n) h
 
@@ -147,15 +150,16 @@ ask-line-short : (i : ℕ) (text : List ℕ) → i < 65536 → length text ≤ 1
 ask-line-short i text h k =
     rw (length-append (digits i) (space ++ (text ++ lineEnd)), length-append text lineEnd) (omega (arith, length-at-most 4 i (omega arith)))
 
-reading-short : (i n : ℕ) (text : List ℕ) → i < 65536 → length text ≤ 19 → n ≤ 14 → length (readingLine i n text) ≤ 30
+reading-short : (i n : ℕ) (text : List ℕ) → i < 65536 → length text ≤ 19 → n ≤ 99 → length (readingLine i n text) ≤ 30
 reading-short i zero text a b h = ask-line-short i text a b
 reading-short i (suc n) text a b h = no-line-short (suc n) h
 
-line-short : (c : Call) (g : Given) → g .number ≤ 14 → itemOf c < 65536 → length (lineOf c g) ≤ 30
+line-short : (c : Call) (g : Given) → g .number ≤ 99 → itemOf c < 65536 → length (lineOf c g) ≤ 30
 line-short (post i kind z) g h k = answer-short (g .number) h
 line-short (keep i) g h k = answer-short (g .number) h
 line-short (drop i) g h k = answer-short (g .number) h
 line-short (step i) g h k = answer-short (g .number) h
+line-short (board items results) g h k = answer-short (g .number) h
 line-short (ask i) g h k = reading-short i (g .number) _ k (text-small (g .kind) (g .value)) h
 
 -- a last line: its word, a number of at most two digits and an offset of at most five
@@ -231,7 +235,7 @@ unfolding openOn firstCause
 opening-small s x t = go (readSheet s) refl
   where
     lengths : (b : Bool) (g : Given) → g .number ≡ 0 → g .offset ≡ 0
-        → (unlessRefused (firstCause (test 8 b ∷ [])) (keeping x t) g .number ≤ 8) × (unlessRefused (firstCause (test 8 b ∷ [])) (keeping x t) g .offset ≤ length s)
+        → (unlessRefused (firstCause (test 8 b ∷ [])) [] (keeping x t) g .number ≤ 8) × (unlessRefused (firstCause (test 8 b ∷ [])) [] (keeping x t) g .offset ≤ length s)
     lengths true g n o = (omega arith, omega arith)
     lengths false g n o = (omega arith, omega arith)
 

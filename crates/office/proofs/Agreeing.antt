@@ -13,11 +13,12 @@ use Rattle.circuit.specs.Value.{Value, null, out, num, kindOf, numberOf}
 use Rattle.circuit.specs.Circuit.{LeadsTo}
 use Rattle.circuit.specs.Sheet.{Sheet, Ordered, Entries, size, itemAt, isFigure, circuitOf}
 use Rattle.circuit.specs.Table.{Table, Cell, Mark, unmarked, refresh, notice, unk, held, isStored, isMark, markOf, valueIn, opened}
-use Rattle.circuit.specs.Call.{Call, post, keep, drop, step, ask, Posting, Opening, bare, full}
+use Rattle.circuit.specs.Call.{Call, post, keep, drop, step, ask, board, Posting, Opening, bare, full}
 use Rattle.circuit.specs.Calls.{Outcome, firstCause, perform, run, postingsMade, postingBy, postings, postingOf, postedValue, ifAccepted as ifMade}
-use Rattle.circuit.specs.Fresh.{blank, freshAsk, freshRun}
+use Rattle.circuit.specs.Board.{listed, listsWrong}
+use Rattle.circuit.specs.Fresh.{blank, freshAsk, freshAsks, freshRun}
 use Rattle.circuit.specs.Words.{Quiet}
-use Rattle.circuit.proofs.Offices.{Agree, Answers, two-offices, opened-sound}
+use Rattle.circuit.proofs.Offices.{Agree, Answers, Shows, two-offices, opened-sound}
 use Rattle.circuit.proofs.Retention.{Retained, retention}
 use Rattle.circuit.proofs.View.{result-below}
 use Rattle.circuit.proofs.Invariant.{Justified, exact, due, awaits}
@@ -40,11 +41,11 @@ use Rattle.table.specs.Rows.{row}
 use Rattle.table.specs.Record.{width, kindIn, markIn, numberIn, recordOf, markCode, encodeCell}
 use Rattle.table.specs.Bytes.{encodeTable, Holdable}
 use Rattle.table.proofs.Tables.{encoded-record, encodeTable-ext, bare-holdable, full-holdable}
-use Rattle.office.specs.Office.{Office, keeping, Given, accepted, openingTests, unlessRefused, callOn, openRead, openOn, runOn, kindRead, numberRead}
+use Rattle.office.specs.Office.{Office, keeping, Given, resultsLent, accepted, openingTests, unlessRefused, callOn, openRead, openOn, runOn, kindRead, numberRead}
 use Rattle.office.specs.Demand2Words.{answerOf}
-use Rattle.office.specs.Demand3Words.{Posted, postOf, ifAccepted, acceptedPosts, freshAnswer, SameReading, storedIn, StaysStored, Retains}
+use Rattle.office.specs.Demand3Words.{Posted, postOf, ifAccepted, acceptedPosts, freshAnswer, SameReading, Shown, shown, boardAfter, freshShown, freshBoard, SameBoard, SameAnswers, storedIn, StaysStored, Retains}
 use Rattle.office.proofs.Holdable.{run-holdable, perform-holdable}
-use Rattle.office.proofs.Bridge.{Within, perform-within, givenBy, call-performs, run-runs}
+use Rattle.office.proofs.Bridge.{Within, perform-within, resultsBy, givenBy, call-performs, run-runs}
 
 -- a reading that stops does so by a number that is not 0
 abbrev Positive : Scan → Type 0
@@ -98,7 +99,7 @@ pub record Opens (s : List ℕ) (kept : Office) (o : Opening) : Type 0 where
   pub edition : ℕ
   pub placed : List Placed
   pub reads : readSheet s ≡ opens edition placed
-  pub gives : openOn o s kept ≡ accepted none (keeping (indexBytes placed) (encodeTable (sheetRead edition placed) (opened o (sheetRead edition placed))))
+  pub gives : openOn o s kept ≡ accepted none [] (keeping (indexBytes placed) (encodeTable (sheetRead edition placed) (opened o (sheetRead edition placed))))
 
 pub opening-opens : (s : List ℕ) (kept : Office) (o : Opening) → openOn o s kept .number ≡ 0 → Opens s kept o
 unfolding openOn
@@ -109,11 +110,11 @@ opening-opens s kept o e = go (readSheet s) refl e
     go (opens edition ps) q z = pick (firstCause (openingTests ps kept)) refl z
       where
         G : Given
-        G = accepted none (keeping (indexBytes ps) (encodeTable (sheetRead edition ps) (opened o (sheetRead edition ps))))
+        G = accepted none [] (keeping (indexBytes ps) (encodeTable (sheetRead edition ps) (opened o (sheetRead edition ps))))
 
-        pick : (k : ℕ) → firstCause (openingTests ps kept) ≡ k → unlessRefused k kept G .number ≡ 0 → Opens s kept o
+        pick : (k : ℕ) → firstCause (openingTests ps kept) ≡ k → unlessRefused k [] kept G .number ≡ 0 → Opens s kept o
         pick zero c w =
-            record { edition = edition; placed = ps; reads = q; gives = ap (λ r. openRead o r kept) q ∙ ap (λ k. unlessRefused k kept G) c }
+            record { edition = edition; placed = ps; reads = q; gives = ap (λ r. openRead o r kept) q ∙ ap (λ k. unlessRefused k [] kept G) c }
         pick (suc k) c w = absurd (omega arith)
 
 -- a table with nothing beyond the sheet
@@ -182,6 +183,7 @@ post-made zero (keep i) = refl
 post-made zero (drop i) = refl
 post-made zero (step i) = refl
 post-made zero (ask i) = refl
+post-made zero (board items results) = refl
 post-made (suc k) c = refl
 
 -- a record's parts, of the encoding of a table
@@ -223,12 +225,22 @@ unmarked-code refresh e = let bad : _≡_ {A = ℕ} 0 1 = cc in absurd (omega ar
 unmarked-code notice e = let bad : _≡_ {A = ℕ} 0 1 = cc in absurd (omega arith)
 
 answer-same : (S : Sheet) (x : List ℕ) (o : Outcome) (k : ℕ) (v : Option Value) → o .number ≡ k → o .reading ≡ v
-    → answerOf (givenBy S x o) ≡ record { number = k; offset = 0; kind = kindRead v; value = numberRead v }
+    → answerOf (givenBy S x [] o) ≡ record { number = k; offset = 0; kind = kindRead v; value = numberRead v }
 answer-same S x o k v n r = λ i. record { number = n i; offset = 0; kind = kindRead (r i); value = numberRead (r i) }
 
-answer-fresh : (S : Sheet) (x : List ℕ) (o : Outcome) (given : Option Value) → Answers given o → answerOf (givenBy S x o) ≡ freshAnswer given
+answer-fresh : (S : Sheet) (x : List ℕ) (o : Outcome) (given : Option Value) → Answers given o → answerOf (givenBy S x [] o) ≡ freshAnswer given
 answer-fresh S x o none a = answer-same S x o 11 none (a .0) (a .1)
 answer-fresh S x o (some v) a = answer-same S x o 0 (some v) (a .0) (a .1)
+
+-- what a board answers
+abbrev shownBy : Given → Shown
+shownBy g = record { number = g .number; offset = g .offset; results = g .results }
+
+shown-fresh : (S : Sheet) (x results : List ℕ) (wrong : Bool) (given : Option (List Value)) (o : Outcome) → Shows wrong given o
+    → shownBy (givenBy S x results o) ≡ freshShown wrong given results
+shown-fresh S x results true given o a = λ i. shown (a .0 i) (resultsBy (a .0 i) results (o .shown))
+shown-fresh S x results false none o a = λ i. shown (a .0 i) (resultsBy (a .0 i) results (o .shown))
+shown-fresh S x results false (some vs) o a = λ i. shown (a .0 i) (resultsBy (a .0 i) results (a .1 i))
 
 -- An opened sheet's offices: each call is the machine's, from a table that has the invariant.
 module _ (s : List ℕ) (edition : ℕ) (ps : List Placed) (reads : readSheet s ≡ opens edition ps) where
@@ -274,7 +286,7 @@ module _ (s : List ℕ) (edition : ℕ) (ps : List Placed) (reads : readSheet s 
   run-within (c ∷ cs) T w = run-within cs (perform (sheetRead edition ps) T c .table) (perform-within (sheetRead edition ps) ordered T c w)
 
   performs : (T : Table) (c : Call) → Holdable (sheetRead edition ps) T → Within (sheetRead edition ps) T
-      → callOn s (at T) c ≡ givenBy (sheetRead edition ps) (indexBytes ps) (perform (sheetRead edition ps) T c)
+      → callOn s (at T) c ≡ givenBy (sheetRead edition ps) (indexBytes ps) (resultsLent c) (perform (sheetRead edition ps) T c)
   performs = call-performs s edition ps reads (index-length ps) sized ordered
 
   -- the accepted posts of a list are the postings that it makes
@@ -295,42 +307,36 @@ module _ (s : List ℕ) (edition : ℕ) (ps : List Placed) (reads : readSheet s 
       → runOn s (at T) cs ≡ at (run (sheetRead edition ps) T cs)
   runs = run-runs s edition ps reads (index-length ps) sized ordered
 
-  -- an ask after a list of calls
-  asks : (cs : List Call) (T : Table) (i : ℕ) → Holdable (sheetRead edition ps) T → Within (sheetRead edition ps) T
-      → callOn s (runOn s (at T) cs) (ask i)
-      ≡ givenBy (sheetRead edition ps) (indexBytes ps) (perform (sheetRead edition ps) (run (sheetRead edition ps) T cs) (ask i))
-  asks cs T i h w =
-      ap (λ k. callOn s k (ask i)) (runs cs T h w)
-      ∙ performs (run (sheetRead edition ps) T cs) (ask i) (run-holdable (sheetRead edition ps) ordered cs T h) (run-within cs T w)
+  -- a call after a list of calls
+  called-after : (cs : List Call) (T : Table) (c : Call) → Holdable (sheetRead edition ps) T → Within (sheetRead edition ps) T
+      → callOn s (runOn s (at T) cs) c
+      ≡ givenBy (sheetRead edition ps) (indexBytes ps) (resultsLent c) (perform (sheetRead edition ps) (run (sheetRead edition ps) T cs) c)
+  called-after cs T c h w =
+      ap (λ k. callOn s k c) (runs cs T h w)
+      ∙ performs (run (sheetRead edition ps) T cs) c (run-holdable (sheetRead edition ps) ordered cs T h) (run-within cs T w)
 
   -- the office that an accepted opening leaves
   unfoldable pub office : Opening → Given
-  office o = accepted none (at (start o))
+  office o = accepted none [] (at (start o))
 
   pub opening-gives : (kept : Office) (o : Opening) → openOn o s kept .number ≡ 0 → openOn o s kept ≡ office o
   unfolding openOn office
   opening-gives kept o e =
       ap (λ r. openRead o r kept) reads ∙ pick (firstCause (openingTests ps kept)) (ap (λ r. openRead o r kept .number) (sym reads) ∙ e)
-      ∙ ap (λ u. accepted none (keeping (indexBytes ps) u)) (start-encoded o)
+      ∙ ap (λ u. accepted none [] (keeping (indexBytes ps) u)) (start-encoded o)
     where
       G : Given
-      G = accepted none (at (opened o (sheetRead edition ps)))
+      G = accepted none [] (at (opened o (sheetRead edition ps)))
 
-      pick : (k : ℕ) → unlessRefused k kept G .number ≡ 0 → unlessRefused k kept G ≡ G
+      pick : (k : ℕ) → unlessRefused k [] kept G .number ≡ 0 → unlessRefused k [] kept G ≡ G
       pick zero w = refl
       pick (suc k) w = absurd (omega arith)
 
-  -- every ask at two offices
+  -- every ask and every board at two offices
   offices-same : (o p : Opening) (cs ds : List Call)
       → acceptedPosts s (at (start o)) cs ≡ acceptedPosts s (at (start p)) ds
-      → (i : ℕ) → SameReading s (at (start o)) cs (at (start p)) ds i
-  offices-same o p cs ds equal i =
-      record {
-        same = first ∙ alike ∙ sym second;
-        fresh = first ∙ answer-fresh X x one (freshAsk X (freshRun X blank cs) i) (both .first i) ∙ ap (λ Y. freshAnswer (freshAsk Y (freshRun Y blank cs) i)) (sym sheet-is);
-        fresh-other =
-            second ∙ sym alike ∙ answer-fresh X x one (freshAsk X (freshRun X blank ds) i) (both .second i) ∙ ap (λ Y. freshAnswer (freshAsk Y (freshRun Y blank ds) i)) (sym sheet-is);
-      }
+      → SameAnswers s (at (start o)) cs (at (start p)) ds
+  offices-same o p cs ds equal = record { asks = same-reading; boards = same-board }
     where
       X : Sheet
       X = sheetRead edition ps
@@ -347,20 +353,57 @@ module _ (s : List ℕ) (edition : ℕ) (ps : List Placed) (reads : readSheet s 
       both : Agree X blank (start o) cs (start p) ds
       both = two-offices X ordered blank (start o) cs (start p) ds (start-sound o) (start-sound p) made-same
 
-      one : Outcome
-      one = perform X (run X (start o) cs) (ask i)
+      same-reading : (i : ℕ) → SameReading s (at (start o)) cs (at (start p)) ds i
+      same-reading i =
+          record {
+            same = first ∙ alike ∙ sym second;
+            fresh = first ∙ answer-fresh X x one (freshAsk X (freshRun X blank cs) i) (both .first i) ∙ ap (λ Y. freshAnswer (freshAsk Y (freshRun Y blank cs) i)) (sym sheet-is);
+            fresh-other =
+                second ∙ sym alike ∙ answer-fresh X x one (freshAsk X (freshRun X blank ds) i) (both .second i)
+                ∙ ap (λ Y. freshAnswer (freshAsk Y (freshRun Y blank ds) i)) (sym sheet-is);
+          }
+        where
+          one : Outcome
+          one = perform X (run X (start o) cs) (ask i)
 
-      two : Outcome
-      two = perform X (run X (start p) ds) (ask i)
+          two : Outcome
+          two = perform X (run X (start p) ds) (ask i)
 
-      alike : answerOf (givenBy X x one) ≡ answerOf (givenBy X x two)
-      alike = answer-same X x one (two .number) (two .reading) (both .numbers i) (both .readings i)
+          alike : answerOf (givenBy X x [] one) ≡ answerOf (givenBy X x [] two)
+          alike = answer-same X x one (two .number) (two .reading) (both .numbers i) (both .readings i)
 
-      first : answerOf (callOn s (runOn s (at (start o)) cs) (ask i)) ≡ answerOf (givenBy X x (perform X (run X (start o) cs) (ask i)))
-      first = ap answerOf (asks cs (start o) i (start-holdable o) (start-within o))
+          first : answerOf (callOn s (runOn s (at (start o)) cs) (ask i)) ≡ answerOf (givenBy X x [] one)
+          first = ap answerOf (called-after cs (start o) (ask i) (start-holdable o) (start-within o))
 
-      second : answerOf (callOn s (runOn s (at (start p)) ds) (ask i)) ≡ answerOf (givenBy X x (perform X (run X (start p) ds) (ask i)))
-      second = ap answerOf (asks ds (start p) i (start-holdable p) (start-within p))
+          second : answerOf (callOn s (runOn s (at (start p)) ds) (ask i)) ≡ answerOf (givenBy X x [] two)
+          second = ap answerOf (called-after ds (start p) (ask i) (start-holdable p) (start-within p))
+
+      same-board : (items results : List ℕ) → SameBoard s (at (start o)) cs (at (start p)) ds items results
+      same-board items results =
+          record {
+            same = first ∙ ap (λ E. freshShown wrong (freshAsks X E (listed items)) results) (both .heard) ∙ sym second;
+            fresh = first ∙ in-words cs;
+            fresh-other = second ∙ in-words ds;
+          }
+        where
+          wrong : Bool
+          wrong = listsWrong items results
+
+          fresh : List Call → Shown
+          fresh es = freshShown wrong (freshAsks X (freshRun X blank es) (listed items)) results
+
+          in-words : (es : List Call) → fresh es ≡ freshBoard s es items results
+          in-words es = ap (λ Y. freshShown wrong (freshAsks Y (freshRun Y blank es) (listed items)) results) (sym sheet-is)
+
+          first : boardAfter s (at (start o)) cs items results ≡ fresh cs
+          first =
+              ap shownBy (called-after cs (start o) (board items results) (start-holdable o) (start-within o))
+              ∙ shown-fresh X x results wrong _ _ (both .shows items results)
+
+          second : boardAfter s (at (start p)) ds items results ≡ fresh ds
+          second =
+              ap shownBy (called-after ds (start p) (board items results) (start-holdable p) (start-within p))
+              ∙ shown-fresh X x results wrong _ _ (both .shows-other items results)
 
   -- the words of what stays stored, on the encoding of a table
   stored-is : (T : Table) (k : ℕ) → k < size (sheetRead edition ps) → not (eqb (kindIn (row width (encodeTable (sheetRead edition ps) T) k)) 0) ≡ isStored (T k)
@@ -421,7 +464,7 @@ module _ (s : List ℕ) (edition : ℕ) (ps : List Placed) (reads : readSheet s 
       wU : Within X U
       wU = perform-within X ordered T (post e kind z) w
 
-      called : callOn s p (post e kind z) ≡ givenBy X (indexBytes ps) (perform X T (post e kind z))
+      called : callOn s p (post e kind z) ≡ givenBy X (indexBytes ps) [] (perform X T (post e kind z))
       called = ap (λ b. callOn s b (post e kind z)) is ∙ performs T (post e kind z) h w
 
       ran : runOn s (callOn s p (post e kind z) .after) ds ≡ at (run X U ds)
@@ -438,11 +481,11 @@ module _ (s : List ℕ) (edition : ℕ) (ps : List Placed) (reads : readSheet s 
   -- the two parts, for openings of this sheet
   agree-at : (kept other : Office) (o p : Opening) → openOn o s kept .number ≡ 0 → openOn p s other .number ≡ 0
       → (cs ds : List Call) → acceptedPosts s (openOn o s kept .after) cs ≡ acceptedPosts s (openOn p s other .after) ds
-      → (i : ℕ) → SameReading s (openOn o s kept .after) cs (openOn p s other .after) ds i
+      → SameAnswers s (openOn o s kept .after) cs (openOn p s other .after) ds
   unfolding office
-  agree-at kept other o p a b cs ds equal i =
-      subst₂ (λ u v. SameReading s (u .after) cs (v .after) ds i) (sym g) (sym h)
-      (offices-same o p cs ds (ap (λ u. acceptedPosts s (u .after) cs) (sym g) ∙ equal ∙ ap (λ v. acceptedPosts s (v .after) ds) h) i)
+  agree-at kept other o p a b cs ds equal =
+      subst₂ (λ u v. SameAnswers s (u .after) cs (v .after) ds) (sym g) (sym h)
+      (offices-same o p cs ds (ap (λ u. acceptedPosts s (u .after) cs) (sym g) ∙ equal ∙ ap (λ v. acceptedPosts s (v .after) ds) h))
     where
       g : openOn o s kept ≡ office o
       g = opening-gives kept o a
@@ -468,10 +511,10 @@ module _ (s : List ℕ) (edition : ℕ) (ps : List Placed) (reads : readSheet s 
 -- Demand 3: two offices
 pub offices-agree : (s : List ℕ) (kept other : Office) (o p : Opening) → openOn o s kept .number ≡ 0 → openOn p s other .number ≡ 0
     → (cs ds : List Call) → acceptedPosts s (openOn o s kept .after) cs ≡ acceptedPosts s (openOn p s other .after) ds
-    → (i : ℕ) → SameReading s (openOn o s kept .after) cs (openOn p s other .after) ds i
-offices-agree s kept other o p a b cs ds equal i =
+    → SameAnswers s (openOn o s kept .after) cs (openOn p s other .after) ds
+offices-agree s kept other o p a b cs ds equal =
     let first : Opens s kept o = opening-opens s kept o a in
-    agree-at s (first .edition) (first .placed) (first .reads) kept other o p a b cs ds equal i
+    agree-at s (first .edition) (first .placed) (first .reads) kept other o p a b cs ds equal
 
 -- and what stays stored
 pub offices-retain : (s : List ℕ) (kept : Office) (o : Opening) → openOn o s kept .number ≡ 0 → Retains s (openOn o s kept .after)

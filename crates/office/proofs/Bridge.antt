@@ -102,7 +102,7 @@ module _ (S : Sheet) (ordered : Ordered S) where
       go (suc k) e = rw (refused-table S T c k e) h
 
 -- beyond its end a table decodes to cells with nothing in them
-decoded-beyond : (S : Sheet) (t : List ℕ) → length t ≡ tableLength S → Within S (decodeTable t)
+pub decoded-beyond : (S : Sheet) (t : List ℕ) → length t ≡ tableLength S → Within S (decodeTable t)
 unfolding decodeCell
 decoded-beyond S t e j out =
     let far : length t ≤ width * j = omega (arith, mul-le-mul-left width out) in

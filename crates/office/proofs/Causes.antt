@@ -1,27 +1,29 @@
 -- Each test of what is lent and of a call's arguments says what its row says. Assumes nothing.
-use Prim.Native.Nat.{ℕ, zero, suc, _*_, _<_}
+use Prim.Native.Nat.{ℕ, zero, suc, _+_, _*_, _/_, _%_, _<_}
 use native.Mathlib.Omega.{arith}
 use mathlib.Core.Path.{_≡_, refl, sym, ap, _∙_, subst}
 use mathlib.Core.Bool.{Bool, true, false, cond, not}
-use mathlib.Core.List.{List}
+use mathlib.Core.List.{List, [], _∷_}
 use mathlib.Core.Logic.{_⊎_, inl, inr, ⊎-elim}
 use mathlib.Core.Option.{none, some}
 use lib.Dec.{leb}
 use lib.IntN.{ℤ, pos, negsuc, natAbs}
-use lib.ListN.{length}
+use lib.ListN.{length, getD}
 use borrow.Author.Tests.{leb-true, leb-false}
 use Rattle.circuit.specs.Value.{null, out, num, limit, inRange, sameNumber, partsOf, ofParts}
 use Rattle.circuit.specs.Sheet.{Sheet, size, itemAt, isFigure, beyond}
 use Rattle.circuit.specs.Table.{unmarked, refresh, notice, unk, held, isMarked}
-use Rattle.circuit.specs.Calls.{postedValue, isNone}
+use Rattle.circuit.specs.Board.{listedWidth, resultWidth, mostListed, listed, listsOff, listsWrong}
+use Rattle.circuit.specs.Calls.{postedValue, isNone, someNoItem}
+use Rattle.circuit.proofs.Board.{listed-count, listed-at}
 use Rattle.layout.specs.Read.{Placed}
 use Rattle.layout.specs.Index.{indexWidth, indexBytes}
-use Rattle.layout.proofs.Tests.{Tells, holds, fails, tells-if, tells-and, Refutes, right, wrong, refutes-if, refutes-and, tells-not, refutes-tells, tells-eq, refutes-le}
+use Rattle.layout.proofs.Tests.{Tells, holds, fails, tells-if, tells-or, tells-and, Refutes, right, wrong, refutes-if, refutes-and, tells-not, refutes-tells, tells-eq, refutes-le}
 use Rattle.table.specs.Rows.{row, allBelow}
 use Rattle.table.specs.Record.{width, kindIn, markIn, numberIn, decodeCell, allowed, codesForm, numberForm, recordForm}
 use Rattle.table.specs.Bytes.{tableForm, recordInForm}
 use Rattle.office.specs.Office.{Office, lengthsWrong, indexWrong, tableWrong}
-use Rattle.office.specs.Demand1Words.{LengthsWrong, IndexNotAsOpened, BeyondRange, RecordBroken, kindUnknown, markUnknown, entryUnk, entryOut, entryRefresh, unkRefresh, numberNotZero, beyondRange, RecordBrokenAt, TableBroken, NoSuchItem, NotPostable, kindOther, nullNotZero, numberBeyond}
+use Rattle.office.specs.Demand1Words.{LengthsWrong, IndexNotAsOpened, BeyondRange, RecordBroken, kindUnknown, markUnknown, entryUnk, entryOut, entryRefresh, unkRefresh, numberNotZero, beyondRange, RecordBrokenAt, TableBroken, NoSuchItem, ListsWrong, odd, long, other, SomeNoItem, NotPostable, kindOther, nullNotZero, numberBeyond}
 use Rattle.item.specs.Offsets.{sameBytes}
 use Rattle.item.proofs.Offsets.{same-refl, same-equal}
 
@@ -148,6 +150,71 @@ tells-beyond S i = go (leb (size S) i) refl
     go : (b : Bool) → leb (size S) i ≡ b → Tells (NoSuchItem S i) b
     go true e = holds (leb-true (size S) i e)
     go false e = fails (λ h. omega (arith, leb-false (size S) i e))
+
+-- 17
+pub tells-lists : (items results : List ℕ) → Tells (ListsWrong items results) (listsWrong items results)
+unfolding listsOff
+tells-lists items results =
+    tells-if into back
+    (tells-not
+    (refutes-and (refutes-and (refutes-tells (tells-eq (a % listedWidth) 0)) (refutes-le (a / listedWidth) mostListed)) (refutes-tells (tells-eq b (resultWidth * (a / listedWidth))))))
+  where
+    a : ℕ
+    a = length items
+
+    b : ℕ
+    b = length results
+
+    Off : Type 0
+    Off = ((¬ (a % listedWidth ≡ 0)) ⊎ (mostListed < a / listedWidth)) ⊎ (¬ (b ≡ resultWidth * (a / listedWidth)))
+
+    odd-length : ¬ (a % listedWidth ≡ 0) → ListsWrong items results
+    odd-length n = odd (a / listedWidth) (omega arith)
+
+    into : Off → ListsWrong items results
+    into (inl (inl n)) = odd-length n
+    into (inl (inr h)) = long (omega arith)
+    into (inr n) = go (tells-eq (a % listedWidth) 0)
+      where
+        go : {c : Bool} → Tells (a % listedWidth ≡ 0) c → ListsWrong items results
+        go (holds e) = other (a / listedWidth) (omega arith) n
+        go (fails m) = odd-length m
+
+    back : ListsWrong items results → Off
+    back (odd k e) = inl (inl (λ z. omega arith))
+    back (long h) = go (tells-eq (a % listedWidth) 0)
+      where
+        go : {c : Bool} → Tells (a % listedWidth ≡ 0) c → Off
+        go (holds e) = inl (inr (omega arith))
+        go (fails m) = inl (inl m)
+    back (other k e n) = inr (λ z. n (omega arith))
+
+-- 11, of a list
+tells-some : (S : Sheet) (is : List ℕ) → Tells ((k : ℕ) × (k < length is) × NoSuchItem S (getD is k 0)) (someNoItem S is)
+unfolding someNoItem
+tells-some S [] = fails (λ a. let l : a .0 < 0 = a .1 in omega arith)
+tells-some S (i ∷ is) = tells-if into back (tells-or (tells-beyond S i) (tells-some S is))
+  where
+    into : NoSuchItem S i ⊎ ((k : ℕ) × (k < length is) × NoSuchItem S (getD is k 0)) → (k : ℕ) × (k < suc (length is)) × NoSuchItem S (getD (i ∷ is) k 0)
+    into (inl h) = (0, omega arith, h)
+    into (inr (k, l, h)) = (suc k, omega arith, h)
+
+    back : (k : ℕ) × (k < suc (length is)) × NoSuchItem S (getD (i ∷ is) k 0) → NoSuchItem S i ⊎ ((k : ℕ) × (k < length is) × NoSuchItem S (getD is k 0))
+    back (zero, l, h) = inl h
+    back (suc k, l, h) = inr (k, omega arith, h)
+
+pub tells-listed : (S : Sheet) (items : List ℕ) → Tells (SomeNoItem S items) (someNoItem S (listed items))
+tells-listed S items = tells-if into back (tells-some S (listed items))
+  where
+    into : (k : ℕ) × (k < length (listed items)) × NoSuchItem S (getD (listed items) k 0) → SomeNoItem S items
+    into (k, l, h) =
+        let low : k < length items / listedWidth = omega (arith, listed-count items) in
+        (k, omega arith, subst (NoSuchItem S) (listed-at items k low) h)
+
+    back : SomeNoItem S items → (k : ℕ) × (k < length (listed items)) × NoSuchItem S (getD (listed items) k 0)
+    back (k, l, h) =
+        let low : k < length items / listedWidth = omega arith in
+        (k, omega (arith, listed-count items), subst (NoSuchItem S) (sym (listed-at items k low)) h)
 
 -- 13
 pub tells-posted : (kind : ℕ) (z : ℤ) → Tells (NotPostable kind z) (isNone (postedValue kind z))

@@ -1,7 +1,7 @@
 -- The three demands hold. Assumes nothing.
 use Rattle.circuit.proofs.Equations.{equations}
 use Rattle.office.specs.Demands.{Refuses, Means, Agrees, Demands}
-use Rattle.office.proofs.Refusals.{turned-back}
+use Rattle.office.proofs.Refusals.{turned-back, board-refuses}
 use Rattle.office.proofs.Examples.{each-given}
 use Rattle.office.proofs.Words.{sheet-words}
 use Rattle.office.proofs.Meaning.{opens-exactly, opening-writes, fits-sheet, one-layout, accepted-opened, bare-unstored, gives-solution}
@@ -18,7 +18,8 @@ refuses =
       offset-0 = λ r s o. turned-back r s o .offset-0;
       left = λ r s o. turned-back r s o .left;
       no-value = λ r s o. turned-back r s o .no-value;
-      lowest = λ r s o. turned-back r s o .lowest;
+      lowest = λ r b s o. turned-back r s o .lowest b;
+      boards = board-refuses;
       each = each-given;
       words = sheet-words;
     }

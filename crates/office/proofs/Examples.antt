@@ -1,4 +1,4 @@
--- For each number from 1 to 14 an input that is given it, and calls that are accepted. By computation. Assumes nothing.
+-- For each number from 1 to 14, and for 17, an input that is given it, and calls that are accepted. By computation. Assumes nothing.
 use Prim.Native.Nat.{ℕ, zero, suc, _+_, _-_}
 use native.Mathlib.Omega.{arith}
 use mathlib.Core.Bool.{Bool, true, _&&_}
@@ -10,10 +10,12 @@ use mathlib.Core.Path.{_≡_, refl, ap}
 use mathlib.Core.List.{List, [], _∷_, _++_, map}
 use mathlib.Core.Option.{none}
 use lib.IntN.{ℤ, pos, negsuc}
+use lib.ListN.{replicate}
 use Rattle.word.specs.Word.{leAt, leBytes, bytes64}
 use Rattle.circuit.specs.Value.{limit, inRange, partsOf}
-use Rattle.circuit.specs.Call.{Call, post, keep, drop, step, ask, bare, full}
-use Rattle.circuit.specs.Calls.{firstCause, tests, postedValue, effect, Outcome, perform}
+use Rattle.circuit.specs.Call.{Call, post, keep, drop, step, ask, board, bare, full}
+use Rattle.circuit.specs.Board.{listed, listsOff}
+use Rattle.circuit.specs.Calls.{firstCause, tests, someNoItem, postedValue, effect, Outcome, perform}
 use Rattle.circuit.specs.Rules.{apply, numbers, total, anyOut}
 use Rattle.circuit.specs.Sheet.{Sheet, member}
 use Rattle.circuit.specs.Table.{Table}
@@ -27,12 +29,12 @@ use Rattle.table.specs.Rows.{rowsBelow, allBelow}
 use Rattle.table.specs.Record.{encodeCell, decodeCell, codesForm, numberForm, recordForm}
 use Rattle.table.specs.Bytes.{encodeTable, tableForm}
 use Rattle.item.specs.Offsets.{sameBytes}
-use Rattle.office.specs.Office.{Office, keeping, Given, refusal, accepted, callRead, callOn, openRead, openOn}
-use Rattle.office.specs.Demand1Words.{Invocation, opening, calling, serve, FitsArguments, Gets}
+use Rattle.office.specs.Office.{Office, keeping, Given, resultsOf, refusal, accepted, callRead, callOn, openRead, openOn}
+use Rattle.office.specs.Demand1Words.{Invocation, opening, calling, serve, resultsLentTo, FitsArguments, Gets}
 use Rattle.office.specs.Demand2Words.{Answer, answerOf}
 
 -- a sheet with a fault: each request gives the fault's number and offset
-pub sheet-refused : (r : Invocation) (s : List ℕ) (kept : Office) (k at : ℕ) → readSheet s ≡ refused k at → serve r s kept ≡ refusal k at kept
+pub sheet-refused : (r : Invocation) (s : List ℕ) (kept : Office) (k at : ℕ) → readSheet s ≡ refused k at → serve r s kept ≡ refusal k at (resultsLentTo r) kept
 unfolding openOn callOn
 sheet-refused (opening o) s kept k at e = ap (λ q. openRead o q kept) e
 sheet-refused (calling c) s kept k at e = ap (λ q. callRead q kept c) e
@@ -77,12 +79,12 @@ fullTable = nullRecord ++ nullRecord ++ nullRecord ++ nullRecord ++ nullRecord
 
 -- to unfold this is to unfold all that the calls compute with
 unfoldable pub calls : List ℕ → Office → Call → Given
-unfolding callOn openOn reading concat sameBytes indexBytes tests firstCause postedValue partsOf effect tableForm encodeTable rowsBelow allBelow encodeCell decodeCell codesForm numberForm recordForm leAt leBytes limit inRange spreadMeant machineItem
+unfolding callOn openOn reading concat sameBytes indexBytes tests firstCause listed listsOff someNoItem resultsOf postedValue partsOf effect tableForm encodeTable rowsBelow allBelow encodeCell decodeCell codesForm numberForm recordForm leAt leBytes limit inRange spreadMeant machineItem
 calls s kept c = callOn s kept c
 
 -- the openings write this index and these tables
-pub example-opens : (openOn bare exampleBytes (keeping exampleIndex fullTable) ≡ accepted none (keeping exampleIndex bareTable))
-    × (openOn full exampleBytes (keeping exampleIndex bareTable) ≡ accepted none (keeping exampleIndex fullTable))
+pub example-opens : (openOn bare exampleBytes (keeping exampleIndex fullTable) ≡ accepted none [] (keeping exampleIndex bareTable))
+    × (openOn full exampleBytes (keeping exampleIndex bareTable) ≡ accepted none [] (keeping exampleIndex fullTable))
 unfolding calls exampleBytes exampleIndex bareTable fullTable
 example-opens = (refl, refl)
 
@@ -114,7 +116,7 @@ lend r x t k = record { request = r; kept = keeping x t; number = k }
 abbrev lendTable : Call → List ℕ → ℕ → Lent
 lendTable c t k = lend (calling c) exampleIndex t k
 
--- For each number from 8 to 14, and for 0. Where several causes hold, the lowest number.
+-- For each number from 8 to 14, for 17, and for 0. Where several causes hold, the number of the first test.
 unfoldable pub examples : List Lent
 examples =
     lend (opening bare) [] [] 8
@@ -147,6 +149,17 @@ examples =
     ∷ lendTable (post 2 3 (negsuc limit)) bareTable 13
     ∷ lendTable (step 0) bareTable 14
     ∷ lendTable (step 4) (lastIs (2 ∷ 0 ∷ zeros8)) 14
+    ∷ lendTable (board (0 ∷ []) []) bareTable 17
+    ∷ lendTable (board [] (0 ∷ [])) bareTable 17
+    ∷ lendTable (board (9 ∷ 0 ∷ []) zeros8) bareTable 17
+    ∷ lendTable (board (9 ∷ 0 ∷ []) (0 ∷ 0 ∷ zeros8)) bareTable 17
+    ∷ lendTable (board (replicate 130 9) (replicate 585 0)) bareTable 17
+    ∷ lendTable (board (0 ∷ []) []) (firstIs unkRecord) 10
+    ∷ lendTable (board (5 ∷ 0 ∷ []) (0 ∷ zeros8)) bareTable 11
+    ∷ lendTable (board (4 ∷ 0 ∷ 0 ∷ 1 ∷ []) (0 ∷ 0 ∷ zeros8 ++ zeros8)) bareTable 11
+    ∷ lendTable (board (replicate 128 9) (replicate 576 0)) bareTable 11
+    ∷ lendTable (board (replicate 128 0) (replicate 576 0)) bareTable 0
+    ∷ lendTable (board [] []) bareTable 0
     ∷ lend (opening bare) exampleIndex bareTable 0
     ∷ lendTable (post 2 1 (pos 0)) bareTable 0
     ∷ lendTable (post 2 3 (pos limit)) bareTable 0
@@ -195,8 +208,8 @@ called c x t k fits a b d e =
       given = e;
     }
 
--- Each of the numbers 1 to 14 is given.
-pub each-given : Gets 1 × Gets 2 × Gets 3 × Gets 4 × Gets 5 × Gets 6 × Gets 7 × Gets 8 × Gets 9 × Gets 10 × Gets 11 × Gets 12 × Gets 13 × Gets 14
+-- Each of the numbers 1 to 14 is given, and 17.
+pub each-given : Gets 1 × Gets 2 × Gets 3 × Gets 4 × Gets 5 × Gets 6 × Gets 7 × Gets 8 × Gets 9 × Gets 10 × Gets 11 × Gets 12 × Gets 13 × Gets 14 × Gets 17
 unfolding calls writing allBytes exampleBytes exampleIndex bareTable
 each-given =
     let sheets = sheets-refused (calling (ask 0)) (keeping [] []) in (
@@ -214,6 +227,7 @@ each-given =
       called (drop 0) exampleIndex bareTable 12 (omega arith) refl refl refl refl,
       called (post 0 2 (pos 0)) exampleIndex bareTable 13 (omega arith, omega arith, record { sfits = omega arith }) refl refl refl refl,
       called (step 0) exampleIndex bareTable 14 (omega arith) refl refl refl refl,
+      called (board (9 ∷ []) []) exampleIndex bareTable 17 (bytes-by (9 ∷ []) refl, bytes-by [] refl) refl refl refl refl,
     )
 
 -- the answers of a list of calls

@@ -34,6 +34,7 @@ use Rattle.office.specs.Office.{Office, keeping, effectOn, callOn}
 use Rattle.office.specs.Demand1Words.{calling, NoneHolds, ownCauses, AcceptedLent}
 use Rattle.office.specs.Demand2Words.{valueOf, Stores, PostLeaves, KeepLeaves, DropLeaves, StepLeaves, AskLeaves, NoMarkStands, CallsLeave}
 use Rattle.office.proofs.Holdable.{perform-holdable}
+use Rattle.office.proofs.Boards.{board-leaves, board-asks, board-counts}
 use Rattle.office.proofs.Agreeing.{mark-cell, unmarked-code}
 use Rattle.office.proofs.Refusals.{turned-back, opens-sheet, unbroken-form, form-unbroken, call-accepted, own-passed, Postable, postable}
 
@@ -135,7 +136,7 @@ module _ (s : List ℕ) (kept : Office) (lent : AcceptedLent s kept) where
     where
       go : {b : Bool} → Tells (callOn s kept c .number ≡ 0) b → AcceptedLent s (callOn s kept c .after)
       go (holds z) = subst (λ g. AcceptedLent s (g .after)) (sym (is c z)) (lent-again _ (effect-holdable c z))
-      go (fails n) = subst (AcceptedLent s) (sym (turned-back (calling c) s kept .left n)) lent
+      go (fails n) = subst (AcceptedLent s) (sym (turned-back (calling c) s kept .left n .0)) lent
 
   bytes-encoded : (T : Table) → Bytes (encodeTable (sheetOf s) T)
   unfolding encodeTable
@@ -146,14 +147,14 @@ module _ (s : List ℕ) (kept : Office) (lent : AcceptedLent s kept) where
     where
       go : {b : Bool} → Tells (callOn s kept c .number ≡ 0) b → Bytes (callOn s kept c .after .table)
       go (holds z) = subst (λ g. Bytes (g .after .table)) (sym (is c z)) (bytes-encoded _)
-      go (fails n) = subst (λ k. Bytes (k .table)) (sym (turned-back (calling c) s kept .left n)) bytes
+      go (fails n) = subst (λ k. Bytes (k .table)) (sym (turned-back (calling c) s kept .left n .0)) bytes
 
   index-same : (c : Call) → callOn s kept c .after .index ≡ kept .index
   index-same c = go (tells-eq (callOn s kept c .number) 0)
     where
       go : {b : Bool} → Tells (callOn s kept c .number ≡ 0) b → callOn s kept c .after .index ≡ kept .index
       go (holds z) = ap (λ g. g .after .index) (is c z)
-      go (fails n) = ap (λ k. k .index) (turned-back (calling c) s kept .left n)
+      go (fails n) = ap (λ k. k .index) (turned-back (calling c) s kept .left n .0)
 
   -- a figure that is stored in the table that a call leaves, and what its record holds
   pub stored-record : (c : Call) → callOn s kept c .number ≡ 0 → (k : ℕ) → k < size (sheetOf s) → ¬ (kindIn (row width (callOn s kept c .after .table) k) ≡ 0)
@@ -432,4 +433,7 @@ module _ (s : List ℕ) (kept : Office) (lent : AcceptedLent s kept) where
           steps = step-leaves;
           asks = ask-leaves;
           quiet = ask-quiets;
+          boards = λ items results z. board-leaves s kept lent bytes items results z;
+          board-asks = λ items results z. board-asks s kept lent bytes items results z;
+          board-counts = λ items results z. board-counts s kept lent bytes items results z;
         }

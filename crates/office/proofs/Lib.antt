@@ -1,5 +1,6 @@
 pub mod Accepted
 pub mod Agreeing
+pub mod Boards
 pub mod Bridge
 pub mod Causes
 pub mod Demands

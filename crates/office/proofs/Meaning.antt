@@ -4,7 +4,7 @@ use Prim.Native.Nat.{ℕ, zero, suc, _*_, _<_}
 use native.Mathlib.Omega.{arith}
 use mathlib.Core.Path.{_≡_, refl, sym, ap, _∙_, subst}
 use mathlib.Core.Bool.{Bool, true, false}
-use mathlib.Core.List.{List, [], _∷_}
+use mathlib.Core.List.{List, [], _∷_, map}
 use mathlib.Core.Logic.{inl, inr, _↔_}
 use mathlib.Core.Option.{none}
 use lib.Dec.{eqb}
@@ -15,12 +15,15 @@ use Rattle.circuit.specs.Circuit.{Circuit, IsSolution}
 use Rattle.circuit.specs.Sheet.{Sheet, Ordered, Entries, itemAt, size, isFigure, circuitOf}
 use Rattle.circuit.specs.Table.{Table, Mark, unk, held, isStored, noticeIf, valueIn, opened}
 use Rattle.circuit.specs.Machine.{Looked, lookUp, catchUp, keepFigure, keepCell}
-use Rattle.circuit.specs.Call.{Call, keep, ask, Opening, bare, full}
-use Rattle.circuit.specs.Calls.{effect}
+use Rattle.circuit.specs.Call.{Call, keep, ask, board, Opening, bare, full}
+use Rattle.circuit.specs.Board.{listed}
+use Rattle.circuit.specs.Calls.{someNoItem, showItems, effect}
 use Rattle.circuit.specs.Words.{Bare}
 use Rattle.circuit.proofs.Solution.{solution, solution-solves, solution-unique, sheet-acyclic, below-listed}
 use Rattle.circuit.proofs.View.{view, view-at}
-use Rattle.circuit.proofs.Fill.{Fill, Filling, stays, fills, look-right, keep-fill, upd-same}
+use Rattle.circuit.proofs.Fill.{Fill, Filling, stays, fills, fill-refl, look-right, looks-right, keep-fill, upd-same}
+use Rattle.circuit.proofs.Board.{map-in-sheet}
+use Rattle.circuit.proofs.Accepted.{board-passed}
 use Rattle.circuit.proofs.CatchUp.{catchUp-quiet}
 use Rattle.circuit.proofs.Reading.{bare-look, quiet-look}
 use Rattle.circuit.proofs.Sound.{Sound, catchUp-sound}
@@ -41,14 +44,14 @@ use Rattle.table.specs.Record.{width, kindIn, markIn, numberIn, cellCoded, enco
 use Rattle.table.specs.Bytes.{encodeTable, decodeTable, Holdable}
 use Rattle.table.proofs.Records.{number-fits, number-again}
 use Rattle.table.proofs.Tables.{length-encodeTable, encoded-record, holdable-formed}
-use Rattle.office.specs.Office.{Office, keeping, accepted, effectOn, callOn, openOn, runOn}
-use Rattle.office.specs.Demand1Words.{opening, LengthsWrong, NoneHolds, ownCauses, AcceptedLent}
+use Rattle.office.specs.Office.{Office, keeping, resultsOf, accepted, effectOn, callOn, openOn, runOn}
+use Rattle.office.specs.Demand1Words.{opening, calling, LengthsWrong, NoneHolds, ownCauses, AcceptedLent}
 use Rattle.office.specs.Demand2Words.{answerOf, FollowsLayout, openedRecord, Writes, NoneStored, entriesIn, reading, OnlySolution, Stores, StoredRight, Gives}
 use Rattle.office.proofs.Holdable.{look-formed}
 use Rattle.office.proofs.Agreeing.{Opens, opening-opens, figure-below}
 use Rattle.office.proofs.Accepted.{office-accepted}
 use Rattle.office.proofs.Leaves.{ordered, holdable as lent-holdable, stored-record}
-use Rattle.office.proofs.Refusals.{turned-back, opens-sheet, call-accepted}
+use Rattle.office.proofs.Refusals.{turned-back, opens-sheet, call-accepted, own-passed}
 
 -- ---- the openings
 
@@ -110,12 +113,12 @@ module _ (s : List ℕ) (kept : Office) (f : FollowsLayout s kept) where
       fitting = subst (λ n. ¬ LengthsWrong n kept) (sym counted) long
 
   fits-gives : (how : Opening)
-      → openOn how s kept ≡ accepted none (keeping (indexBytes (places (f .layout))) (encodeTable (machineSheet (f .layout)) (opened how (machineSheet (f .layout)))))
+      → openOn how s kept ≡ accepted none [] (keeping (indexBytes (places (f .layout))) (encodeTable (machineSheet (f .layout)) (opened how (machineSheet (f .layout)))))
   fits-gives how =
       let o : Opens s kept how = opening-opens s kept how (fits-opens how) in
       o .gives
-      ∙ ap (λ q. accepted none (keeping (indexBytes (placedFrom q)) (encodeTable (sheetFrom q) (opened how (sheetFrom q))))) (sym (o .reads) ∙ fits-reads)
-      ∙ ap (λ l. accepted none (keeping (indexBytes (places (f .layout))) (encodeTable (machineSheet l) (opened how (machineSheet l))))) (places-layout (f .layout))
+      ∙ ap (λ q. accepted none [] (keeping (indexBytes (placedFrom q)) (encodeTable (sheetFrom q) (opened how (sheetFrom q))))) (sym (o .reads) ∙ fits-reads)
+      ∙ ap (λ l. accepted none [] (keeping (indexBytes (places (f .layout))) (encodeTable (machineSheet l) (opened how (machineSheet l))))) (places-layout (f .layout))
 
 bytes32-bytes : (n : ℕ) → Bytes (bytes32 n)
 bytes32-bytes n zero = omega arith
@@ -167,7 +170,7 @@ opening-writes how s kept f = subst (Writes how l) (sym (fits-gives s kept f how
         ∙ ap (λ it. encodeCell (opened how (it ∷ []) 0)) (item-at l j)
         ∙ record-opened how (getD (l .items) j (entryField []))
 
-    wrote : Writes how l (accepted none (keeping (indexBytes ps) (encodeTable S (opened how S))))
+    wrote : Writes how l (accepted none [] (keeping (indexBytes ps) (encodeTable S (opened how S))))
     wrote =
         record {
           number-0 = refl;
@@ -309,6 +312,38 @@ module _ (s : List ℕ) (kept : Office) (lent : AcceptedLent s kept) (none-store
         stores-right (keep i) (keep-gives i low fig .0) (decodeTable t) (keep-fill (sheetOf s) sheet-ordered (decodeTable t) i fig)
         (λ k l. bare-look (sheetOf s) sheet-ordered (entriesIn t) values solves (decodeTable t) (sound .formed) (sound .holds) unstored k l)
 
+    board-own : (items results : List ℕ) → callOn s kept (board items results) .number ≡ 0 → NoneHolds (ownCauses (sheetOf s) t (board items results))
+    board-own items results z = turned-back (calling (board items results)) s kept .accepted .0 z .lent .1 .1 .1
+
+    board-shows : (items results : List ℕ) → callOn s kept (board items results) .number ≡ 0
+        → callOn s kept (board items results) .results ≡ resultsOf (map values (listed items))
+    unfolding effect
+    board-shows items results z =
+        ap (λ g. g .results) (performed (board items results) (board-own items results z))
+        ∙ ap resultsOf (go (listed items) (board-passed (sheetOf s) (decodeTable t) items results
+        (own-passed (sheetOf s) t (board items results) (lent .lent .1 .1 .0) (board-own items results z))))
+      where
+        C : Table
+        C = catchUp (sheetOf s) (decodeTable t)
+
+        seen : (k : ℕ) → k < size (sheetOf s) → view (sheetOf s) C k .value ≡ values k
+        seen k low = sym (look-right (sheetOf s) sheet-ordered C k .value) ∙ caught-gives k low
+
+        go : (is : List ℕ) → someNoItem (sheetOf s) is ≡ false → showItems (sheetOf s) (decodeTable t) is .shown ≡ map values is
+        go [] e = refl
+        go (i ∷ is) e = looks-right (sheetOf s) sheet-ordered C (i ∷ is) .values ∙ map-in-sheet (sheetOf s) _ values seen (i ∷ is) e
+
+    board-stores : (items results : List ℕ) → callOn s kept (board items results) .number ≡ 0
+        → StoredRight s (callOn s kept (board items results) .after .table) values
+    unfolding effect
+    board-stores items results z = go (listed items) refl
+      where
+        go : (is : List ℕ) → listed items ≡ is → StoredRight s (callOn s kept (board items results) .after .table) values
+        go [] e = stores-right (board items results) z (decodeTable t) (rw e (fill-refl (sheetOf s) (decodeTable t)))
+            (λ k l. bare-look (sheetOf s) sheet-ordered (entriesIn t) values solves (decodeTable t) (sound .formed) (sound .holds) unstored k l)
+        go (i ∷ is) e = stores-right (board items results) z (catchUp (sheetOf s) (decodeTable t))
+            (rw e (looks-right (sheetOf s) sheet-ordered (catchUp (sheetOf s) (decodeTable t)) (i ∷ is) .fill)) caught-gives
+
 pub gives-solution : (s : List ℕ) (kept : Office) → AcceptedLent s kept → NoneStored s (kept .table)
     → (values : ℕ → Value) × OnlySolution (sheetOf s) (entriesIn (kept .table)) values × Gives s kept values
 gives-solution s kept lent none-stored = (
@@ -319,6 +354,8 @@ gives-solution s kept lent none-stored = (
     asked-stored = ask-stores s kept lent none-stored values solves;
     kept = keep-gives s kept lent none-stored values solves;
     kept-stored = keep-stores s kept lent none-stored values solves;
+    shown = board-shows s kept lent none-stored values solves;
+    shown-stored = board-stores s kept lent none-stored values solves;
   },
 )
   where

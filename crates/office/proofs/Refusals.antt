@@ -11,7 +11,7 @@ use lib.ListN.{length, length-map}
 use borrow.Author.Tests.{not-false}
 use Rattle.circuit.specs.Value.{Value, kindOf, numberOf}
 use Rattle.circuit.specs.Sheet.{Sheet, size, itemAt, isFigure}
-use Rattle.circuit.specs.Call.{Call, post, keep, drop, step, ask}
+use Rattle.circuit.specs.Call.{Call, post, keep, drop, step, ask, board}
 use Rattle.circuit.specs.Calls.{Test, firstCause, tests, postedValue, effect, isNone}
 use Rattle.circuit.proofs.Parts.{posted-some}
 use Rattle.layout.specs.Read.{Placed, SheetRead, opens, refused, readSheet, layoutOf}
@@ -22,9 +22,9 @@ use Rattle.layout.proofs.Causes.{refused-exactly, opens-faultless, refused-numb
 use Rattle.table.specs.Rows.{row}
 use Rattle.table.specs.Record.{width}
 use Rattle.table.specs.Bytes.{decodeTable, tableForm}
-use Rattle.office.specs.Office.{Office, Given, refusal, accepted, openingTests, callTests, unlessRefused, effectOn, callRead, callOn, openRead, openOn}
-use Rattle.office.specs.Demand1Words.{Invocation, opening, calling, serve, TableBroken, NotPostable, Row, cause, ownCauses, causesIn, causesOf, First, NoneHolds, HoldsAt, Lowest, Refused, bySheet, byLent, NoCause, AcceptedLent}
-use Rattle.office.proofs.Causes.{tells-is, tells-is-not, tells-lengths, tells-index, tells-table, tells-beyond, tells-posted, tells-mark}
+use Rattle.office.specs.Office.{Office, Given, resultsLent, refusal, accepted, openingTests, callTests, unlessRefused, effectOn, callRead, callOn, openRead, openOn}
+use Rattle.office.specs.Demand1Words.{Invocation, opening, calling, serve, resultsLentTo, TableBroken, NotPostable, Row, cause, ownCauses, causesIn, causesOf, First, NoneHolds, HoldsAt, InBase, Lowest, Refused, bySheet, byLent, NoCause, ListsWrong, SomeNoItem, AcceptedLent, BoardRefuses}
+use Rattle.office.proofs.Causes.{tells-is, tells-is-not, tells-lengths, tells-index, tells-table, tells-beyond, tells-lists, tells-listed, tells-posted, tells-mark}
 
 -- ---- the first cause
 
@@ -96,6 +96,7 @@ own-tested S t (drop i) form = (refl, omega arith, tells-beyond S i, λ low. (re
 own-tested S t (step i) form =
     (refl, omega arith, tells-beyond S i, λ low. (refl, omega arith, tells-mark (isFigure (itemAt S i)) (row width t i) (λ b. form (i, omega arith, b)), λ n. tt))
 own-tested S t (ask i) form = (refl, omega arith, tells-beyond S i, λ low. tt)
+own-tested S t (board items results) form = (refl, omega arith, tells-lists items results, λ n. (refl, omega arith, tells-listed S items, λ m. tt))
 
 tested : (S : Sheet) (ps : List Placed) → size S ≡ length ps → (kept : Office) (r : Invocation) → Tested (causesIn S ps kept r) (testsIn S ps kept r)
 unfolding testsIn
@@ -140,39 +141,40 @@ lowest-first m (r ∷ rs) up k (inr h) n =
       lowest-first (r .number) rs (up .1) k h (λ j l g. n j l (inr g)),
     )
 
-own-rising : (S : Sheet) (t : List ℕ) (c : Call) → Rising 10 (ownCauses S t c)
-own-rising S t (post i kind z) = (omega arith, (omega arith, (omega arith, tt)))
-own-rising S t (keep i) = (omega arith, (omega arith, tt))
-own-rising S t (drop i) = (omega arith, (omega arith, tt))
-own-rising S t (step i) = (omega arith, (omega arith, tt))
-own-rising S t (ask i) = (omega arith, tt)
+own-rising : (S : Sheet) (t : List ℕ) (c : Call) → InBase (calling c) → Rising 10 (ownCauses S t c)
+own-rising S t (post i kind z) b = (omega arith, (omega arith, (omega arith, tt)))
+own-rising S t (keep i) b = (omega arith, (omega arith, tt))
+own-rising S t (drop i) b = (omega arith, (omega arith, tt))
+own-rising S t (step i) b = (omega arith, (omega arith, tt))
+own-rising S t (ask i) b = (omega arith, tt)
+own-rising S t (board items results) b = absurd b
 
-causes-rising : (S : Sheet) (ps : List Placed) (kept : Office) (r : Invocation) → Rising 7 (causesIn S ps kept r)
-causes-rising S ps kept (opening o) = (omega arith, tt)
-causes-rising S ps kept (calling c) = (omega arith, (omega arith, (omega arith, own-rising S (kept .table) c)))
+causes-rising : (S : Sheet) (ps : List Placed) (kept : Office) (r : Invocation) → InBase r → Rising 7 (causesIn S ps kept r)
+causes-rising S ps kept (opening o) b = (omega arith, tt)
+causes-rising S ps kept (calling c) b = (omega arith, (omega arith, (omega arith, own-rising S (kept .table) c b)))
 
-first-lowest : (s : List ℕ) (kept : Office) (r : Invocation) (k : ℕ) → First (causesOf s kept r) k ↔ Lowest (causesOf s kept r) k
-first-lowest s kept r k = (
+first-lowest : (s : List ℕ) (kept : Office) (r : Invocation) → InBase r → (k : ℕ) → First (causesOf s kept r) k ↔ Lowest (causesOf s kept r) k
+first-lowest s kept r b k = (
   λ f. record { holds = first-holds (causesOf s kept r) k f; none-below = first-below 7 (causesOf s kept r) up k f },
   λ l. lowest-first 7 (causesOf s kept r) up k (l .holds) (l .none-below),
 )
   where
     up : Rising 7 (causesOf s kept r)
-    up = causes-rising (sheetOf s) (itemsOf s) kept r
+    up = causes-rising (sheetOf s) (itemsOf s) kept r b
 
 -- ---- what a request gives
 
 -- by the sheet's fault, or by the first of its tests
 data Served (s : List ℕ) (kept : Office) (r : Invocation) (g : Given) : Type 0 where
-  atSheet : (k at : ℕ) → readSheet s ≡ refused k at → g ≡ refusal k at kept → Served s kept r g
+  atSheet : (k at : ℕ) → readSheet s ≡ refused k at → g ≡ refusal k at (resultsLentTo r) kept → Served s kept r g
   atLent : (edition : ℕ) (ps : List Placed) (k : ℕ) → readSheet s ≡ opens edition ps → firstCause (testsIn (sheetRead edition ps) ps kept r) ≡ suc k
-      → g ≡ refusal (suc k) 0 kept → Served s kept r g
+      → g ≡ refusal (suc k) 0 (resultsLentTo r) kept → Served s kept r g
   done : (edition : ℕ) (ps : List Placed) → readSheet s ≡ opens edition ps → firstCause (testsIn (sheetRead edition ps) ps kept r) ≡ 0
       → g .number ≡ 0 → g .offset ≡ 0 → Served s kept r g
 
 module _ (s : List ℕ) (kept : Office) (r : Invocation) where
   by-first : (edition : ℕ) (ps : List Placed) → readSheet s ≡ opens edition ps → (G : Given) → G .number ≡ 0 → G .offset ≡ 0
-      → (k : ℕ) → firstCause (testsIn (sheetRead edition ps) ps kept r) ≡ k → Served s kept r (unlessRefused k kept G)
+      → (k : ℕ) → firstCause (testsIn (sheetRead edition ps) ps kept r) ≡ k → Served s kept r (unlessRefused k (resultsLentTo r) kept G)
   by-first edition ps e G n o zero c = done edition ps e c n o
   by-first edition ps e G n o (suc k) c = atLent edition ps k e c refl
 
@@ -252,7 +254,7 @@ module _ (s : List ℕ) (kept : Office) (r : Invocation) where
     at-0 (done edition ps e c n o) z = o
 
     -- a refusal has the lent bytes as they were, and no value
-    as-it-was : Served s kept r g → ¬ (g .number ≡ 0) → (k at : ℕ) × (g ≡ refusal k at kept)
+    as-it-was : Served s kept r g → ¬ (g .number ≡ 0) → (k at : ℕ) × (g ≡ refusal k at (resultsLentTo r) kept)
     as-it-was (atSheet j at e q) n = (j, at, q)
     as-it-was (atLent edition ps j e c q) n = (suc j, 0, q)
     as-it-was (done edition ps e c z o) n = absurd (n z)
@@ -286,7 +288,7 @@ call-accepted s kept c free = go (opens-faultless s .1 (free .sheet))
         → callRead (readSheet s) kept c ≡ effectOn (sheetOf s) kept (effect (sheetOf s) (decodeTable (kept .table)) c)
     go (edition, ps, e) =
         ap (λ q. callRead q kept c) e
-        ∙ ap (λ k. unlessRefused k kept (effectOn (sheetRead edition ps) kept (effect (sheetRead edition ps) (decodeTable (kept .table)) c)))
+        ∙ ap (λ k. unlessRefused k (resultsLent c) kept (effectOn (sheetRead edition ps) kept (effect (sheetRead edition ps) (decodeTable (kept .table)) c)))
         (tested-none (causesOf s kept (calling c)) _ (tested-read s kept (calling c) edition ps e) (free .lent))
         ∙ ap (λ S. effectOn S kept (effect S (decodeTable (kept .table)) c)) (sym (opens-sheet s edition ps e))
 
@@ -311,10 +313,10 @@ postable kind z n = go (postedValue kind z) refl (tells-posted kind z)
 -- What is demanded of a request.
 pub record TurnedBack (r : Invocation) (s : List ℕ) (kept : Office) : Type 0 where
   pub given : (k offset : ℕ) → ¬ (k ≡ 0) → ((serve r s kept .number ≡ k) × (serve r s kept .offset ≡ offset)) ↔ Refused s kept r k offset
-  pub lowest : (k : ℕ) → First (causesOf s kept r) k ↔ Lowest (causesOf s kept r) k
+  pub lowest : InBase r → (k : ℕ) → First (causesOf s kept r) k ↔ Lowest (causesOf s kept r) k
   pub accepted : (serve r s kept .number ≡ 0) ↔ NoCause s kept r
   pub offset-0 : serve r s kept .number ≡ 0 → serve r s kept .offset ≡ 0
-  pub left : ¬ (serve r s kept .number ≡ 0) → serve r s kept .after ≡ kept
+  pub left : ¬ (serve r s kept .number ≡ 0) → (serve r s kept .after ≡ kept) × (serve r s kept .results ≡ resultsLentTo r)
   pub no-value : ¬ (serve r s kept .number ≡ 0) → (serve r s kept .kind ≡ 0) × (serve r s kept .value ≡ pos 0)
 
 pub turned-back : (r : Invocation) (s : List ℕ) (kept : Office) → TurnedBack r s kept
@@ -324,7 +326,7 @@ turned-back r s kept =
       lowest = first-lowest s kept r;
       accepted = (to-none s kept r g is, from-none s kept r g is);
       offset-0 = at-0 s kept r g is;
-      left = λ n. ap (λ h. h .after) (as-it-was s kept r g is n .2);
+      left = λ n. let q = as-it-was s kept r g is n in (ap (λ h. h .after) (q .2), ap (λ h. h .results) (q .2));
       no-value = λ n. let q = as-it-was s kept r g is n in (ap (λ h. h .kind) (q .2), ap (λ h. h .value) (q .2));
     }
   where
@@ -354,6 +356,9 @@ lent-numbers s kept lent c = go (tells-eq (callOn s kept c .number) 0)
     own (step i) k (inr (n, inr f)) = absurd (f .1)
     own (ask i) k (inl f) = omega (arith, f .0)
     own (ask i) k (inr f) = absurd (f .1)
+    own (board items results) k (inl f) = omega (arith, f .0)
+    own (board items results) k (inr (n, inl f)) = omega (arith, f .0)
+    own (board items results) k (inr (n, inr f)) = absurd (f .1)
 
     past : (k : ℕ) → First (causesOf s kept (calling c)) k → 11 ≤ k
     past k (inl f) = absurd (lent .lent .0 (f .1))
@@ -369,3 +374,46 @@ lent-numbers s kept lent c = go (tells-eq (callOn s kept c .number) 0)
     go (holds e) = inl e
     go (fails n) =
         inr (refuse _ _ (turned-back (calling c) s kept .given (callOn s kept c .number) (callOn s kept c .offset) n .0 (refl, refl)))
+
+-- A board's own refusals, in their order.
+pub board-refuses : (s : List ℕ) (kept : Office) (items results : List ℕ) → BoardRefuses s kept items results
+board-refuses s kept items results =
+    record {
+      lists-17 = (λ e. lists (by-first 17 (omega arith) e), λ h. from-first 17 (omega arith) (h .0) (inl (refl, h .1)));
+      item-11 = (λ e. item (by-first 11 (omega arith) e), λ h. from-first 11 (omega arith) (h .0) (inr (h .1, inl (refl, h .2))));
+    }
+  where
+    c : Call
+    c = board items results
+
+    Own : ℕ → Type 0
+    Own k = First (ownCauses (sheetOf s) (kept .table) c) k
+
+    -- a number of the call's own comes after those of what is lent
+    past : (k : ℕ) → 10 < k → Faultless s → First (causesOf s kept (calling c)) k → AcceptedLent s kept × Own k
+    past k h sound (inl f) = absurd (omega (arith, f .0))
+    past k h sound (inr (n, inl f)) = absurd (omega (arith, f .0))
+    past k h sound (inr (n, inr (m, inl f))) = absurd (omega (arith, f .0))
+    past k h sound (inr (n, inr (m, inr (o, f)))) = (record { sheet = sound; lent = (n, (m, (o, tt))) }, f)
+
+    by-first : (k : ℕ) → 10 < k → callOn s kept c .number ≡ k → AcceptedLent s kept × Own k
+    by-first k h e = go (turned-back (calling c) s kept .given k _ (λ z. omega arith) .0 (e, refl))
+      where
+        go : {offset : ℕ} → Refused s kept (calling c) k offset → AcceptedLent s kept × Own k
+        go {offset} (bySheet f) = absurd (omega (arith, refused-number s k offset (refused-exactly s k offset .1 f)))
+        go (byLent f q z) = past k h f q
+
+    from-first : (k : ℕ) → 10 < k → AcceptedLent s kept → Own k → callOn s kept c .number ≡ k
+    from-first k h lent f =
+        let all = lent .lent in
+        turned-back (calling c) s kept .given k 0 (λ z. omega arith) .1 (byLent (lent .sheet) (inr (all .0, inr (all .1 .0, inr (all .1 .1 .0, f)))) refl) .0
+
+    lists : AcceptedLent s kept × Own 17 → AcceptedLent s kept × ListsWrong items results
+    lists (lent, inl f) = (lent, f .1)
+    lists (lent, inr (n, inl f)) = absurd (omega (arith, f .0))
+    lists (lent, inr (n, inr f)) = absurd (f .1)
+
+    item : AcceptedLent s kept × Own 11 → AcceptedLent s kept × (¬ ListsWrong items results) × SomeNoItem (sheetOf s) items
+    item (lent, inl f) = absurd (omega (arith, f .0))
+    item (lent, inr (n, inl f)) = (lent, n, f .1)
+    item (lent, inr (n, inr f)) = absurd (f .1)

@@ -4,7 +4,7 @@
 use Prim.Native.Nat.{ℕ, _*_, _<_}
 use mathlib.Core.Path.{_≡_}
 use mathlib.Core.Bool.{true}
-use mathlib.Core.List.{List, [], _∷_, _++_}
+use mathlib.Core.List.{List, [], _∷_, _++_, map}
 use lib.IntN.{ℤ, pos}
 use lib.ListN.{length, getD}
 use Rattle.circuit.specs.Value.{Value, kindOf, numberOf}
@@ -24,7 +24,7 @@ use Rattle.layout.specs.Index.{indexWidth, le32At}
 use Rattle.table.specs.Rows.{row}
 use Rattle.table.specs.Record.{width, kindIn, markIn, numberIn}
 use Rattle.table.specs.Bytes.{encodeTable, decodeTable}
-use Rattle.office.specs.Office.{Office, Given, callOn, resultOf, resultsOf}
+use Rattle.office.specs.Office.{Office, Given, callOn, runOn, resultOf, resultsOf}
 use Rattle.office.specs.Demand1Words.{AcceptedLent}
 
 -- ---- what a call answers
@@ -104,7 +104,7 @@ abbrev pub StoredRight : List ℕ → List ℕ → (ℕ → Value) → Type 0
 StoredRight s t values =
     (k : ℕ) → k < size (sheetOf s) → isFigure (itemAt (sheetOf s) k) ≡ true → ¬ (kindIn (row width t k) ≡ 0) → Stores t k (values k)
 
--- Ask answers, and keep stores, these values; and so does every figure that is stored on the way.
+-- Ask answers, keep stores, and a board shows these values; and so does every figure that is stored on the way.
 pub record Gives (s : List ℕ) (o : Office) (values : ℕ → Value) : Type 0 where
   pub asked : (i : ℕ) → i < size (sheetOf s) → answerOf (callOn s o (ask i)) ≡ reading (values i)
   pub asked-stored : (i : ℕ) → i < size (sheetOf s) → StoredRight s (callOn s o (ask i) .after .table) values
@@ -112,6 +112,8 @@ pub record Gives (s : List ℕ) (o : Office) (values : ℕ → Value) : Type 0 w
       → let g : Given = callOn s o (keep i) in (g .number ≡ 0) × Stores (g .after .table) i (values i)
   pub kept-stored : (i : ℕ) → i < size (sheetOf s) → isFigure (itemAt (sheetOf s) i) ≡ true
       → StoredRight s (callOn s o (keep i) .after .table) values
+  pub shown : (items results : List ℕ) → let g : Given = callOn s o (board items results) in g .number ≡ 0 → g .results ≡ resultsOf (map values (listed items))
+  pub shown-stored : (items results : List ℕ) → let g : Given = callOn s o (board items results) in g .number ≡ 0 → StoredRight s (g .after .table) values
 
 -- ---- the table
 
@@ -194,3 +196,6 @@ pub record CallsLeave (s : List ℕ) (o : Office) : Type 0 where
   -- 02's "Values and work table are those of asking for them one after another"
   pub board-asks : (items results : List ℕ) → let g : Given = callOn s o (board items results) in
       g .number ≡ 0 → Asks s o (listed items) (g .results) (g .after)
+  -- 02's "For the two offices an accepted board counts as those asks"
+  pub board-counts : (items results : List ℕ) → callOn s o (board items results) .number ≡ 0
+      → (cs : List Call) → runOn s o (board items results ∷ cs) ≡ runOn s o (map ask (listed items) ++ cs)

@@ -1,0 +1,208 @@
+-- A board on lent bytes: what it leaves, and that it is the asks for its items one after another. Assumes that what is lent is
+-- accepted and that the table is bytes.
+use Prim.Native.Nat.{ℕ, _*_}
+use native.Mathlib.Omega.{arith}
+use mathlib.Core.Path.{_≡_, refl, sym, ap, _∙_, subst}
+use mathlib.Core.Bool.{Bool, true, false, cond, not}
+use mathlib.Core.List.{List, [], _∷_, _++_, map}
+use mathlib.Core.Logic.{_⊎_, inl, inr}
+use lib.ListN.{length}
+use Rattle.circuit.specs.Value.{kindOf, numberOf}
+use Rattle.circuit.specs.Sheet.{Sheet, Ordered, size, beyond}
+use Rattle.circuit.specs.Table.{Table}
+use Rattle.circuit.specs.Machine.{Looked, Gathered, gather, lookUp, catchUp}
+use Rattle.circuit.specs.Call.{Call, ask, board}
+use Rattle.circuit.specs.Board.{listed, listsOff, listsWrong}
+use Rattle.circuit.specs.Calls.{firstCause, tests, someNoItem, showItems, readingOf, effect, perform}
+use Rattle.circuit.specs.Words.{Quiet, CaughtUp}
+use Rattle.circuit.proofs.RuleLaws.{or-false}
+use Rattle.circuit.proofs.CatchUp.{look-quiet, catchUp-quiet, catchUp-still, catchUp-ends}
+use Rattle.circuit.proofs.Accepted.{number-cause, accepted-effect, board-passed}
+use Rattle.layout.specs.Read.{Placed, opens, readSheet}
+use Rattle.layout.specs.Opened.{sheetOf, sheetRead, itemsOf, placedFrom}
+use Rattle.layout.specs.Index.{indexBytes}
+use Rattle.layout.proofs.Scan.{opened-ordered}
+use Rattle.layout.proofs.IndexLaws.{index-length}
+use Rattle.layout.proofs.Tests.{Tells, holds, fails, tells-eq}
+use Rattle.layout.proofs.Causes.{opens-faultless}
+use Rattle.word.specs.Word.{Bytes}
+use Rattle.item.specs.Offsets.{sameBytes}
+use Rattle.item.proofs.Offsets.{same-refl, same-equal}
+use Rattle.table.specs.Record.{width}
+use Rattle.table.specs.Bytes.{encodeTable, decodeTable, tableForm, Holdable}
+use Rattle.table.proofs.Tables.{encode-decodeTable, decoded-holdable}
+use Rattle.office.specs.Office.{Office, keeping, Given, resultsLent, resultOf, resultsOf, callOn, runOn}
+use Rattle.office.specs.Demand1Words.{IndexNotAsOpened, AcceptedLent}
+use Rattle.office.specs.Demand2Words.{BoardLeaves, Asks, no-more, then-ask}
+use Rattle.office.proofs.Holdable.{perform-holdable}
+use Rattle.office.proofs.Bridge.{Within, perform-within, decoded-beyond, givenBy, call-performs}
+use Rattle.office.proofs.Agreeing.{at, sized}
+use Rattle.office.proofs.Refusals.{opens-sheet, unbroken-form}
+
+-- an ask of which is known what it gives, and the asks after it
+ask-then : (s : List ℕ) (o p : Office) (i : ℕ) (is rest : List ℕ) (g : Given) → callOn s o (ask i) ≡ g → g .number ≡ 0
+    → Asks s (g .after) is rest p → Asks s o (i ∷ is) (resultOf (g .kind) (g .value) ++ rest) p
+ask-then s o p i is rest g e =
+    subst (λ h. h .number ≡ 0 → Asks s (h .after) is rest p → Asks s o (i ∷ is) (resultOf (h .kind) (h .value) ++ rest) p) e (λ n a. then-ask n a)
+
+-- a list of calls that begins with the asks
+asks-run : (s : List ℕ) (cs : List Call) {o p : Office} {is results : List ℕ} → Asks s o is results p → runOn s o (map ask is ++ cs) ≡ runOn s p cs
+unfolding runOn
+asks-run s cs no-more = refl
+asks-run s cs (then-ask z rest) = asks-run s cs rest
+
+-- Calls on an index and the encoding of a table are the machine's.
+module _ (s x : List ℕ) (S : Sheet) (ordered : Ordered S)
+    (performs : (T : Table) (c : Call) → Holdable S T → Within S T → callOn s (keeping x (encodeTable S T)) c ≡ givenBy S x (resultsLent c) (perform S T c)) where
+  abbrev office : Table → Office
+  office T = keeping x (encodeTable S T)
+
+  abbrev lookedUp : Table → ℕ → Looked
+  lookedUp T i = lookUp S (catchUp S T) i
+
+  -- an ask for an item of the sheet
+  asked : (T : Table) (i : ℕ) → beyond S i ≡ false → perform S T (ask i) ≡ readingOf (lookedUp T i)
+  unfolding tests firstCause effect
+  asked T i low = accepted-effect S T (ask i) (rw low)
+
+  -- One ask, and those after it on the table that it leaves.
+  ask-first : (T : Table) → Holdable S T → Within S T → (i : ℕ) → beyond S i ≡ false → (is rest : List ℕ) (p : Office)
+      → (let U : Table = lookedUp T i .table in Holdable S U → Within S U → Quiet S U → Asks s (office U) is rest p)
+      → Asks s (office T) (i ∷ is) (resultOf (kindOf (lookedUp T i .value)) (numberOf (lookedUp T i .value)) ++ rest) p
+  ask-first T h w i low is rest p later =
+      ask-then s (office T) p i is rest (givenBy S x [] (readingOf (lookedUp T i)))
+      (performs T (ask i) h w ∙ ap (givenBy S x []) (asked T i low)) refl
+      (later (subst (λ o. Holdable S (o .table)) (asked T i low) (perform-holdable S ordered T (ask i) h))
+      (subst (λ o. Within S (o .table)) (asked T i low) (perform-within S ordered T (ask i) w))
+      (look-quiet S ordered (catchUp S T) i (catchUp-quiet S ordered T)))
+
+  -- asks on a table without a mark: nothing is stepped
+  asks-quiet : (is : List ℕ) (T : Table) → Holdable S T → Within S T → Quiet S T → someNoItem S is ≡ false
+      → Asks s (office T) is (resultsOf (gather (lookUp S) T is .values)) (office (gather (lookUp S) T is .table))
+  unfolding gather someNoItem resultsOf
+  asks-quiet [] T h w quiet e = no-more
+  asks-quiet (i ∷ is) T h w quiet e =
+      let parts = or-false (beyond S i) (someNoItem S is) e in
+      let shown : Table → Gathered = λ C. gather (lookUp S) C (i ∷ is) in
+      subst (λ C. Asks s (office T) (i ∷ is) (resultsOf (shown C .values)) (office (shown C .table))) (catchUp-still S ordered T quiet)
+      (ask-first T h w i (parts .0) is _ _ (λ g v q. asks-quiet is (lookedUp T i .table) g v q (parts .1)))
+
+  -- asks for the items of a board are the board
+  asks-shown : (is : List ℕ) (T : Table) → Holdable S T → Within S T → someNoItem S is ≡ false
+      → Asks s (office T) is (resultsOf (showItems S T is .shown)) (office (showItems S T is .table))
+  unfolding gather someNoItem resultsOf
+  asks-shown [] T h w e = no-more
+  asks-shown (i ∷ is) T h w e =
+      let parts = or-false (beyond S i) (someNoItem S is) e in
+      ask-first T h w i (parts .0) is _ _ (λ g v q. asks-quiet is (lookedUp T i .table) g v q (parts .1))
+
+  -- an accepted board, by its items
+  board-given : (T : Table) (items results : List ℕ) → Holdable S T → Within S T → callOn s (office T) (board items results) .number ≡ 0
+      → (firstCause (tests S T (board items results)) ≡ 0) × (callOn s (office T) (board items results) ≡ givenBy S x results (showItems S T (listed items)))
+  unfolding effect
+  board-given T items results h w z =
+      let same = performs T (board items results) h w in
+      let free = number-cause S T (board items results) (ap (λ g. g .number) (sym same) ∙ z) in
+      (free, same ∙ ap (givenBy S x results) (accepted-effect S T (board items results) free))
+
+  board-asks-at : (T : Table) (items results : List ℕ) → Holdable S T → Within S T → callOn s (office T) (board items results) .number ≡ 0
+      → let g : Given = callOn s (office T) (board items results) in Asks s (office T) (listed items) (g .results) (g .after)
+  board-asks-at T items results h w z =
+      let given = board-given T items results h w z in
+      subst (λ g. Asks s (office T) (listed items) (g .results) (g .after)) (sym (given .1))
+      (by-items (listed items) (board-passed S T items results (given .0)))
+    where
+      by-items : (is : List ℕ) → someNoItem S is ≡ false
+          → let g : Given = givenBy S x results (showItems S T is) in Asks s (office T) is (g .results) (g .after)
+      by-items [] e = asks-shown [] T h w e
+      by-items (i ∷ is) e = asks-shown (i ∷ is) T h w e
+
+  board-leaves-at : (T : Table) (items results : List ℕ) → Holdable S T → Within S T → decodeTable (encodeTable S T) ≡ T
+      → callOn s (office T) (board items results) .number ≡ 0 → BoardLeaves S (office T) items (callOn s (office T) (board items results))
+  unfolding listed tests firstCause listsOff resultsOf
+  board-leaves-at T items results h w again z =
+      let given = board-given T items results h w z in
+      subst (BoardLeaves S (office T) items) (sym (given .1)) (by-items items (given .0))
+    where
+      caught : CaughtUp S (decodeTable (encodeTable S T)) (catchUp S T)
+      caught = rw again (catchUp-ends S ordered T)
+
+      by-items : (bs : List ℕ) → firstCause (tests S T (board bs results)) ≡ 0 → BoardLeaves S (office T) bs (givenBy S x results (showItems S T (listed bs)))
+      by-items [] e = record { empty = λ q. (refl, refl); caught-up = catchUp S T; catches = caught; shows = λ n. absurd (n refl) }
+      by-items (low ∷ []) e = absurd (omega arith)
+      by-items (low ∷ high ∷ bs) e =
+          record { empty = λ q. let bad : _≡_ {A = ℕ} 0 1 = cc in absurd (omega arith); caught-up = catchUp S T; catches = caught; shows = λ n. (refl, refl) }
+
+-- What is accepted is the index of the sheet and the encoding of a table.
+accepted-index : (ps : List Placed) (x : List ℕ) → ¬ IndexNotAsOpened ps x → x ≡ indexBytes ps
+accepted-index ps x n = go (sameBytes x (indexBytes ps)) refl
+  where
+    go : (b : Bool) → sameBytes x (indexBytes ps) ≡ b → x ≡ indexBytes ps
+    go true e = same-equal x (indexBytes ps) e
+    go false e = absurd (n (λ q. let z : sameBytes x (indexBytes ps) ≡ true = ap (sameBytes x) (sym q) ∙ same-refl x in let bad : _≡_ {A = ℕ} 0 1 = cc in omega arith))
+
+module _ (s : List ℕ) (kept : Office) (lent : AcceptedLent s kept) (bytes : Bytes (kept .table)) (items results : List ℕ)
+    (accepted : callOn s kept (board items results) .number ≡ 0) where
+  abbrev T : Table
+  T = decodeTable (kept .table)
+
+  form : tableForm (sheetOf s) (kept .table) ≡ true
+  form = unbroken-form (sheetOf s) (kept .table) (lent .lent .1 .1 .0)
+
+  long : length (kept .table) ≡ width * size (sheetOf s)
+  long = go (tells-eq (length (kept .table)) (width * size (sheetOf s)))
+    where
+      go : {b : Bool} → Tells (length (kept .table) ≡ width * size (sheetOf s)) b → length (kept .table) ≡ width * size (sheetOf s)
+      go (holds e) = e
+      go (fails n) = absurd (lent .lent .0 (inr n))
+
+  encoded : encodeTable (sheetOf s) T ≡ kept .table
+  encoded = encode-decodeTable (sheetOf s) (kept .table) bytes long form
+
+  within : Within (sheetOf s) T
+  within = decoded-beyond (sheetOf s) (kept .table) long
+
+  holdable : Holdable (sheetOf s) T
+  holdable = decoded-holdable (sheetOf s) (kept .table) form
+
+  -- the calls are the machine's
+  bridged : (edition : ℕ) (ps : List Placed) (reads : readSheet s ≡ opens edition ps) (U : Table) (c : Call) → Holdable (sheetOf s) U → Within (sheetOf s) U
+      → callOn s (keeping (indexBytes ps) (encodeTable (sheetOf s) U)) c ≡ givenBy (sheetOf s) (indexBytes ps) (resultsLent c) (perform (sheetOf s) U c)
+  bridged edition ps reads =
+      subst (λ S. (U : Table) (c : Call) → Holdable S U → Within S U → callOn s (keeping (indexBytes ps) (encodeTable S U)) c ≡ givenBy S (indexBytes ps) (resultsLent c) (perform S U c))
+      (sym (opens-sheet s edition ps reads))
+      (call-performs s edition ps reads (index-length ps) (sized s edition ps reads) (opened-ordered s edition ps reads))
+
+  lent-is : (ps : List Placed) → itemsOf s ≡ ps → keeping (indexBytes ps) (encodeTable (sheetOf s) T) ≡ kept
+  lent-is ps e = λ i. keeping (sym (accepted-index (itemsOf s) (kept .index) (lent .lent .1 .0) ∙ ap indexBytes e) i) (encoded i)
+
+  ordered : (edition : ℕ) (ps : List Placed) → readSheet s ≡ opens edition ps → Ordered (sheetOf s)
+  ordered edition ps reads = subst Ordered (sym (opens-sheet s edition ps reads)) (opened-ordered s edition ps reads)
+
+  pub board-asks : let g : Given = callOn s kept (board items results) in Asks s kept (listed items) (g .results) (g .after)
+  unfolding itemsOf
+  board-asks = go (opens-faultless s .1 (lent .sheet))
+    where
+      go : (edition : ℕ) × (ps : List Placed) × (readSheet s ≡ opens edition ps)
+          → let g : Given = callOn s kept (board items results) in Asks s kept (listed items) (g .results) (g .after)
+      go (edition, ps, reads) =
+          let o = lent-is ps (ap placedFrom reads) in
+          subst (λ k. Asks s k (listed items) (callOn s k (board items results) .results) (callOn s k (board items results) .after)) o
+          (board-asks-at s (indexBytes ps) (sheetOf s) (ordered edition ps reads) (bridged edition ps reads) T items results holdable within
+          (subst (λ k. callOn s k (board items results) .number ≡ 0) (sym o) accepted))
+
+  pub board-leaves : BoardLeaves (sheetOf s) kept items (callOn s kept (board items results))
+  unfolding itemsOf
+  board-leaves = go (opens-faultless s .1 (lent .sheet))
+    where
+      go : (edition : ℕ) × (ps : List Placed) × (readSheet s ≡ opens edition ps) → BoardLeaves (sheetOf s) kept items (callOn s kept (board items results))
+      go (edition, ps, reads) =
+          let o = lent-is ps (ap placedFrom reads) in
+          subst (λ k. BoardLeaves (sheetOf s) k items (callOn s k (board items results))) o
+          (board-leaves-at s (indexBytes ps) (sheetOf s) (ordered edition ps reads) (bridged edition ps reads) T items results holdable within
+          (ap decodeTable encoded) (subst (λ k. callOn s k (board items results) .number ≡ 0) (sym o) accepted))
+
+  -- and it counts as the asks in a list of calls
+  pub board-counts : (cs : List Call) → runOn s kept (board items results ∷ cs) ≡ runOn s kept (map ask (listed items) ++ cs)
+  unfolding runOn
+  board-counts cs = sym (asks-run s cs board-asks)
