@@ -12,6 +12,12 @@ use borrow.Author.Needs.{needs}
 use Rattle.call_board.proofs.show.Statement.{statement}
 use Rattle.call_board.proofs.show.Tie as tie
 
+returns : tie.Need-returns
+returns c =
+    let u = c .before .before .before .before .before .before .before .before .before .before .before .before .before .before .before in
+    let a = u .before .before .before .before .before .before .before .before .before .args in
+    shown-caught (a .sheet .now) _ _ (u .catch-up .ensures .table-is) (listed (a .items .now)) (c .before .before .before .before .before .before .show-each .ensures)
+
 catch-up-requires : tie.Need-catch-up-requires
 unfolding mostItems itemLimit
 catch-up-requires c κs =
@@ -27,12 +33,6 @@ show-each-requires c κs =
     let u = c .before .before .before .before .before .before .before .before .catch-up in
     let ready = fresh-ready (a .sheet .now) (replicate mostItems 0) (replicate mostItems (pos 0)) refl refl (same-all 0 mostItems) in
     (lent-on (p .0) _ (u .kept .1 .1 .0) (u .ensures .formed), (caught-memo ready (p .1 .0) _ _ (u .kept .1 .1 .1 .0) (u .kept .1 .1 .1 .1 .0) (u .ensures) _, p .1 .1))
-
-returns : tie.Need-returns
-returns c =
-    let u = c .before .before .before .before .before .before .before .before .before .before .before .before .before .before .before in
-    let a = u .before .before .before .before .before .before .before .before .before .args in
-    shown-caught (a .sheet .now) _ _ (u .catch-up .ensures .table-is) (listed (a .items .now)) (c .before .before .before .before .before .before .show-each .ensures)
 
 pub show-spec : {M : Type 1} → statement M
 show-spec =
