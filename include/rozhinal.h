@@ -1,5 +1,5 @@
 /*
- * Rozhinal 1.0.0: an engine for quota ledgers.
+ * Rozhinal 1.1.0: an engine for quota ledgers.
  *
  * A sheet is a circuit of items. An entry is posted; a figure is worked out from earlier items, its
  * parents, by one of eight rules. The caller lends three slices of bytes to each call:
@@ -45,9 +45,9 @@ extern "C" {
 #endif
 
 #define ROZHINAL_VERSION_MAJOR 1
-#define ROZHINAL_VERSION_MINOR 0
+#define ROZHINAL_VERSION_MINOR 1
 #define ROZHINAL_VERSION_PATCH 0
-#define ROZHINAL_VERSION "1.0.0"
+#define ROZHINAL_VERSION "1.1.0"
 
 /* ---- Limits ---------------------------------------------------------------------------------- */
 

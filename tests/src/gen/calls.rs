@@ -68,7 +68,7 @@ pub fn other_call(rng: &mut Rng, items: &[Item], table: &[u8]) -> Call {
     }
 }
 
-/// Any of the five calls, refused ones included.
+/// Any of 01's five calls, refused ones included.
 pub fn any_call(rng: &mut Rng, items: &[Item], table: &[u8], numbers: Numbers) -> Call {
     match rng.below(100) {
         0..=27 => good_post(rng, items, numbers),

@@ -1,4 +1,4 @@
-//! The openings and the five calls on bytes, with their refusals.
+//! The openings and 01's five calls on bytes, with their refusals.
 
 use super::machine::Machine;
 use super::sheet::{index_of, read_sheet, Fault, Item};
@@ -94,7 +94,7 @@ fn posted(kind: u64, number: i64) -> Result<Value, Fault> {
     }
 }
 
-/// One of the five calls. A refused call leaves every lent byte.
+/// One of 01's five calls. A refused call leaves every lent byte.
 pub fn call(call: &Call, sheet: &[u8], index: &[u8], table: &mut [u8]) -> Reply {
     match accepted_call(call, sheet, index, table) {
         Err(fault) => refused(fault),
