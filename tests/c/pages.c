@@ -70,6 +70,7 @@ static void run(int at_end)
     require(rozhinal_board(LENT, beyond, 2 * LISTED, results, 9 * LISTED).number == 11, "item 5");
     require(rozhinal_board(LENT, items, 2 * LISTED - 1, results, 9 * LISTED).number == 17, "odd");
     require(rozhinal_board(LENT, items, 0, results, 0).number == 0, "an empty board");
+    require(rozhinal_ask(LENT, 4).value == 700, "ask");
     require(rozhinal_ask(LENT, ITEMS).number == 11, "a refused ask");
     require(rozhinal_print(ROZHINAL_NUMBER, -7, scratch, ROZHINAL_PRINT_BYTES) == 2, "print");
 }

@@ -127,6 +127,7 @@ fn show(
     );
 }
 
+// The board on what was admitted: its own tests, and then the results and the table.
 fn board_lent(
     sheet: &[u8],
     offsets: &[usize],
@@ -151,6 +152,7 @@ fn board_lent(
     admission::give(0, 0)
 }
 
+// Shows the items of a list: 1 to 10, then 17, then 11, then the values.
 pub fn board(
     sheet: &[u8],
     index: &[u8],

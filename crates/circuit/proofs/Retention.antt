@@ -5,11 +5,12 @@ use Prim.Native.Nat.{ℕ, zero, suc, _<_}
 use mathlib.Core.Path.{_≡_, refl, sym, ap, subst, _∙_}
 use mathlib.Core.Bool.{Bool, true, false, _||_}
 use mathlib.Core.List.{List, [], _∷_, _++_, map}
+use mathlib.Core.Logic.{_↔_}
 use mathlib.Core.Option.{Option, none, some}
 use native.Mathlib.Omega.{arith}
 use lib.Dec.{eqb}
 use lib.IntN.{ℤ}
-use borrow.Author.Tests.{eqb-false}
+use borrow.Author.Tests.{eqb-true, eqb-false, eq-eqb}
 use Rattle.circuit.specs.Value.{Value, null}
 use Rattle.circuit.specs.Circuit.{IsSolution, Listed, LeadsTo, direct, further}
 use Rattle.circuit.specs.Sheet.{Sheet, Item, entry, figure, itemAt, isFigure, size, parents, Ordered, Entries, circuitOf, evaluate}
@@ -276,6 +277,18 @@ module _ (S : Sheet) (ordered : Ordered S) (e : ℕ) (E : Entries) (m : ℕ → 
             rest .stored k low outside (or-false (drops c k) (droppedIn cs k) d .1)
             (first .stored k low outside (or-false (drops c k) (droppedIn cs k) d .0) h);
       }
+
+-- a figure is dropped by a drop of it, and by no other call
+pub drop-words : (c : Call) (k : ℕ) → (drops c k ≡ true) ↔ (c ≡ drop k)
+drop-words c k = (is-drop c, λ e. subst (λ d. drops d k ≡ true) (sym e) (eq-eqb k k refl))
+  where
+    is-drop : (d : Call) → drops d k ≡ true → d ≡ drop k
+    is-drop (post i kind z) h = cc
+    is-drop (keep i) h = cc
+    is-drop (drop i) h = ap drop (sym (eqb-true k i h))
+    is-drop (step i) h = cc
+    is-drop (ask i) h = cc
+    is-drop (board items results) h = cc
 
 stored-entry : (it : Item) (c : Cell) → cellForm it c ≡ true → isFigure it ≡ false → isStored c ≡ true
 stored-entry entry (unk f) h g = let bad : _≡_ {A = ℕ} 0 1 = cc in absurd (omega arith)

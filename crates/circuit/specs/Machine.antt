@@ -181,8 +181,8 @@ unfoldable pub lowestMarked : Table → ℕ → Option ℕ
 lowestMarked T zero = none
 lowestMarked T (suc k) = orNext (lowestMarked T k) (isMarked (T k)) k
 
--- 01's "catching up" within an ask (and 02's within a board): the lowest marked item is stepped until none is marked. The number bounds how often;
--- that no item is marked afterwards shows that it never is the reason to stop.
+-- 01's "catching up" within an ask, and 02's within a board: the lowest marked item is stepped until none is marked. The number
+-- bounds how often; that no item is marked afterwards shows that it never is the reason to stop.
 abbrev pub stepLowest : (Table → Table) → Sheet → Table → Option ℕ → Table
 stepLowest next S T none = T
 stepLowest next S T (some i) = next (stepItem S T i)

@@ -1,8 +1,10 @@
 -- The three demands hold. Assumes nothing.
+use Rattle.circuit.specs.Call.{board}
 use Rattle.circuit.proofs.Equations.{equations}
+use Rattle.circuit.proofs.Retention.{drop-words}
 use Rattle.circuit.proofs.Board.{listed-count, listed-at}
 use Rattle.office.specs.Demands.{Refuses, Means, Agrees, Demands}
-use Rattle.office.proofs.Refusals.{turned-back, board-refuses}
+use Rattle.office.proofs.Refusals.{turned-back, board-refuses, accepted-lent}
 use Rattle.office.proofs.Examples.{each-given}
 use Rattle.office.proofs.Words.{sheet-words}
 use Rattle.office.proofs.Meaning.{opens-exactly, opening-writes, fits-sheet, one-layout, accepted-opened, bare-unstored, gives-solution}
@@ -49,7 +51,8 @@ agrees =
     record {
       agree = offices-agree;
       retained = λ s o how e. offices-retain s o how e;
-      counts = λ s o bytes lent items results e cs. board-counts s o lent bytes items results e cs;
+      dropped = drop-words;
+      counts = λ s o bytes items results e cs. board-counts s o (accepted-lent s o (board items results) e) bytes items results e cs;
       never-refused = λ s o how e cs. office-accepted s o how e cs;
     }
 

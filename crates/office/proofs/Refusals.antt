@@ -336,6 +336,12 @@ turned-back r s kept =
     is : Served s kept r g
     is = served s kept r
 
+-- what is lent with an accepted call is accepted
+pub accepted-lent : (s : List ℕ) (kept : Office) (c : Call) → callOn s kept c .number ≡ 0 → AcceptedLent s kept
+accepted-lent s kept c z =
+    let free = turned-back (calling c) s kept .accepted .0 z in
+    record { sheet = free .sheet; lent = (free .lent .0, (free .lent .1 .0, (free .lent .1 .1 .0, tt))) }
+
 -- What is lent is accepted: a call has number 0, or one of its own causes.
 pub lent-numbers : (s : List ℕ) (kept : Office) → AcceptedLent s kept → (c : Call) → (callOn s kept c .number ≡ 0) ⊎ (11 ≤ callOn s kept c .number)
 lent-numbers s kept lent c = go (tells-eq (callOn s kept c .number) 0)

@@ -1,6 +1,6 @@
--- The three demands of document 01, with 02's board, a record for each, in its order. They are demands on `openOn` and `callOn` (Office), which the
--- contracts of the exported functions cite: a function gives and leaves exactly what these say, for all lent bytes. That every call
--- ends and touches only what it was lent is proved of each function by the language. Assumes nothing.
+-- The three demands of document 01, with 02's board, a record for each, in its order. They are demands on `openOn` and `callOn`
+-- (Office), which the contracts of the exported functions cite: a function gives and leaves exactly what these say, for all lent bytes.
+-- That every call ends and touches only what it was lent is proved of each function by the language. Assumes nothing.
 use Prim.Native.Nat.{ℕ}
 use mathlib.Core.Path.{_≡_}
 use mathlib.Core.Bool.{true}
@@ -9,7 +9,8 @@ use mathlib.Core.Logic.{_↔_}
 use lib.IntN.{pos}
 use Rattle.circuit.specs.Value.{Value, kindOf, numberOf, wellFormed}
 use Rattle.circuit.specs.Equations.{Equations}
-use Rattle.circuit.specs.Call.{Call, board, Opening, bare}
+use Rattle.circuit.specs.Call.{Call, drop, board, Opening, bare}
+use Rattle.circuit.specs.Calls.{drops}
 use Rattle.field.specs.Field.{Bytes}
 use Rattle.layout.specs.Layout.{machineSheet}
 use Rattle.layout.specs.Opened.{sheetOf}
@@ -75,9 +76,11 @@ pub record Agrees : Type 0 where
       → SameAnswers s (openOn first s o .after) cs (openOn second s p .after) ds
   -- And after a quiet table and one accepted post, what that entry does not lead to stays stored with its value.
   pub retained : (s : List ℕ) (o : Office) (how : Opening) → openOn how s o .number ≡ 0 → Retains s (openOn how s o .after)
-  -- In such a list an accepted board counts as the asks for its items.
-  pub counts : (s : List ℕ) (o : Office) → Bytes (o .table) → AcceptedLent s o → (items results : List ℕ)
-      → callOn s o (board items results) .number ≡ 0 → (cs : List Call) → CountsAsAsks s o items results cs
+  -- A call drops a figure exactly if it is a drop that names it.
+  pub dropped : (c : Call) (k : ℕ) → (drops c k ≡ true) ↔ (c ≡ drop k)
+  -- In a list of calls an accepted board counts as the asks for its items.
+  pub counts : (s : List ℕ) (o : Office) → Bytes (o .table) → (items results : List ℕ) → callOn s o (board items results) .number ≡ 0
+      → (cs : List Call) → CountsAsAsks s o items results cs
   -- no list leads to a refusal of index or table
   pub never-refused : (s : List ℕ) (o : Office) (how : Opening) → openOn how s o .number ≡ 0
       → (cs : List Call) → OfficeAccepted s (openOn how s o .after) cs
