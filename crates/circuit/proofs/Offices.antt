@@ -8,7 +8,8 @@ use mathlib.Core.List.{List, [], _∷_, _++_, map}
 use mathlib.Core.Option.{Option, none, some}
 use borrow.Author.Tests.{leb-false}
 use Rattle.circuit.specs.Value.{Value}
-use Rattle.circuit.specs.Sheet.{Sheet, size, itemAt, beyond, isFigure, Ordered, Entries}
+use Rattle.circuit.specs.Circuit.{IsSolution}
+use Rattle.circuit.specs.Sheet.{Sheet, size, itemAt, beyond, isFigure, Ordered, Entries, circuitOf}
 use Rattle.circuit.specs.Table.{Table, opened}
 use Rattle.circuit.specs.Machine.{lookUp, catchUp}
 use Rattle.circuit.specs.Call.{Call, post, keep, drop, step, ask, board, Posting, Opening, bare, full}
@@ -17,7 +18,6 @@ use Rattle.circuit.specs.Calls.{Outcome, tests, firstCause, isNone, some
 use Rattle.circuit.specs.Fresh.{called, blank, setEntry, hear, hearAll, give, freshAsk, valuesWith, freshAsks, freshRun}
 use Rattle.circuit.proofs.Solution.{give-solves}
 use Rattle.circuit.proofs.Fresh.{setIf, hear-post}
-use Rattle.circuit.proofs.View.{view}
 use Rattle.circuit.proofs.Fill.{look-right, looks-right}
 use Rattle.circuit.proofs.CatchUp.{catchUp-quiet}
 use Rattle.circuit.proofs.Reading.{quiet-look}
@@ -89,11 +89,18 @@ fresh-entered S (c ∷ cs) E T =
     ∙ ap (λ F. entered F (postings S (perform S T c .table) cs)) (hear-made S E T c)
     ∙ sym (entered-append (postingsMade S T c) (postings S (perform S T c .table) cs) E)
 
--- what a look-up gives after catching up on a sound table
-caught-value : (S : Sheet) → Ordered S → (E : Entries) (T : Table) → Sound S E T → (i : ℕ) → i < size S → lookUp S (catchUp S T) i .value ≡ give S E i
-caught-value S ordered E T sound i low =
-    let caught = catchUp-sound S ordered E T sound in
-    quiet-look S ordered E (give S E) (give-solves S ordered E) (catchUp S T) (caught .invariant) (caught .formed) (caught .holds) (catchUp-quiet S ordered T) i low
+-- What is looked up after catching up on a sound table, and what a board shows, are the solution's values.
+module _ (S : Sheet) (ordered : Ordered S) (E : Entries) (values : ℕ → Value) (solves : IsSolution (circuitOf S) E values) (T : Table) (sound : Sound S E T) where
+  pub caught-value : (i : ℕ) → i < size S → lookUp S (catchUp S T) i .value ≡ values i
+  caught-value i low =
+      let caught = catchUp-sound S ordered E T sound in
+      quiet-look S ordered E values solves (catchUp S T) (caught .invariant) (caught .formed) (caught .holds) (catchUp-quiet S ordered T) i low
+
+  pub show-values : (is : List ℕ) → someNoItem S is ≡ false → showItems S T is .shown ≡ map values is
+  show-values [] e = refl
+  show-values (i ∷ is) e =
+      looks-right S ordered (catchUp S T) (i ∷ is) .values
+      ∙ map-in-sheet S _ values (λ j low. sym (look-right S ordered (catchUp S T) j .value) ∙ caught-value j low) (i ∷ is) e
 
 -- an ask of a sound table is answered as the fresh office answers
 pub ask-answers : (S : Sheet) → Ordered S → (E : Entries) (T : Table) → Sound S E T → (i : ℕ)
@@ -103,7 +110,7 @@ ask-answers S ordered E T sound i = go (beyond S i) refl
   where
     go : (b : Bool) → beyond S i ≡ b → Answers (cond b none (some (give S E i))) (effectUnless (cond b 11 0) S T (ask i))
     go true e = (refl, refl)
-    go false e = (refl, ap some (caught-value S ordered E T sound i (leb-false (size S) i e)))
+    go false e = (refl, ap some (caught-value S ordered E (give S E) (give-solves S ordered E) T sound i (leb-false (size S) i e)))
 
 -- The fresh office gives the items' values exactly if each is in the sheet.
 fresh-values : (S : Sheet) (E : Entries) (is : List ℕ) → freshAsks S E is ≡ cond (someNoItem S is) none (some (map (give S E) is))
@@ -117,15 +124,6 @@ fresh-values S E (i ∷ is) = rw (fresh-values S E is) (go (beyond S i) (someNoI
     go false true = refl
     go false false = refl
 
-show-values : (S : Sheet) → Ordered S → (E : Entries) (T : Table) → Sound S E T → (is : List ℕ) → someNoItem S is ≡ false
-    → showItems S T is .shown ≡ map (give S E) is
-show-values S ordered E T sound [] e = refl
-show-values S ordered E T sound (i ∷ is) e =
-    looks-right S ordered (catchUp S T) (i ∷ is) .values ∙ map-in-sheet S _ (give S E) seen (i ∷ is) e
-  where
-    seen : (j : ℕ) → j < size S → view S (catchUp S T) j .value ≡ give S E j
-    seen j low = sym (look-right S ordered (catchUp S T) j .value) ∙ caught-value S ordered E T sound j low
-
 -- a board on a sound table is answered as the fresh office answers
 pub board-shows : (S : Sheet) → Ordered S → (E : Entries) (T : Table) → Sound S E T → (items results : List ℕ)
     → Shows (listsWrong items results) (freshAsks S E (listed items)) (perform S T (board items results))
@@ -137,7 +135,7 @@ board-shows S ordered E T sound items results =
         → Shows w (cond b none (some (map (give S E) (listed items)))) (effectUnless (cond w 17 (cond b 11 0)) S T (board items results))
     go true b e = (refl, refl)
     go false true e = (refl, refl)
-    go false false e = (effect-number S T (board items results), show-values S ordered E T sound (listed items) e)
+    go false false e = (effect-number S T (board items results), show-values S ordered E (give S E) (give-solves S ordered E) T sound (listed items) e)
 
 same-number : (a : Option Value) (o q : Outcome) → Answers a o → Answers a q → o .number ≡ q .number
 same-number none o q h k = h .0 ∙ sym (k .0)

@@ -1,5 +1,5 @@
 -- A value and its kind and number: each well-formed value has its own, and no others are in form. Assumes nothing.
-use Prim.Native.Nat.{ℕ}
+use Prim.Native.Nat.{ℕ, _≤_}
 use mathlib.Core.Bool.{Bool, true, false, cond}
 use mathlib.Core.Option.{Option, none, some}
 use mathlib.Core.Path.{_≡_, refl, _∙_}
@@ -10,6 +10,11 @@ use lib.IntN.{ℤ, pos}
 use Rattle.circuit.specs.Value.{Value, null, out, num, inRange, isOut, wellFormed, sameNumber, kindOf, numberOf, partsOf, ofParts}
 use Rattle.circuit.specs.Calls.{postedValue}
 use Rattle.circuit.proofs.RuleLaws.{sameNumber-true}
+
+pub kind-small : (v : Value) → kindOf v ≤ 3
+kind-small null = omega arith
+kind-small out = omega arith
+kind-small (num z) = omega arith
 
 -- a value is what its own kind and number stand for
 pub of-own-parts : (v : Value) → ofParts (kindOf v) (numberOf v) ≡ v

@@ -10,7 +10,7 @@ use lib.IntN.{ℤ, pos}
 use lib.ListN.{length, getD, set, length-set}
 use lib.Seq.{getD-set-same, getD-set-other}
 use borrow.Author.Tests.{eq-eqb, eqb-true, eqb-false}
-use Rattle.circuit.specs.Value.{Value, null, out, num, wellFormed, kindOf, numberOf, ofParts}
+use Rattle.circuit.specs.Value.{Value, wellFormed, kindOf, numberOf, ofParts}
 use Rattle.circuit.specs.Sheet.{Sheet, size, itemAt, isFigure, keptOf, Ordered}
 use Rattle.circuit.specs.Table.{Table, Cell, unk, held, upd, noticeIf, markOf, isNotice, isStored}
 use Rattle.circuit.specs.Machine.{Looked, looked, storeIf, flagged, lookCell, lookUp, workOut}
@@ -29,7 +29,7 @@ use Rattle.table.specs.Meaning.{markMeaning, cellMeaning}
 use Rattle.table.specs.declared.Cell.the-variants.{Unk, Held}
 use Rattle.memo.specs.declared.Recall.the-variants.{Known, Unknown}
 use Rattle.memo.specs.Memo.{Found, found, seenMeaning, recallMeaning, bit, codeOf, tagOf, foundIn, remembered, knownOf, Memo, NoneFrom}
-use Rattle.circuit.proofs.Parts.{of-own-parts}
+use Rattle.circuit.proofs.Parts.{kind-small, of-own-parts}
 use Rattle.looking.specs.Pass.{Lent, Leaves, Settled}
 use Rattle.office.proofs.Holdable.{look-formed}
 
@@ -64,11 +64,6 @@ module _ {s offsets t : List ℕ} (lent : Lent s offsets t) where
         memo = subst (λ T. Memo (sheetOf s) T tags numbers generation) (ap (λ r. r .table) (sym is)) memo;
         fresh = λ h. h;
       }
-
-kind-small : (v : Value) → kindOf v ≤ 3
-kind-small null = omega arith
-kind-small out = omega arith
-kind-small (num z) = omega arith
 
 bit-small : (b : Bool) → bit b ≤ 1
 bit-small true = omega arith

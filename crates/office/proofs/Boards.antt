@@ -10,7 +10,7 @@ use lib.ListN.{length}
 use borrow.Author.Tests.{leb-false}
 use mir.Syntax.{w64}
 use mir.Val.{toZ, ofZ}
-use Rattle.circuit.specs.Value.{Value, null, out, num, kindOf, numberOf, wellFormed}
+use Rattle.circuit.specs.Value.{Value, kindOf, numberOf, wellFormed}
 use Rattle.circuit.specs.Sheet.{Sheet, Ordered, size, beyond}
 use Rattle.circuit.specs.Table.{Table}
 use Rattle.circuit.specs.Machine.{Looked, Gathered, gather, lookUp, catchUp}
@@ -18,44 +18,29 @@ use Rattle.circuit.specs.Call.{Call, ask, board}
 use Rattle.circuit.specs.Board.{listed, listsOff, listsWrong}
 use Rattle.circuit.specs.Calls.{firstCause, tests, someNoItem, showItems, readingOf, effect, perform}
 use Rattle.circuit.specs.Words.{Quiet, CaughtUp}
+use Rattle.circuit.proofs.Parts.{kind-small}
 use Rattle.circuit.proofs.RuleLaws.{or-false}
 use Rattle.circuit.proofs.CatchUp.{look-quiet, catchUp-quiet, catchUp-still, catchUp-ends}
 use Rattle.circuit.proofs.Accepted.{number-cause, accepted-effect, board-passed}
-use Rattle.layout.specs.Read.{Placed, opens, readSheet}
-use Rattle.layout.specs.Opened.{sheetOf, sheetRead, itemsOf, placedFrom}
-use Rattle.layout.specs.Index.{indexBytes}
-use Rattle.layout.proofs.Scan.{opened-ordered}
-use Rattle.layout.proofs.IndexLaws.{index-length}
-use Rattle.layout.proofs.Tests.{Tells, holds, fails, tells-eq}
-use Rattle.layout.proofs.Causes.{opens-faultless}
+use Rattle.layout.specs.Opened.{sheetOf}
 use Rattle.word.specs.Word.{Bytes, size64, bytes64}
 use Rattle.word.proofs.Bytes.{leAt-drop, signed-again, length-bytes64, bytes-cons, bytes-leBytes}
-use Rattle.item.specs.Offsets.{sameBytes}
-use Rattle.item.proofs.Offsets.{same-refl, same-equal}
-use Rattle.table.specs.Record.{width}
-use Rattle.table.specs.Bytes.{encodeTable, decodeTable, tableForm, Holdable}
+use Rattle.table.specs.Bytes.{encodeTable, decodeTable, Holdable}
 use Rattle.table.proofs.Records.{number-fits}
-use Rattle.table.proofs.Tables.{encode-decodeTable, decoded-holdable}
 use Rattle.office.specs.Office.{Office, keeping, Given, resultsLent, resultOf, resultsOf, callOn, runOn}
-use Rattle.office.specs.Demand1Words.{IndexNotAsOpened, AcceptedLent}
+use Rattle.office.specs.Demand1Words.{AcceptedLent}
 use Rattle.office.specs.Demand2Words.{ResultWords, BoardLeaves, Asks, no-more, then-ask}
 use Rattle.office.specs.Demand3Words.{acceptedPosts, CountsAsAsks}
 use Rattle.office.proofs.Holdable.{look-formed, catchUp-holdable, perform-holdable}
-use Rattle.office.proofs.Bridge.{Within, perform-within, decoded-beyond, givenBy, call-performs}
-use Rattle.office.proofs.Agreeing.{at, sized}
-use Rattle.office.proofs.Refusals.{opens-sheet, unbroken-form}
-
-kind-small : (v : Value) → kindOf v < 256
-kind-small null = omega arith
-kind-small out = omega arith
-kind-small (num z) = omega arith
+use Rattle.office.proofs.Bridge.{Within, perform-within, givenBy}
+use Rattle.office.proofs.Lent.{ordered, holdable, within, encoded, performs}
 
 -- the nine bytes of a value
 pub result-words : (v : Value) → wellFormed v ≡ true → ResultWords (resultOf (kindOf v) (numberOf v)) (kindOf v) (numberOf v)
 result-words v formed =
     record {
       long = omega (arith, length-bytes64 (numberOf v));
-      bytes = bytes-cons (kindOf v) (bytes64 (numberOf v)) (kind-small v) (bytes-leBytes size64 (ofZ w64 (numberOf v)));
+      bytes = bytes-cons (kindOf v) (bytes64 (numberOf v)) (omega (arith, kind-small v)) (bytes-leBytes size64 (ofZ w64 (numberOf v)));
       kind-is = refl;
       number-is = ap (toZ w64) (leAt-drop size64 (resultOf (kindOf v) (numberOf v)) 1 0) ∙ signed-again (numberOf v) (number-fits v formed);
     }
@@ -156,74 +141,28 @@ module _ (s x : List ℕ) (S : Sheet) (ordered : Ordered S)
       by-items (low ∷ high ∷ bs) e =
           record { empty = λ q. let bad : _≡_ {A = ℕ} 0 1 = cc in absurd (omega arith); caught-up = catchUp S T; catches = caught; shows = λ n. (refl, refl) }
 
--- What is accepted is the index of the sheet and the encoding of a table.
-accepted-index : (ps : List Placed) (x : List ℕ) → ¬ IndexNotAsOpened ps x → x ≡ indexBytes ps
-accepted-index ps x n = go (sameBytes x (indexBytes ps)) refl
-  where
-    go : (b : Bool) → sameBytes x (indexBytes ps) ≡ b → x ≡ indexBytes ps
-    go true e = same-equal x (indexBytes ps) e
-    go false e = absurd (n (λ q. let z : sameBytes x (indexBytes ps) ≡ true = ap (sameBytes x) (sym q) ∙ same-refl x in let bad : _≡_ {A = ℕ} 0 1 = cc in omega arith))
-
 module _ (s : List ℕ) (kept : Office) (lent : AcceptedLent s kept) (bytes : Bytes (kept .table)) (items results : List ℕ)
     (accepted : callOn s kept (board items results) .number ≡ 0) where
   abbrev T : Table
   T = decodeTable (kept .table)
 
-  form : tableForm (sheetOf s) (kept .table) ≡ true
-  form = unbroken-form (sheetOf s) (kept .table) (lent .lent .1 .1 .0)
+  -- the office keeps the encoding of a table
+  keeps : keeping (kept .index) (encodeTable (sheetOf s) T) ≡ kept
+  keeps = ap (keeping (kept .index)) (encoded s kept lent bytes)
 
-  long : length (kept .table) ≡ width * size (sheetOf s)
-  long = go (tells-eq (length (kept .table)) (width * size (sheetOf s)))
-    where
-      go : {b : Bool} → Tells (length (kept .table) ≡ width * size (sheetOf s)) b → length (kept .table) ≡ width * size (sheetOf s)
-      go (holds e) = e
-      go (fails n) = absurd (lent .lent .0 (inr n))
-
-  encoded : encodeTable (sheetOf s) T ≡ kept .table
-  encoded = encode-decodeTable (sheetOf s) (kept .table) bytes long form
-
-  within : Within (sheetOf s) T
-  within = decoded-beyond (sheetOf s) (kept .table) long
-
-  holdable : Holdable (sheetOf s) T
-  holdable = decoded-holdable (sheetOf s) (kept .table) form
-
-  -- the calls are the machine's
-  bridged : (edition : ℕ) (ps : List Placed) (reads : readSheet s ≡ opens edition ps) (U : Table) (c : Call) → Holdable (sheetOf s) U → Within (sheetOf s) U
-      → callOn s (keeping (indexBytes ps) (encodeTable (sheetOf s) U)) c ≡ givenBy (sheetOf s) (indexBytes ps) (resultsLent c) (perform (sheetOf s) U c)
-  bridged edition ps reads =
-      subst (λ S. (U : Table) (c : Call) → Holdable S U → Within S U → callOn s (keeping (indexBytes ps) (encodeTable S U)) c ≡ givenBy S (indexBytes ps) (resultsLent c) (perform S U c))
-      (sym (opens-sheet s edition ps reads))
-      (call-performs s edition ps reads (index-length ps) (sized s edition ps reads) (opened-ordered s edition ps reads))
-
-  lent-is : (ps : List Placed) → itemsOf s ≡ ps → keeping (indexBytes ps) (encodeTable (sheetOf s) T) ≡ kept
-  lent-is ps e = λ i. keeping (sym (accepted-index (itemsOf s) (kept .index) (lent .lent .1 .0) ∙ ap indexBytes e) i) (encoded i)
-
-  ordered : (edition : ℕ) (ps : List Placed) → readSheet s ≡ opens edition ps → Ordered (sheetOf s)
-  ordered edition ps reads = subst Ordered (sym (opens-sheet s edition ps reads)) (opened-ordered s edition ps reads)
+  given : callOn s (keeping (kept .index) (encodeTable (sheetOf s) T)) (board items results) .number ≡ 0
+  given = subst (λ k. callOn s k (board items results) .number ≡ 0) (sym keeps) accepted
 
   pub board-asks : let g : Given = callOn s kept (board items results) in Asks s kept (listed items) (g .results) (g .after)
-  unfolding itemsOf
-  board-asks = go (opens-faultless s .1 (lent .sheet))
-    where
-      go : (edition : ℕ) × (ps : List Placed) × (readSheet s ≡ opens edition ps)
-          → let g : Given = callOn s kept (board items results) in Asks s kept (listed items) (g .results) (g .after)
-      go (edition, ps, reads) =
-          let o = lent-is ps (ap placedFrom reads) in
-          subst (λ k. Asks s k (listed items) (callOn s k (board items results) .results) (callOn s k (board items results) .after)) o
-          (board-asks-at s (indexBytes ps) (sheetOf s) (ordered edition ps reads) (bridged edition ps reads) T items results holdable within
-          (subst (λ k. callOn s k (board items results) .number ≡ 0) (sym o) accepted))
+  board-asks =
+      subst (λ k. Asks s k (listed items) (callOn s k (board items results) .results) (callOn s k (board items results) .after)) keeps
+      (board-asks-at s (kept .index) (sheetOf s) (ordered s kept lent) (performs s kept lent) T items results (holdable s kept lent) (within s kept lent) given)
 
   pub board-leaves : BoardLeaves (sheetOf s) kept items (callOn s kept (board items results))
-  unfolding itemsOf
-  board-leaves = go (opens-faultless s .1 (lent .sheet))
-    where
-      go : (edition : ℕ) × (ps : List Placed) × (readSheet s ≡ opens edition ps) → BoardLeaves (sheetOf s) kept items (callOn s kept (board items results))
-      go (edition, ps, reads) =
-          let o = lent-is ps (ap placedFrom reads) in
-          subst (λ k. BoardLeaves (sheetOf s) k items (callOn s k (board items results))) o
-          (board-leaves-at s (indexBytes ps) (sheetOf s) (ordered edition ps reads) (bridged edition ps reads) T items results holdable within
-          (ap decodeTable encoded) (subst (λ k. callOn s k (board items results) .number ≡ 0) (sym o) accepted))
+  board-leaves =
+      subst (λ k. BoardLeaves (sheetOf s) k items (callOn s k (board items results))) keeps
+      (board-leaves-at s (kept .index) (sheetOf s) (ordered s kept lent) (performs s kept lent) T items results (holdable s kept lent) (within s kept lent)
+      (ap decodeTable (encoded s kept lent bytes)) given)
 
   -- and it counts as the asks in a list of calls
   pub board-counts : (cs : List Call) → CountsAsAsks s kept items results cs

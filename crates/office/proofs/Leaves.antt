@@ -20,25 +20,23 @@ use Rattle.circuit.proofs.Fill.{Fill, upd-same, upd-other, looks-right}
 use Rattle.circuit.proofs.Equations.{caught-unique}
 use Rattle.circuit.proofs.CatchUp.{fill-quiet, asked-quiet, catchUp-quiet, catchUp-ends}
 use Rattle.circuit.proofs.Accepted.{accepted-effect, effect-number}
-use Rattle.layout.specs.Read.{Placed, opens, readSheet}
 use Rattle.layout.specs.Opened.{sheetOf}
-use Rattle.layout.proofs.Scan.{opened-ordered}
 use Rattle.layout.proofs.Tests.{Tells, holds, fails, tells-eq}
-use Rattle.layout.proofs.Causes.{opens-faultless}
 use Rattle.word.specs.Word.{Bytes}
 use Rattle.table.specs.Rows.{row}
 use Rattle.table.specs.Record.{width, kindIn, markIn, numberIn, markCode, encodeCell}
 use Rattle.table.specs.Bytes.{encodeTable, decodeTable, Holdable}
 use Rattle.table.proofs.Records.{number-fits, number-again, bytes-encodeCell}
 use Rattle.table.proofs.Rows.{bytes-rows}
-use Rattle.table.proofs.Tables.{length-encodeTable, encoded-record, encode-decodeTable, encodeTable-ext, decoded-holdable, encoded-tableForm, holdable-wellFormed}
+use Rattle.table.proofs.Tables.{length-encodeTable, encoded-record, encodeTable-ext, encoded-tableForm, holdable-wellFormed}
 use Rattle.office.specs.Office.{Office, keeping, effectOn, callOn}
 use Rattle.office.specs.Demand1Words.{calling, NoneHolds, ownCauses, AcceptedLent}
 use Rattle.office.specs.Demand2Words.{valueOf, Stores, PostLeaves, KeepLeaves, DropLeaves, StepLeaves, AskLeaves, BoardLeaves, NoMarkStands, CallsLeave}
 use Rattle.office.proofs.Holdable.{perform-holdable}
+use Rattle.office.proofs.Lent.{ordered as lent-ordered, holdable as lent-holdable, encoded}
 use Rattle.office.proofs.Boards.{board-leaves, board-asks}
 use Rattle.office.proofs.Agreeing.{mark-cell, unmarked-code}
-use Rattle.office.proofs.Refusals.{turned-back, opens-sheet, unbroken-form, form-unbroken, call-accepted, own-passed, Postable, postable}
+use Rattle.office.proofs.Refusals.{turned-back, form-unbroken, call-accepted, own-passed, Postable, postable}
 
 value-same : (w v : Value) → kindOf w ≡ kindOf v → numberOf w ≡ numberOf v → w ≡ v
 value-same null null k n = refl
@@ -100,14 +98,11 @@ module _ (s : List ℕ) (kept : Office) (lent : AcceptedLent s kept) where
   abbrev t : List ℕ
   t = kept .table
 
-  pub ordered : Ordered (sheetOf s)
-  ordered = go (opens-faultless s .1 (lent .sheet))
-    where
-      go : (edition : ℕ) × (ps : List Placed) × (readSheet s ≡ opens edition ps) → Ordered (sheetOf s)
-      go (edition, ps, e) = subst Ordered (sym (opens-sheet s edition ps e)) (opened-ordered s edition ps e)
+  ordered : Ordered (sheetOf s)
+  ordered = lent-ordered s kept lent
 
-  pub holdable : Holdable (sheetOf s) (decodeTable t)
-  holdable = decoded-holdable (sheetOf s) t (unbroken-form (sheetOf s) t (lent .lent .1 .1 .0))
+  holdable : Holdable (sheetOf s) (decodeTable t)
+  holdable = lent-holdable s kept lent
 
   -- no cause of the call's own
   own : (c : Call) → callOn s kept c .number ≡ 0 → NoneHolds (ownCauses (sheetOf s) t c)
@@ -189,15 +184,8 @@ module _ (s : List ℕ) (kept : Office) (lent : AcceptedLent s kept) where
           (asked-quiet (sheetOf s) ordered (decodeTable t) i (ap (λ o. o .number) (performs (ask i) z) ∙ effect-number (sheetOf s) (decodeTable t) (ask i)))
 
   module _ (bytes : Bytes t) where
-    long : length t ≡ width * size (sheetOf s)
-    long = go (tells-eq (length t) (width * size (sheetOf s)))
-      where
-        go : {b : Bool} → Tells (length t ≡ width * size (sheetOf s)) b → length t ≡ width * size (sheetOf s)
-        go (holds e) = e
-        go (fails n) = absurd (lent .lent .0 (inr n))
-
     again : encodeTable (sheetOf s) (decodeTable t) ≡ t
-    again = encode-decodeTable (sheetOf s) t bytes long (unbroken-form (sheetOf s) t (lent .lent .1 .1 .0))
+    again = encoded s kept lent bytes
 
     record-is : (j : ℕ) → j < size (sheetOf s) → row width t j ≡ encodeCell (decodeTable t j)
     record-is j low = ap (λ u. row width u j) (sym again) ∙ encoded-record (sheetOf s) (decodeTable t) j low

@@ -6,6 +6,7 @@ pub mod Causes
 pub mod Demands
 pub mod Examples
 pub mod Holdable
+pub mod Lent
 pub mod Leaves
 pub mod Meaning
 pub mod Refusals

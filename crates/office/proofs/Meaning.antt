@@ -17,16 +17,15 @@ use Rattle.circuit.specs.Table.{Table, Mark, unk, held, isStored, noticeIf, val
 use Rattle.circuit.specs.Machine.{Looked, lookUp, catchUp, keepFigure, keepCell}
 use Rattle.circuit.specs.Call.{Call, keep, ask, board, Opening, bare, full}
 use Rattle.circuit.specs.Board.{listed}
-use Rattle.circuit.specs.Calls.{someNoItem, showItems, effect}
+use Rattle.circuit.specs.Calls.{someNoItem, effect}
 use Rattle.circuit.specs.Words.{Bare}
 use Rattle.circuit.proofs.Solution.{solution, solution-solves, solution-unique, sheet-acyclic, below-listed}
 use Rattle.circuit.proofs.View.{view, view-at}
 use Rattle.circuit.proofs.Fill.{Fill, Filling, stays, fills, fill-refl, look-right, looks-right, keep-fill, upd-same}
-use Rattle.circuit.proofs.Board.{map-in-sheet}
 use Rattle.circuit.proofs.Accepted.{board-passed}
-use Rattle.circuit.proofs.CatchUp.{catchUp-quiet}
-use Rattle.circuit.proofs.Reading.{bare-look, quiet-look}
-use Rattle.circuit.proofs.Sound.{Sound, catchUp-sound}
+use Rattle.circuit.proofs.Reading.{bare-look}
+use Rattle.circuit.proofs.Sound.{Sound}
+use Rattle.circuit.proofs.Offices.{caught-value, show-values}
 use Rattle.field.specs.Field.{Bytes}
 use Rattle.layout.specs.Layout.{Layout, LayoutItem, entryField, figureField, machineItem, machineSheet}
 use Rattle.layout.specs.Read.{Placed, opens, readSheet, layoutOf}
@@ -50,7 +49,8 @@ use Rattle.office.specs.Demand2Words.{answerOf, FollowsLayout, openedRec
 use Rattle.office.proofs.Holdable.{look-formed}
 use Rattle.office.proofs.Agreeing.{Opens, opening-opens, figure-below}
 use Rattle.office.proofs.Accepted.{office-accepted}
-use Rattle.office.proofs.Leaves.{ordered, holdable as lent-holdable, stored-record}
+use Rattle.office.proofs.Lent.{ordered, holdable as lent-holdable}
+use Rattle.office.proofs.Leaves.{stored-record}
 use Rattle.office.proofs.Refusals.{turned-back, opens-sheet, call-accepted, own-passed}
 
 -- ---- the openings
@@ -240,10 +240,7 @@ module _ (s : List ℕ) (kept : Office) (lent : AcceptedLent s kept) (none-store
 
   module _ (values : ℕ → Value) (solves : IsSolution (circuitOf (sheetOf s)) (entriesIn t) values) where
     caught-gives : (k : ℕ) → k < size (sheetOf s) → lookUp (sheetOf s) (catchUp (sheetOf s) (decodeTable t)) k .value ≡ values k
-    caught-gives k low =
-        let caught = catchUp-sound (sheetOf s) sheet-ordered (entriesIn t) (decodeTable t) sound in
-        quiet-look (sheetOf s) sheet-ordered (entriesIn t) values solves (catchUp (sheetOf s) (decodeTable t)) (caught .invariant) (caught .formed) (caught .holds)
-        (catchUp-quiet (sheetOf s) sheet-ordered (decodeTable t)) k low
+    caught-gives = caught-value (sheetOf s) sheet-ordered (entriesIn t) values solves (decodeTable t) sound
 
     ask-gives : (i : ℕ) → i < size (sheetOf s) → answerOf (callOn s kept (ask i)) ≡ reading (values i)
     unfolding effect
@@ -320,18 +317,12 @@ module _ (s : List ℕ) (kept : Office) (lent : AcceptedLent s kept) (none-store
     unfolding effect
     board-shows items results z =
         ap (λ g. g .results) (performed (board items results) (board-own items results z))
-        ∙ ap resultsOf (go (listed items) (board-passed (sheetOf s) (decodeTable t) items results
-        (own-passed (sheetOf s) t (board items results) (lent .lent .1 .1 .0) (board-own items results z))))
+        ∙ ap resultsOf (show-values (sheetOf s) sheet-ordered (entriesIn t) values solves (decodeTable t) sound (listed items) in-sheet)
       where
-        C : Table
-        C = catchUp (sheetOf s) (decodeTable t)
-
-        seen : (k : ℕ) → k < size (sheetOf s) → view (sheetOf s) C k .value ≡ values k
-        seen k low = sym (look-right (sheetOf s) sheet-ordered C k .value) ∙ caught-gives k low
-
-        go : (is : List ℕ) → someNoItem (sheetOf s) is ≡ false → showItems (sheetOf s) (decodeTable t) is .shown ≡ map values is
-        go [] e = refl
-        go (i ∷ is) e = looks-right (sheetOf s) sheet-ordered C (i ∷ is) .values ∙ map-in-sheet (sheetOf s) _ values seen (i ∷ is) e
+        in-sheet : someNoItem (sheetOf s) (listed items) ≡ false
+        in-sheet =
+            board-passed (sheetOf s) (decodeTable t) items results
+            (own-passed (sheetOf s) t (board items results) (lent .lent .1 .1 .0) (board-own items results z))
 
     board-stores : (items results : List ℕ) → callOn s kept (board items results) .number ≡ 0
         → StoredRight s (callOn s kept (board items results) .after .table) values

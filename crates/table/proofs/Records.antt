@@ -14,6 +14,7 @@ use mir.Val.{SFits, toZ, ofZ}
 use Rattle.field.specs.Bytes.{Bytes}
 use Rattle.word.specs.Word.{bytes64}
 use Rattle.word.proofs.Bytes.{leAt-drop, signed-again, bytes-again, length-bytes64, bytes-cons, bytes-leBytes}
+use Rattle.circuit.proofs.Parts.{kind-small}
 use Rattle.circuit.proofs.RuleLaws.{and-left, and-right}
 use Rattle.circuit.specs.Value.{Value, null, out, num, limit, inRange, sameNumber, kindOf, numberOf, isOut, wellFormed}
 use Rattle.circuit.specs.Table.{Mark, unmarked, refresh, notice, Cell, unk, held, noticeIf, valueIn, entryForm}
@@ -110,11 +111,6 @@ unfolding encodeCell
 length-encodeCell (unk b) = ap (λ (n : ℕ). suc (suc n)) (length-bytes64 (pos 0))
 length-encodeCell (held v m) = ap (λ (n : ℕ). suc (suc n)) (length-bytes64 (numberOf v))
 
-kind-byte : (v : Value) → kindOf v < 256
-kind-byte null = lit< tt
-kind-byte out = lit< tt
-kind-byte (num z) = lit< tt
-
 mark-byte : (m : Mark) → markCode m < 256
 mark-byte unmarked = lit< tt
 mark-byte refresh = lit< tt
@@ -126,7 +122,7 @@ bytes-record k m z hk hm = bytes-cons k (m ∷ bytes64 z) hk (bytes-cons m (byte
 pub bytes-encodeCell : (c : Cell) → Bytes (encodeCell c)
 unfolding encodeCell
 bytes-encodeCell (unk b) = bytes-record 0 (markCode (noticeIf b)) (pos 0) (lit< tt) (mark-byte (noticeIf b))
-bytes-encodeCell (held v m) = bytes-record (kindOf v) (markCode m) (numberOf v) (kind-byte v) (mark-byte m)
+bytes-encodeCell (held v m) = bytes-record (kindOf v) (markCode m) (numberOf v) (omega (arith, kind-small v)) (mark-byte m)
 
 -- ---- encoding what was decoded
 
