@@ -13,40 +13,57 @@ use crate::model::sheet::{read_sheet, Item, Spread};
 use crate::model::table::{decode, encode, to_pair, Cell, Mark};
 use crate::model::value::{apply, in_range, Value, WHOLE};
 
-#[derive(Clone, Copy, PartialEq, Eq, Debug)]
-pub enum Wrong {
-    Nothing,
-    RoundsTowardZero,
-    TestsRangeAtEachAddition,
-    ClearsMarkBeforeTelling,
-    WorksOutStoredNull,
-    KeepLosesNotice,
-    DeferIgnoresNotice,
-    RenewClearsNotice,
-    StepGoesOnToTelling,
-    AskLooksUpFirst,
-    PostAlwaysMarks,
-    Says14BeforeTheTable,
-    CutsItemTo32Bits,
-    RefusedOpeningWrites,
-    AskChangesSheet,
-    WritesPastTheTable,
-    PrinterClearsTheRest,
-    PrinterSays15First,
-    EmptyBoardCatchesUp,
-    BoardSays11Before17,
-    BoardSays17BeforeTheTable,
-    BoardTakes65Items,
-    BoardTakesOddLength,
-    BoardTakesLongerResults,
-    BoardWritesNumberFirst,
-    BoardDoesNotCatchUp,
-    BoardStoresNothing,
-    BoardStoresAll,
-    BoardChangesItems,
-    BoardWritesPastResults,
-    RefusedBoardWritesResults,
-    RefusedBoardCatchesUp,
+/// An enum with `ALL`, the list of its variants after the first.
+macro_rules! with_all {
+    ($(#[$derive:meta])* pub enum $name:ident { $first:ident, $($variant:ident,)* }) => {
+        $(#[$derive])*
+        pub enum $name {
+            $first,
+            $($variant,)*
+        }
+
+        impl $name {
+            pub const ALL: &'static [$name] = &[$($name::$variant),*];
+        }
+    };
+}
+
+with_all! {
+    #[derive(Clone, Copy, PartialEq, Eq, Debug)]
+    pub enum Wrong {
+        Nothing,
+        RoundsTowardZero,
+        TestsRangeAtEachAddition,
+        ClearsMarkBeforeTelling,
+        WorksOutStoredNull,
+        KeepLosesNotice,
+        DeferIgnoresNotice,
+        RenewClearsNotice,
+        StepGoesOnToTelling,
+        AskLooksUpFirst,
+        PostAlwaysMarks,
+        Says14BeforeTheTable,
+        CutsItemTo32Bits,
+        RefusedOpeningWrites,
+        AskChangesSheet,
+        WritesPastTheTable,
+        PrinterClearsTheRest,
+        PrinterSays15First,
+        EmptyBoardCatchesUp,
+        BoardSays11Before17,
+        BoardSays17BeforeTheTable,
+        BoardTakes65Items,
+        BoardTakesOddLength,
+        BoardTakesLongerResults,
+        BoardWritesNumberFirst,
+        BoardDoesNotCatchUp,
+        BoardStoresNothing,
+        BoardStoresAll,
+        BoardChangesItems,
+        BoardWritesPastResults,
+        RefusedBoardWritesResults,
+        RefusedBoardCatchesUp,
+    }
 }
 
 pub struct Mock(pub Wrong);

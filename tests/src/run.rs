@@ -144,40 +144,7 @@ mod tests {
     /// Each wrong engine is found by random calls alone.
     #[test]
     fn wrong_engines_are_found() {
-        use Wrong::*;
-        for wrong in [
-            RoundsTowardZero,
-            TestsRangeAtEachAddition,
-            ClearsMarkBeforeTelling,
-            WorksOutStoredNull,
-            KeepLosesNotice,
-            DeferIgnoresNotice,
-            RenewClearsNotice,
-            StepGoesOnToTelling,
-            AskLooksUpFirst,
-            PostAlwaysMarks,
-            Says14BeforeTheTable,
-            CutsItemTo32Bits,
-            RefusedOpeningWrites,
-            AskChangesSheet,
-            WritesPastTheTable,
-            PrinterClearsTheRest,
-            PrinterSays15First,
-            EmptyBoardCatchesUp,
-            BoardSays11Before17,
-            BoardSays17BeforeTheTable,
-            BoardTakes65Items,
-            BoardTakesOddLength,
-            BoardTakesLongerResults,
-            BoardWritesNumberFirst,
-            BoardDoesNotCatchUp,
-            BoardStoresNothing,
-            BoardStoresAll,
-            BoardChangesItems,
-            BoardWritesPastResults,
-            RefusedBoardWritesResults,
-            RefusedBoardCatchesUp,
-        ] {
+        for &wrong in Wrong::ALL {
             let found = try_mock(&SHORT, wrong).err().unwrap_or_default();
             assert!(found.contains("--seed 5 --part"), "{wrong:?} was not found: {found}");
             println!("{wrong:?}: {}", found.lines().last().unwrap());

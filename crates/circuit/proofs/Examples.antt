@@ -11,9 +11,19 @@ use Rattle.circuit.specs.Value.{Value, null, num, inRange, limit, partsO
 use Rattle.circuit.specs.Rules.{sum, difference, apply, numbers, total, anyOut}
 use Rattle.circuit.specs.Sheet.{Sheet, entry, figure, defer, renew, member}
 use Rattle.circuit.specs.Table.{Table, held, unmarked, notice, openBare, openFull}
-use Rattle.circuit.specs.Machine.{gather, workOutBy, lookFor, lookUp, workOut, storePosting, keepFigure, dropFigure, tellChild, tellBelow, tell, clearMark, stepItem, lowestMarked, catchUpIn, catchUp}
+use Rattle.circuit.specs.Machine.{Looked, gather, workOutBy, lookFor, lookUp, workOut, storePosting, keepFigure, dropFigure, tellChild, tellBelow, tell, clearMark, stepItem, lowestMarked}
+use Rattle.circuit.specs.Machine.{catchUpIn, catchUp}
 use Rattle.circuit.specs.Call.{Call, post, keep, drop, step, ask}
-use Rattle.circuit.specs.Calls.{perform, run, tests, firstCause, effect, postedValue}
+use Rattle.circuit.specs.Calls.{Outcome, perform, run, tests, firstCause, effect, postedValue}
+
+-- to unfold these is to unfold all that looking up computes with, and all that the calls do
+unfoldable pub looking : Sheet → Table → ℕ → Looked
+unfolding lookUp lookFor workOut workOutBy gather apply numbers total anyOut inRange limit member
+looking S T i = lookUp S T i
+
+unfoldable pub machine : Sheet → Table → Call → Outcome
+unfolding looking perform tests firstCause effect postedValue partsOf keepFigure dropFigure storePosting stepItem tell tellBelow tellChild clearMark catchUp catchUpIn lowestMarked
+machine S T c = perform S T c
 
 -- an entry, a figure that sums it, and a figure that sums the first; neither is kept, both defer
 unfoldable pub chain : Sheet
@@ -27,11 +37,11 @@ chainTable = run chain (openBare chain) chainCalls
 
 -- Figure 1 is 6 and carries notice still, so that the next ask for figure 2 gives 6 and not 1.
 pub chain-kept : chainTable 1 ≡ held (num (pos 6)) notice
-unfolding chain chainCalls chainTable run perform tests firstCause effect postedValue partsOf keepFigure storePosting stepItem tell tellBelow tellChild clearMark lookUp lookFor workOut workOutBy gather apply numbers total anyOut inRange limit member
+unfolding machine chain chainCalls chainTable run
 chain-kept = refl
 
 pub chain-read : perform chain chainTable (ask 2) .reading ≡ some (num (pos 6))
-unfolding chain chainCalls chainTable run perform tests firstCause effect postedValue partsOf keepFigure storePosting stepItem tell tellBelow tellChild clearMark lookUp lookFor workOut workOutBy gather apply numbers total anyOut inRange limit member catchUp catchUpIn lowestMarked
+unfolding machine chain chainCalls chainTable run
 chain-read = refl
 
 -- entry 0, figure 1 = sum of item 0, kept; figure 2 = sum of item 1, which renews
@@ -44,7 +54,7 @@ keptCalls = post 0 3 (pos 1) ∷ keep 2 ∷ drop 1 ∷ step 0 ∷ post 0 3 (pos 
 
 -- The telling stores figure 1, and its mark is cleared after that.
 pub kept-cleared : run keptChain (openBare keptChain) keptCalls 1 ≡ held (num (pos 3)) unmarked
-unfolding keptChain keptCalls run perform tests firstCause effect postedValue partsOf keepFigure dropFigure storePosting stepItem tell tellBelow tellChild clearMark lookUp lookFor workOut workOutBy gather apply numbers total anyOut inRange limit member
+unfolding machine keptChain keptCalls run
 kept-cleared = refl
 
 -- Figure 2 is kept while figure 1 holds NULL. Working that stored NULL out again would store 5 in figure 2, and 5 would be read
@@ -53,7 +63,7 @@ unfoldable pub nullCalls : List Call
 nullCalls = post 0 3 (pos 5) ∷ step 0 ∷ drop 2 ∷ keep 2 ∷ post 0 1 (pos 0) ∷ step 0 ∷ step 1 ∷ []
 
 pub null-read : perform chain (run chain (openFull chain) nullCalls) (ask 2) .reading ≡ some null
-unfolding chain nullCalls run perform tests firstCause effect postedValue partsOf keepFigure dropFigure storePosting stepItem tell tellBelow tellChild clearMark lookUp lookFor workOut workOutBy gather apply numbers total anyOut inRange limit member catchUp catchUpIn lowestMarked
+unfolding machine chain nullCalls run
 null-read = refl
 
 -- the example sheet: entries 0, 1, 2; figure 3 = sum of items 0 and 2, kept; figure 4 = item 3 minus item 1
@@ -79,5 +89,5 @@ lines S T (c ∷ cs) = line (perform S T c .number) (perform S T c .reading) ∷
 
 pub day-lines : lines daySheet (openBare daySheet) dayCalls
     ≡ line 0 none ∷ line 0 none ∷ line 0 (some (num (pos 700))) ∷ line 0 none ∷ line 0 (some (num (pos 500))) ∷ line 12 none ∷ line 11 none ∷ []
-unfolding daySheet dayCalls lines perform tests firstCause effect postedValue partsOf keepFigure dropFigure storePosting stepItem tell tellBelow tellChild clearMark lookUp lookFor workOut workOutBy gather apply numbers total anyOut inRange limit member catchUp catchUpIn lowestMarked
+unfolding machine daySheet dayCalls lines
 day-lines = refl

@@ -12,7 +12,8 @@ use borrow.Author.Tests.{eqb-true, eq-eqb, ltb-true, leb-true, le-leb, lt-ltb}
 use lib.Dec.{ltb}
 use lib.IntN.{ℤ, pos, negsuc, natAbs, negℤ, sucℤ, subℕ, _+ℤ_, _-ℤ_, _*ℤ_}
 use lib.Signed.{leZ, ltZ}
-use Rattle.circuit.specs.Rules.{Operation, sum, difference, smallest, largest, share, choice, count, atLeast, apply, anyOut, numbers, nth, ofNumbers, total, least, greatest, howMany, orZero, floorDiv, whole}
+use Rattle.circuit.specs.Rules.{Operation, sum, difference, smallest, largest, share, choice, count, atLeast, apply, anyOut, numbers, nth, ofNumbers, total, least, greatest, howMany}
+use Rattle.circuit.specs.Rules.{orZero, floorDiv, whole}
 use Rattle.circuit.specs.Value.{Value, null, out, num, limit, inRange, isNull, isOut, wellFormed, ranged, same, sameNumber}
 use Rattle.circuit.specs.WellFormed.{allWellFormed}
 

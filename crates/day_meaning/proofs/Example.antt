@@ -2,25 +2,11 @@
 use Prim.Native.Nat.{ℕ}
 use mathlib.Core.Path.{_≡_, refl}
 use mathlib.Core.List.{List, [], _∷_}
-use Rattle.circuit.specs.Calls.{postedValue, firstCause, tests, effect}
-use Rattle.circuit.specs.Machine.{gather, workOutBy, lookFor, lookUp, workOut, storePosting, keepFigure, dropFigure, tellChild, tellBelow, tell, clearMark, stepItem, lowestMarked, catchUpIn, catchUp}
-use Rattle.circuit.specs.Rules.{coded, maxParents, oneOrMore, countAllowed as parentsAllowed, operationOf, numbers, total, least, greatest, whole, anyOut, apply}
-use Rattle.circuit.specs.Sheet.{member}
-use Rattle.circuit.specs.Value.{limit, inRange}
-use Rattle.layout.specs.Index.{indexBytes}
-use Rattle.layout.specs.Layout.{editionKnown, itemLimit, countAllowed, levelLimit, keepAllowed, spreadAllowed, nameLimit, all, nameAllowed, highest, spreadMeant, machineItem}
-use Rattle.layout.specs.Content.{parentsIn, itemIn}
-use Rattle.layout.specs.Read.{lengthOrName, headTests, itemTests, lastTests, scan, scanSheet, readSheet}
-use Rattle.layout.specs.Write.{concat}
-use Rattle.table.specs.Bytes.{encodeTable, tableForm}
-use Rattle.table.specs.Record.{encodeCell, decodeCell, codesForm, numberForm, recordForm}
-use Rattle.table.specs.Rows.{rowsBelow, allBelow}
-use Rattle.word.specs.Word.{leAt, leBytes}
-use Rattle.field.specs.Field.{cutAt}
+use Rattle.circuit.specs.Rules.{least, greatest, whole}
+use Rattle.circuit.proofs.Examples.{machine}
 use Rattle.printer.specs.Decimal.{digitsUpTo, digits, decimal}
 use Rattle.value.specs.Meaning.{partsOf}
-use Rattle.office.specs.Office.{callOn, openOn}
-use Rattle.item.specs.Offsets.{sameBytes}
+use Rattle.office.proofs.Examples.{calls}
 use Rattle.day_meaning.specs.Day.{playFrom, countSaid, dayOn, runDay}
 use Rattle.day_meaning.specs.Orders.{postIn, callIn, orderOf}
 
@@ -58,5 +44,5 @@ exampleOutput =
     ∷ 49 ∷ 50 ∷ 10 ∷ 78 ∷ 79 ∷ 32 ∷ 49 ∷ 49 ∷ 10 ∷ []
 
 pub example : runDay exampleSheet exampleDay zeros20 zeros50 .text ≡ exampleOutput
-unfolding partsOf postedValue firstCause tests effect gather workOutBy lookFor lookUp workOut storePosting keepFigure dropFigure tellChild tellBelow tell clearMark stepItem lowestMarked catchUpIn catchUp coded maxParents oneOrMore parentsAllowed operationOf numbers total least greatest whole anyOut apply member limit inRange indexBytes editionKnown itemLimit countAllowed levelLimit keepAllowed spreadAllowed nameLimit all nameAllowed highest spreadMeant machineItem parentsIn itemIn lengthOrName headTests itemTests lastTests scan scanSheet readSheet concat encodeTable tableForm encodeCell decodeCell codesForm numberForm recordForm rowsBelow allBelow leAt leBytes cutAt digitsUpTo digits decimal sameBytes callOn openOn playFrom countSaid dayOn runDay postIn callIn orderOf
+unfolding calls machine partsOf least greatest whole digitsUpTo digits decimal postIn callIn orderOf playFrom countSaid dayOn runDay
 example = refl

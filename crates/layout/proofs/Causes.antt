@@ -18,8 +18,11 @@ use Rattle.field.proofs.Cutting.{Cutting, absent, no-header, no-content, whole,
 use Rattle.circuit.specs.Calls.{Test, firstCause}
 use Rattle.layout.specs.Layout.{headTag, entryTag, figureTag, levelLimit, editionKnown, countAllowed, lastTag, headLength}
 use Rattle.layout.specs.Content.{contentAt, editionIn, countIn, itemIn}
-use Rattle.layout.specs.Read.{Placed, itemLevel, lengthOrName, parentWrong, levelWrong, headTests, itemTests, lastTests, judge, Scan, going, stopped, goOn, headNext, scan, afterLast, scanEnd, scanLast, headContent, scanSheet, SheetRead, opens, refused, conclude, readSheet}
-use Rattle.layout.specs.Causes.{Place, first, item, last, after, fieldOffset, editionOf, itemCount, fieldNumber, InSheet, Before, offsetOf, tagOf, lengthOf, contentOf, levelsBefore, itemLevelOf, NotWhole, RunsPastOrAbsent, WrongTagOrTrailing, WrongLengthOrName, WrongItemLength, WrongEditionOrCount, WrongRuleKeepSpreadOrCount, ParentNotBelow, LevelAbove, CauseAt, cause1, cause2, cause3, cause4, cause5, cause6, cause7, Sound, Faultless, FirstFault}
+use Rattle.layout.specs.Read.{Placed, itemLevel, lengthOrName, parentWrong, levelWrong, headTests, itemTests, lastTests, judge, Scan, going, stopped, goOn, headNext, scan, afterLast}
+use Rattle.layout.specs.Read.{scanEnd, scanLast, headContent, scanSheet, SheetRead, opens, refused, conclude, readSheet}
+use Rattle.layout.specs.Causes.{Place, first, item, last, after, fieldOffset, editionOf, itemCount, fieldNumber, InSheet, Before, offsetOf, tagOf, lengthOf, contentOf, levelsBefore}
+use Rattle.layout.specs.Causes.{itemLevelOf, NotWhole, RunsPastOrAbsent, WrongTagOrTrailing, WrongLengthOrName, WrongItemLength, WrongEditionOrCount, WrongRuleKeepSpreadOrCount}
+use Rattle.layout.specs.Causes.{ParentNotBelow, LevelAbove, CauseAt, cause1, cause2, cause3, cause4, cause5, cause6, cause7, Sound, Faultless, FirstFault}
 use Rattle.layout.proofs.Scan.{Extended, scan-extended, scan-length, scan-prefix, head-read, Faulted, scan-faulted, offsetFrom}
 use Rattle.layout.proofs.Exactly.{level-after, levels-snoc, scan-none}
 use Rattle.layout.proofs.Tests.{Tells, holds, fails, tells-if, tells-or, tells-not, tells-eq, tells-lt, refutes-tells, refutes-edition, tells-length, tells-wrong-figure, tells-parents}

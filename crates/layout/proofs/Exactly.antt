@@ -16,7 +16,8 @@ use Rattle.field.specs.Bytes.{Bytes}
 use Rattle.field.specs.Field.{cutAt, fieldBytes, headerLength}
 use Rattle.field.specs.declared.Cut.the-variants.{Field}
 use Rattle.field.proofs.Cutting.{FieldAt, field-iff, cut-fieldBytes, cut-back-bytes, content-length, le16-of}
-use Rattle.layout.specs.Layout.{LayoutItem, entryField, figureField, Layout, headTag, figureTag, lastTag, editionKnown, countAllowed, levelLimit, keepAllowed, spreadAllowed, ruleAllowed, nameAllowed, all, headLength, parentsAt}
+use Rattle.layout.specs.Layout.{LayoutItem, entryField, figureField, Layout, headTag, figureTag, lastTag, editionKnown, countAllowed, levelLimit, keepAllowed, spreadAllowed}
+use Rattle.layout.specs.Layout.{ruleAllowed, nameAllowed, all, headLength, parentsAt}
 use Rattle.layout.specs.Content.{contentAt, editionIn, countIn, ruleIn, keepIn, spreadIn, parentCountIn, parentsIn, nameIn, itemIn}
 use Rattle.layout.specs.Read.{Placed, placed, levelOf, itemLevel, lengthOrName, ruleWrong, parentWrong, levelWrong, going, placeItem, headNext, scan, headContent, opens, readSheet, layoutOf}
 use Rattle.layout.specs.Write.{bytes16, concat, itemBytes, writeSheet, levelAfter, itemWithin, itemsWithin, within}

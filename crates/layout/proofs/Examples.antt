@@ -1,7 +1,7 @@
 -- The example sheet, read and written; and for each number from 1 to 7 a sheet that is turned back with it. All by computation.
 -- Assumes nothing.
 use mathlib.Core.Path.{_≡_, refl}
-use mathlib.Core.Bool.{true, false}
+use mathlib.Core.Bool.{Bool, true, false}
 use mathlib.Core.List.{List, [], _∷_, _++_}
 use Prim.Native.Nat.{ℕ, zero, suc}
 use Rattle.field.specs.Field.{cutAt}
@@ -9,16 +9,21 @@ use Rattle.circuit.specs.Calls.{firstCause}
 use Rattle.circuit.specs.Rules.{sum, operationOf, coded, oneOrMore, maxParents, countAllowed as parentsAllowed}
 use Rattle.circuit.specs.Sheet.{figure, defer, renew, forget}
 use Rattle.circuit.proofs.Examples.{daySheet}
-use Rattle.layout.specs.Layout.{LayoutItem, entryField, figureField, Layout, editionKnown, itemLimit, countAllowed, levelLimit, keepAllowed, spreadAllowed, nameLimit, nameAllowed, all, highest, spreadMeant, machineItem, machineSheet}
+use Rattle.layout.specs.Layout.{LayoutItem, entryField, figureField, Layout, editionKnown, itemLimit, countAllowed, levelLimit, keepAllowed, spreadAllowed, nameLimit, nameAllowed, all}
+use Rattle.layout.specs.Layout.{highest, spreadMeant, machineItem, machineSheet}
 use Rattle.layout.specs.Content.{parentsIn, itemIn}
 use Rattle.layout.specs.Read.{lengthOrName, headTests, itemTests, lastTests, scan, scanSheet, SheetRead, opens, refused, readSheet}
 use Rattle.layout.specs.Write.{concat, itemBytes, itemsWithin, within, writeSheet}
 use Rattle.layout.specs.Places.{placesFrom, places}
 use Rattle.layout.specs.Index.{indexBytes}
 
--- to unfold these is to unfold all that reading and writing compute with
+-- to unfold these is to unfold all that the limits, reading and writing compute with
+unfoldable pub limiting : ℕ → ℕ → Bool
+unfolding editionKnown countAllowed itemLimit levelLimit keepAllowed spreadAllowed nameAllowed nameLimit operationOf coded oneOrMore maxParents parentsAllowed
+limiting edition n = countAllowed edition n
+
 unfoldable pub reading : List ℕ → SheetRead
-unfolding readSheet scanSheet scan headTests itemTests lastTests firstCause cutAt editionKnown countAllowed itemLimit levelLimit keepAllowed spreadAllowed nameAllowed nameLimit all highest parentsIn itemIn lengthOrName operationOf coded oneOrMore maxParents parentsAllowed
+unfolding limiting readSheet scanSheet scan headTests itemTests lastTests firstCause cutAt all highest parentsIn itemIn lengthOrName
 reading s = readSheet s
 
 unfoldable pub writing : Layout → List ℕ

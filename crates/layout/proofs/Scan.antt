@@ -21,9 +21,11 @@ use Rattle.circuit.specs.Calls.{Test, test, firstCause}
 use Rattle.circuit.specs.Circuit.{Listed}
 use Rattle.circuit.specs.Rules.{Operation, operationOf}
 use Rattle.circuit.specs.Sheet.{itemAt, parentsOf, Ordered}
-use Rattle.layout.specs.Layout.{LayoutItem, entryField, figureField, headTag, entryTag, figureTag, lastTag, editionKnown, countAllowed, levelLimit, ruleAllowed, all, itemLimit, machineItem, machineSheet, isSome, headLength, mostItems}
+use Rattle.layout.specs.Layout.{LayoutItem, entryField, figureField, headTag, entryTag, figureTag, lastTag, editionKnown, countAllowed, levelLimit, ruleAllowed, all, itemLimit}
+use Rattle.layout.specs.Layout.{machineItem, machineSheet, isSome, headLength, mostItems}
 use Rattle.layout.specs.Content.{contentAt, editionIn, countIn, itemIn}
-use Rattle.layout.specs.Read.{Placed, placed, itemLevel, lengthOrName, ruleWrong, parentWrong, levelWrong, headTests, itemTests, lastTests, judge, Scan, going, stopped, placeItem, placeField, goOn, scanItem, headNext, scan, afterLast, scanEnd, scanLast, headContent, scanSheet, opens, conclude, readSheet, layoutOf}
+use Rattle.layout.specs.Read.{Placed, placed, itemLevel, lengthOrName, ruleWrong, parentWrong, levelWrong, headTests, itemTests, lastTests, judge, Scan, going, stopped, placeItem}
+use Rattle.layout.specs.Read.{placeField, goOn, scanItem, headNext, scan, afterLast, scanEnd, scanLast, headContent, scanSheet, opens, conclude, readSheet, layoutOf}
 
 -- Lists of tests.
 

@@ -12,12 +12,15 @@ use lib.ListN.{length, length-drop}
 use borrow.Author.Tests.{eq-eqb, ne-eqb}
 use Rattle.circuit.specs.Circuit.{Listed}
 use Rattle.circuit.specs.Rules.{Operation, sum, difference, smallest, largest, share, choice, count, atLeast, operationOf, allowed, coded, oneOrMore, maxParents, countAllowed as parentsAllowed}
-use Rattle.layout.specs.Layout.{LayoutItem, entryField, figureField, entryTag, figureTag, parentsAt, parentAt, editionKnown, countAllowed, itemLimit, keepAllowed, spreadAllowed, ruleAllowed, isSome, nameAllowed, nameByte, nameLimit, all}
+use Rattle.layout.specs.Layout.{LayoutItem, entryField, figureField, entryTag, figureTag, parentsAt, parentAt, editionKnown, countAllowed, itemLimit, keepAllowed, spreadAllowed}
+use Rattle.layout.specs.Layout.{ruleAllowed, isSome, nameAllowed, nameByte, nameLimit, all}
 use Rattle.layout.specs.Content.{ruleIn, keepIn, spreadIn, parentCountIn, parentIn, parentsIn, nameIn, itemIn}
 use Rattle.layout.specs.Read.{lengthOrName, ruleWrong, parentWrong}
-use Rattle.layout.specs.Causes.{NotAName, BadByte, WrongItemLength, entryName, figureUnder, figureRest, figureName, RuleTakes, sumTakes, differenceTakes, smallestTakes, largestTakes, shareTakes, choiceTakes, countTakes, atLeastTakes, WrongFigure, HighParent}
+use Rattle.layout.specs.Causes.{NotAName, BadByte, WrongItemLength, entryName, figureUnder, figureRest, figureName, RuleTakes, sumTakes, differenceTakes, smallestTakes, largestTakes}
+use Rattle.layout.specs.Causes.{shareTakes, choiceTakes, countTakes, atLeastTakes, WrongFigure, HighParent}
 use Rattle.layout.proofs.Items.{parents-count}
-pub use Rattle.field.proofs.Tells.{Tells, holds, fails, tells-if, tells-or, tells-and, Refutes, right, wrong, refutes-if, refutes-and, tells-not, refutes-tells, tells-eq, tells-lt, tells-le, refutes-le, refutes-lt}
+pub use Rattle.field.proofs.Tells.{Tells, holds, fails, tells-if, tells-or, tells-and, Refutes, right, wrong, refutes-if, refutes-and, tells-not, refutes-tells, tells-eq, tells-lt, tells-le}
+pub use Rattle.field.proofs.Tells.{refutes-le, refutes-lt}
 
 -- some element fails a test
 pub refutes-all : (test : ℕ → Bool) (P : ℕ → Type 0) → ((x : ℕ) → Refutes (P x) (test x)) → (xs : List ℕ)

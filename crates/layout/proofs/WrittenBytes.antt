@@ -13,7 +13,8 @@ use Rattle.field.specs.Bytes.{Bytes}
 use Rattle.field.specs.Field.{fieldBytes}
 use Rattle.field.proofs.Cutting.{Bytes-fieldBytes}
 use Rattle.circuit.specs.Circuit.{Listed}
-use Rattle.layout.specs.Layout.{LayoutItem, entryField, figureField, Layout, headTag, entryTag, figureTag, lastTag, editionKnown, itemLimit, countAllowed, levelLimit, keepAllowed, spreadAllowed, ruleAllowed, nameByte, nameLimit, nameAllowed, all}
+use Rattle.layout.specs.Layout.{LayoutItem, entryField, figureField, Layout, headTag, entryTag, figureTag, lastTag, editionKnown, itemLimit, countAllowed, levelLimit, keepAllowed}
+use Rattle.layout.specs.Layout.{spreadAllowed, ruleAllowed, nameByte, nameLimit, nameAllowed, all}
 use Rattle.layout.specs.Write.{bytes16, concat, itemBytes, writeSheet, levelAfter, itemWithin, itemsWithin, within}
 use Rattle.layout.specs.Causes.{RuleTakes, sumTakes, differenceTakes, smallestTakes, largestTakes, shareTakes, choiceTakes, countTakes, atLeastTakes}
 use Rattle.layout.proofs.Scan.{and-left, and-right, all-listed}

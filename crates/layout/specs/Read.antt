@@ -9,7 +9,8 @@ use Rattle.field.specs.Field.{headerLength, cutAt}
 use Rattle.field.specs.declared.Cut.{Cut}
 use Rattle.field.specs.declared.Cut.the-variants.{Field, Short, Absent}
 use Rattle.circuit.specs.Calls.{Test, test, firstCause}
-use Rattle.layout.specs.Layout.{LayoutItem, entryField, figureField, Layout, headTag, entryTag, figureTag, lastTag, headLength, headNext, parentsAt, editionKnown, countAllowed, levelLimit, keepAllowed, spreadAllowed, ruleAllowed, nameAllowed, all, highest}
+use Rattle.layout.specs.Layout.{LayoutItem, entryField, figureField, Layout, headTag, entryTag, figureTag, lastTag, headLength, headNext, parentsAt, editionKnown, countAllowed}
+use Rattle.layout.specs.Layout.{levelLimit, keepAllowed, spreadAllowed, ruleAllowed, nameAllowed, all, highest}
 pub use Rattle.layout.specs.Layout.{headNext}
 use Rattle.layout.specs.Content.{contentAt, editionIn, countIn, nameIn, itemIn}
 

@@ -6,7 +6,8 @@ use mathlib.Core.List.{List, [], _∷_, _++_, map}
 use lib.Dec.{leb, ltb}
 use lib.ListN.{length, getD}
 use Rattle.field.specs.Field.{fieldBytes}
-use Rattle.layout.specs.Layout.{LayoutItem, entryField, figureField, Layout, headTag, entryTag, figureTag, lastTag, editionKnown, countAllowed, levelLimit, keepAllowed, spreadAllowed, ruleAllowed, nameAllowed, all, highest}
+use Rattle.layout.specs.Layout.{LayoutItem, entryField, figureField, Layout, headTag, entryTag, figureTag, lastTag, editionKnown, countAllowed, levelLimit, keepAllowed, spreadAllowed}
+use Rattle.layout.specs.Layout.{ruleAllowed, nameAllowed, all, highest}
 
 -- a number in two bytes, the low one first
 abbrev pub bytes16 : ℕ → List ℕ

@@ -24,7 +24,8 @@ use Rattle.circuit.proofs.View.{result-below}
 use Rattle.circuit.proofs.Invariant.{Justified, exact, due, awaits}
 use Rattle.circuit.proofs.Sound.{Sound, run-sound}
 use Rattle.circuit.proofs.Accepted.{number-cause, post-passed}
-use Rattle.layout.specs.Read.{Placed, Scan, going, stopped, placeField, goOn, judge, itemTests, lastTests, headTests, scanItem, scan, scanEnd, afterLast, scanLast, scanSheet, conclude, headContent, SheetRead, opens, refused, readSheet, layoutOf}
+use Rattle.layout.specs.Read.{Placed, Scan, going, stopped, placeField, goOn, judge, itemTests, lastTests, headTests, scanItem, scan, scanEnd, afterLast, scanLast, scanSheet, conclude}
+use Rattle.layout.specs.Read.{headContent, SheetRead, opens, refused, readSheet, layoutOf}
 use Rattle.layout.specs.Content.{editionIn, countIn}
 use Rattle.layout.specs.Opened.{sheetFrom, sheetOf, sheetRead}
 use Rattle.layout.specs.Index.{indexBytes}
@@ -43,7 +44,8 @@ use Rattle.table.specs.Bytes.{encodeTable, Holdable}
 use Rattle.table.proofs.Tables.{encoded-record, encodeTable-ext, bare-holdable, full-holdable}
 use Rattle.office.specs.Office.{Office, keeping, Given, resultsLent, accepted, openingTests, unlessRefused, callOn, openRead, openOn, runOn, kindRead, numberRead}
 use Rattle.office.specs.Demand2Words.{answerOf}
-use Rattle.office.specs.Demand3Words.{Posted, postOf, ifAccepted, acceptedPosts, freshAnswer, SameReading, Shown, shown, boardAfter, freshShown, freshBoard, SameBoard, SameAnswers, storedIn, StaysStored, Retains}
+use Rattle.office.specs.Demand3Words.{Posted, postOf, ifAccepted, acceptedPosts, freshAnswer, SameReading, Shown, shown, boardAfter, freshShown, freshBoard, SameBoard, SameAnswers}
+use Rattle.office.specs.Demand3Words.{storedIn, StaysStored, Retains}
 use Rattle.office.proofs.Holdable.{run-holdable, perform-holdable}
 use Rattle.office.proofs.Bridge.{Within, perform-within, resultsBy, givenBy, call-performs, run-runs}
 

@@ -23,7 +23,8 @@ use Rattle.table.specs.Rows.{row, allBelow}
 use Rattle.table.specs.Record.{width, kindIn, markIn, numberIn, decodeCell, allowed, codesForm, numberForm, recordForm}
 use Rattle.table.specs.Bytes.{tableForm, recordInForm}
 use Rattle.office.specs.Office.{Office, lengthsWrong, indexWrong, tableWrong}
-use Rattle.office.specs.Demand1Words.{LengthsWrong, IndexNotAsOpened, BeyondRange, RecordBroken, kindUnknown, markUnknown, entryUnk, entryOut, entryRefresh, unkRefresh, numberNotZero, beyondRange, RecordBrokenAt, TableBroken, NoSuchItem, ListsWrong, odd, long, other, SomeNoItem, NotPostable, kindOther, nullNotZero, numberBeyond}
+use Rattle.office.specs.Demand1Words.{LengthsWrong, IndexNotAsOpened, BeyondRange, RecordBroken, kindUnknown, markUnknown, entryUnk, entryOut, entryRefresh, unkRefresh, numberNotZero}
+use Rattle.office.specs.Demand1Words.{beyondRange, RecordBrokenAt, TableBroken, NoSuchItem, ListsWrong, odd, long, other, SomeNoItem, NotPostable, kindOther, nullNotZero, numberBeyond}
 use Rattle.item.specs.Offsets.{sameBytes}
 use Rattle.item.proofs.Offsets.{same-refl, same-equal}
 

@@ -4,6 +4,7 @@ use native.Mathlib.Omega.{arith}
 use mathlib.Core.Bool.{Bool, true, _&&_}
 use lib.Dec.{ltb}
 use borrow.Author.Tests.{ltb-true}
+use Rattle.circuit.proofs.Examples.{machine}
 use Rattle.circuit.proofs.RuleLaws.{and-left, and-right}
 use Rattle.field.specs.Field.{Bytes}
 use mathlib.Core.Path.{_≡_, refl, ap}
@@ -15,11 +16,9 @@ use Rattle.word.specs.Word.{leAt, leBytes, bytes64}
 use Rattle.circuit.specs.Value.{limit, inRange, partsOf}
 use Rattle.circuit.specs.Call.{Call, post, keep, drop, step, ask, board, bare, full}
 use Rattle.circuit.specs.Board.{listed, listsOff}
-use Rattle.circuit.specs.Calls.{firstCause, tests, someNoItem, postedValue, effect, Outcome, perform}
-use Rattle.circuit.specs.Rules.{apply, numbers, total, anyOut}
-use Rattle.circuit.specs.Sheet.{Sheet, member}
+use Rattle.circuit.specs.Calls.{firstCause, tests, someNoItem, postedValue, effect}
+use Rattle.circuit.specs.Sheet.{Sheet}
 use Rattle.circuit.specs.Table.{Table}
-use Rattle.circuit.specs.Machine.{gather, workOutBy, lookFor, lookUp, workOut, storePosting, keepFigure, dropFigure, tellChild, tellBelow, tell, clearMark, stepItem, lowestMarked, catchUpIn, catchUp}
 use Rattle.layout.specs.Layout.{spreadMeant, machineItem}
 use Rattle.layout.specs.Read.{refused, readSheet}
 use Rattle.layout.specs.Write.{concat, writeSheet}
@@ -77,9 +76,13 @@ bareTable = nullRecord ++ nullRecord ++ nullRecord ++ unkRecord ++ unkRecord
 unfoldable pub fullTable : List ℕ
 fullTable = nullRecord ++ nullRecord ++ nullRecord ++ nullRecord ++ nullRecord
 
--- to unfold this is to unfold all that the calls compute with
+-- to unfold these is to unfold all that a table's form and encoding compute with, and all that the calls do
+unfoldable pub tabling : Sheet → Table → List ℕ
+unfolding tableForm encodeTable rowsBelow allBelow encodeCell decodeCell codesForm numberForm recordForm leAt leBytes limit inRange
+tabling S T = encodeTable S T
+
 unfoldable pub calls : List ℕ → Office → Call → Given
-unfolding callOn openOn reading concat sameBytes indexBytes tests firstCause listed listsOff someNoItem resultsOf postedValue partsOf effect tableForm encodeTable rowsBelow allBelow encodeCell decodeCell codesForm numberForm recordForm leAt leBytes limit inRange spreadMeant machineItem
+unfolding callOn openOn reading tabling concat sameBytes indexBytes tests firstCause listed listsOff someNoItem resultsOf postedValue partsOf effect spreadMeant machineItem
 calls s kept c = callOn s kept c
 
 -- the openings write this index and these tables
@@ -237,11 +240,6 @@ answers s kept (c ∷ cs) = let g : Given = callOn s kept c in answerOf g ∷ an
 
 abbrev answer : ℕ → ℕ → ℤ → Answer
 answer number kind value = record { number = number; offset = 0; kind = kind; value = value }
-
--- to unfold this is to unfold all that the machine computes with
-unfoldable pub machine : Sheet → Table → Call → Outcome
-unfolding perform keepFigure dropFigure storePosting stepItem tell tellBelow tellChild clearMark lookUp lookFor workOut workOutBy gather apply numbers total anyOut member catchUp catchUpIn lowestMarked
-machine S T c = perform S T c
 
 -- the day of the example
 pub example-day : answers exampleBytes (keeping exampleIndex bareTable) (post 0 3 (pos 1000) ∷ post 1 3 (pos 300) ∷ ask 4 ∷ post 2 3 (negsuc 199) ∷ ask 4 ∷ drop 0 ∷ ask 9 ∷ [])

@@ -13,7 +13,8 @@ use Rattle.circuit.specs.WellFormed.{allWellFormed}
 use Rattle.circuit.specs.Circuit.{Listed}
 use Rattle.circuit.specs.Sheet.{Sheet, Item, entry, figure, Spread, defer, renew, forget, size, itemAt, isFigure, parentsOf, parents, spreadOf, isChild, evaluate, Ordered}
 use Rattle.circuit.specs.Table.{Table, Cell, Mark, unmarked, refresh, notice, unk, held, upd, entryForm}
-use Rattle.circuit.specs.Machine.{gather, lookUp, workOut, storePosting, postCell, keepFigure, dropFigure, dropCell, renewed, tellChild, tellCell, tellStored, tellIf, tellBelow, tell, clearMark, clearCell, stepItem, stepCell, catchUp}
+use Rattle.circuit.specs.Machine.{gather, lookUp, workOut, storePosting, postCell, keepFigure, dropFigure, dropCell, renewed, tellChild, tellCell, tellStored, tellIf, tellBelow, tell}
+use Rattle.circuit.specs.Machine.{clearMark, clearCell, stepItem, stepCell, catchUp}
 use Rattle.circuit.specs.Call.{Call, post, keep, drop, step, ask, board}
 use Rattle.circuit.specs.Board.{listed}
 use Rattle.circuit.specs.Calls.{postedValue, showItems, effect, perform, tests, firstCause, run, postIt}

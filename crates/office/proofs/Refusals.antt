@@ -23,7 +23,8 @@ use Rattle.table.specs.Rows.{row}
 use Rattle.table.specs.Record.{width}
 use Rattle.table.specs.Bytes.{decodeTable, tableForm}
 use Rattle.office.specs.Office.{Office, Given, resultsLent, refusal, accepted, openingTests, callTests, unlessRefused, effectOn, callRead, callOn, openRead, openOn}
-use Rattle.office.specs.Demand1Words.{Invocation, opening, calling, serve, resultsLentTo, TableBroken, NotPostable, Row, cause, ownCauses, causesIn, causesOf, First, NoneHolds, HoldsAt, InBase, Lowest, Refused, bySheet, byLent, NoCause, ListsWrong, SomeNoItem, AcceptedLent, BoardRefuses}
+use Rattle.office.specs.Demand1Words.{Invocation, opening, calling, serve, resultsLentTo, TableBroken, NotPostable, Row, cause, ownCauses, causesIn, causesOf, First, NoneHolds}
+use Rattle.office.specs.Demand1Words.{HoldsAt, InBase, Lowest, Refused, bySheet, byLent, NoCause, ListsWrong, SomeNoItem, AcceptedLent, BoardRefuses}
 use Rattle.office.proofs.Causes.{tells-is, tells-is-not, tells-lengths, tells-index, tells-table, tells-beyond, tells-lists, tells-listed, tells-posted, tells-mark}
 
 -- ---- the first cause

@@ -9,7 +9,8 @@ use lib.ListN.{length, getD, List·getD-map}
 use lib.Seq.{getD-take}
 use borrow.Author.Tests.{ltb-true, lt-ltb, le-ltb, ne-eqb}
 use Rattle.circuit.specs.Calls.{firstCause}
-use Rattle.layout.specs.Layout.{entryField, entryTag, figureTag, levelLimit, keepAllowed, spreadAllowed, ruleAllowed, nameAllowed, all, highest, ruleAt, keepAt, spreadAt, parentCountAt, parentsAt, parentAt}
+use Rattle.layout.specs.Layout.{entryField, entryTag, figureTag, levelLimit, keepAllowed, spreadAllowed, ruleAllowed, nameAllowed, all, highest, ruleAt, keepAt, spreadAt, parentCountAt}
+use Rattle.layout.specs.Layout.{parentsAt, parentAt}
 use Rattle.layout.specs.Content.{contentAt, ruleIn, keepIn, spreadIn, parentCountIn, parentsIn, nameIn, itemIn}
 use Rattle.layout.specs.Read.{Placed, placed, levelOf, itemLevel, lengthOrName, itemTests}
 use Rattle.sheet.specs.Check.{judgedOf, judgedItem, LevelsAt, numbersAt, levelOver}
