@@ -451,7 +451,8 @@ module _ (s : List ℕ) (edition : ℕ) (ps : List Placed) (reads : readSheet s 
   table-stays E T sound h w p is marks e kind z accepts ds none-made k low fig away was =
       subst₂ (λ a b. StaysStored (a .table) ds (b .table) k) (sym is) (sym ran)
       (stays T ds (run X U ds) k low
-      (retention X ordered T (sound .invariant) (sound .formed) (quiet-is T (λ j l. ap (λ b. markIn (row width (b .table) j)) (sym is) ∙ marks j l)) e kind z ds none k low (outside e k entry-e fig, away))
+      (retention X ordered T (sound .invariant) (sound .formed) (quiet-is T (λ j l. ap (λ b. markIn (row width (b .table) j)) (sym is) ∙ marks j l)) e kind z ds none k low
+      (outside e k entry-e fig, away))
       (ap (λ b. storedIn (b .table) k) (sym is) ∙ was))
     where
       X : Sheet

@@ -22,8 +22,11 @@ returns c =
     let a = c .before .before .before .before .before .before .before .before .before .before .before .before .before .before .before .before .before .before .args in
     let m = c .before .before .before .before .before .before .before .before .before .before .measure in
     let w = c .before .before .before .before .n .given in
-    let e = sym (w .1) ∙ m .ensures .0 in
-    (admit-index (a .sheet .now) (a .index .now) (a .table .now) _ (w .0 .0) e (m .ensures .1 .located) (c .before .index-matches .result) (c .before .index-matches .ensures) (not-true _ (c .if1 .taken)), m .ensures .1)
+    let e = sym (w .1) ∙ m .ensures .0 in (
+      admit-index (a .sheet .now) (a .index .now) (a .table .now) _ (w .0 .0) e (m .ensures .1 .located) (c .before .index-matches .result) (c .before .index-matches .ensures)
+          (not-true _ (c .if1 .taken)),
+      m .ensures .1,
+    )
 
 table-formed-requires : tie.Need-table-formed-requires
 table-formed-requires c κs =
@@ -39,8 +42,12 @@ returns-2 c =
     let a = c .before .before .before .before .before .before .before .before .before .before .before .before .before .before .before .before .before .before .before .before .before .args in
     let m = c .before .before .before .before .before .before .before .before .before .before .before .before .before .measure in
     let w = c .before .before .before .before .before .before .before .n .given in
-    let e = sym (w .1) ∙ m .ensures .0 in
-    (admit-table (a .sheet .now) (a .index .now) (a .table .now) _ (w .0 .0) e (m .ensures .1 .located) (c .before .before .before .before .index-matches .result) (c .before .before .before .before .index-matches .ensures) (not-false _ (c .before .before .before .if1 .left)) (c .before .table-formed .result) (c .before .table-formed .ensures) (not-true _ (c .if2 .taken)), m .ensures .1)
+    let e = sym (w .1) ∙ m .ensures .0 in (
+      admit-table (a .sheet .now) (a .index .now) (a .table .now) _ (w .0 .0) e (m .ensures .1 .located) (c .before .before .before .before .index-matches .result)
+          (c .before .before .before .before .index-matches .ensures) (not-false _ (c .before .before .before .if1 .left)) (c .before .table-formed .result) (c .before .table-formed .ensures)
+          (not-true _ (c .if2 .taken)),
+      m .ensures .1,
+    )
 
 returns-3 : tie.Need-returns-3
 returns-3 c =
@@ -54,8 +61,12 @@ returns-4 c =
     let a = c .before .before .before .before .before .before .before .before .before .before .before .before .before .before .before .before .before .before .before .before .before .args in
     let m = c .before .before .before .before .before .before .before .before .before .before .before .before .before .measure in
     let w = c .before .before .before .before .before .before .before .n .given in
-    let e = sym (w .1) ∙ m .ensures .0 in
-    (admit-items (a .sheet .now) (a .index .now) (a .table .now) _ (w .0 .0) e (m .ensures .1 .located) (c .before .before .before .before .index-matches .result) (c .before .before .before .before .index-matches .ensures) (not-false _ (c .before .before .before .if1 .left)) (c .before .table-formed .result) (c .before .table-formed .ensures) (not-false _ (c .if2 .left)), m .ensures .1)
+    let e = sym (w .1) ∙ m .ensures .0 in (
+      admit-items (a .sheet .now) (a .index .now) (a .table .now) _ (w .0 .0) e (m .ensures .1 .located) (c .before .before .before .before .index-matches .result)
+          (c .before .before .before .before .index-matches .ensures) (not-false _ (c .before .before .before .if1 .left)) (c .before .table-formed .result) (c .before .table-formed .ensures)
+          (not-false _ (c .if2 .left)),
+      m .ensures .1,
+    )
 
 pub admit-spec : {M : Type 1} → statement M
 admit-spec =

@@ -20,8 +20,11 @@ returns c =
     let a = c .before .before .before .before .before .before .before .before .before .before .before .before .before .before .args in
     let g = c .before .before .count .given in
     let k = c .before .before .before .before .before .before .before .before .check in
-    let e = sym (g .1) ∙ k .ensures .0 in
-    (measured-index (a .sheet .now) (a .index-len) (a .table-len) (g .0 .0) (g .0 .1 .0) e (c .if1 .taken), record { offsets-are = k .ensures .1 .0; levels-are = k .ensures .1 .1; located = located (a .sheet .now) _ _ (k .ensures .1 .0) })
+    let e = sym (g .1) ∙ k .ensures .0 in (
+      measured-index (a .sheet .now) (a .index-len) (a .table-len) (g .0 .0) (g .0 .1 .0) e
+          (c .if1 .taken),
+      record { offsets-are = k .ensures .1 .0; levels-are = k .ensures .1 .1; located = located (a .sheet .now) _ _ (k .ensures .1 .0) },
+    )
 
 mul-if2 : tie.Need-mul-if2
 mul-if2 c =
@@ -36,23 +39,32 @@ returns-2 c =
     let a = c .before .before .before .before .before .before .before .before .before .before .before .before .before .before .before .args in
     let g = c .before .before .before .count .given in
     let k = c .before .before .before .before .before .before .before .before .before .check in
-    let e = sym (g .1) ∙ k .ensures .0 in
-    (measured-table (a .sheet .now) (a .index-len) (a .table-len) (g .0 .0) (g .0 .1 .0) e (c .before .if1 .left) (c .if2 .taken), record { offsets-are = k .ensures .1 .0; levels-are = k .ensures .1 .1; located = located (a .sheet .now) _ _ (k .ensures .1 .0) })
+    let e = sym (g .1) ∙ k .ensures .0 in (
+      measured-table (a .sheet .now) (a .index-len) (a .table-len) (g .0 .0) (g .0 .1 .0) e (c .before .if1 .left)
+          (c .if2 .taken),
+      record { offsets-are = k .ensures .1 .0; levels-are = k .ensures .1 .1; located = located (a .sheet .now) _ _ (k .ensures .1 .0) },
+    )
 
 returns-3 : tie.Need-returns-3
 returns-3 c =
     let a = c .before .before .before .before .before .before .before .before .before .before .before .before .before .args in
     let g = c .before .number .given in
-    let k = c .before .before .before .before .before .before .before .check in
-    (measured-refused (a .sheet .now) (a .index-len) (a .table-len) (g .0 .0) (g .0 .1 .0) (sym (g .1) ∙ k .ensures .0), record { offsets-are = k .ensures .1 .0; levels-are = k .ensures .1 .1; located = located (a .sheet .now) _ _ (k .ensures .1 .0) })
+    let k = c .before .before .before .before .before .before .before .check in (
+      measured-refused (a .sheet .now) (a .index-len) (a .table-len) (g .0 .0) (g .0 .1 .0)
+          (sym (g .1) ∙ k .ensures .0),
+      record { offsets-are = k .ensures .1 .0; levels-are = k .ensures .1 .1; located = located (a .sheet .now) _ _ (k .ensures .1 .0) },
+    )
 
 returns-4 : tie.Need-returns-4
 returns-4 c =
     let a = c .before .before .before .before .before .before .before .before .before .before .before .before .before .before .before .args in
     let g = c .before .before .before .count .given in
     let k = c .before .before .before .before .before .before .before .before .before .check in
-    let e = sym (g .1) ∙ k .ensures .0 in
-    (measured-items (a .sheet .now) (a .index-len) (a .table-len) (g .0 .0) (g .0 .1 .0) e (c .before .if1 .left) (c .if2 .left), record { offsets-are = k .ensures .1 .0; levels-are = k .ensures .1 .1; located = located (a .sheet .now) _ _ (k .ensures .1 .0) })
+    let e = sym (g .1) ∙ k .ensures .0 in (
+      measured-items (a .sheet .now) (a .index-len) (a .table-len) (g .0 .0) (g .0 .1 .0) e (c .before .if1 .left)
+          (c .if2 .left),
+      record { offsets-are = k .ensures .1 .0; levels-are = k .ensures .1 .1; located = located (a .sheet .now) _ _ (k .ensures .1 .0) },
+    )
 
 pub measure-spec : {M : Type 1} → statement M
 measure-spec =

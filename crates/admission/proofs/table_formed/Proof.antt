@@ -56,8 +56,12 @@ loop-again : tie.Need-loop-again Inv-loop μ-loop
 loop-again c =
     let a = c .before .before .before .before .before .before .before .before .before .args in
     let p = c .before .before .before .before .before .before .before .before .before .pre .0 in
-    let l = c .before .before .before .before .before .loop in
-    (omega arith, formed-record (a .sheet .now) (a .offsets .now) (a .table .now) (p .located) (l .k) (omega (arith, p .count-is, c .before .before .before .before .loop-test .taken)) (c .before .before .is-figure .result) (c .before .record-formed .result) (c .before .before .is-figure .ensures) (c .before .record-formed .ensures) (not-false _ (c .if1 .left)) (l .inv .1))
+    let l = c .before .before .before .before .before .loop in (
+      omega arith,
+      formed-record (a .sheet .now) (a .offsets .now) (a .table .now) (p .located) (l .k) (omega (arith, p .count-is, c .before .before .before .before .loop-test .taken))
+          (c .before .before .is-figure .result) (c .before .record-formed .result) (c .before .before .is-figure .ensures) (c .before .record-formed .ensures) (not-false _ (c .if1 .left))
+          (l .inv .1),
+    )
 
 returns-2 : tie.Need-returns-2 Inv-loop μ-loop
 returns-2 c =

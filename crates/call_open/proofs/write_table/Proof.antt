@@ -47,8 +47,13 @@ loop-again c =
     let a = c .before .before .before .before .before .before .before .before .before .before .before .before .args in
     let p = c .before .before .before .before .before .before .before .before .before .before .before .before .pre .0 in
     let l = c .before .before .before .before .before .before .before .before .loop in
-    let low = c .before .before .before .before .before .before .before .loop-test .taken in
-    (omega arith, omega (arith, l .inv .1, c .before .before .store-cell .kept .0), written-next (a .sheet .now) (a .offsets .now) (l .table) _ (p .located) (l .k) (omega (arith, p .count-is, low)) (a .filled) (c .before .before .before .before .before .is-figure .result) _ (c .before .before .before .before .before .is-figure .ensures) (c .before .before .before .first-cell .ensures) (c .before .before .store-cell .ensures) (omega (arith, l .inv .1, low)) (l .inv .2))
+    let low = c .before .before .before .before .before .before .before .loop-test .taken in (
+      omega arith,
+      omega (arith, l .inv .1, c .before .before .store-cell .kept .0),
+      written-next (a .sheet .now) (a .offsets .now) (l .table) _ (p .located) (l .k)
+          (omega (arith, p .count-is, low)) (a .filled) (c .before .before .before .before .before .is-figure .result) _ (c .before .before .before .before .before .is-figure .ensures)
+          (c .before .before .before .first-cell .ensures) (c .before .before .store-cell .ensures) (omega (arith, l .inv .1, low)) (l .inv .2),
+    )
 
 same-length : tie.Need-same-length Inv-loop μ-loop
 same-length c = search needs

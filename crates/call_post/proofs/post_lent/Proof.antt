@@ -42,7 +42,8 @@ returns-2 c =
     let b = slice-bytes (a .table .now) (c .before .before .before .before .before .before .slice-known .given) in
     post-value (p .1) b x (a .item) (a .kind) (a .number) (i .result) (i .ensures) (c .give2 .result) (c .give2 .ensures .1)
     (c .before .before .before .before .if1 .left)
-    (sym (ap partsMeaning (c .before .enum-told .given .1)) ∙ c .before .before .before .posted .ensures ∙ ap (postedValue (a .kind)) (back (a .number) (c .before .before .before .before .before .before .before .before .before .fits .number)))
+    (sym (ap partsMeaning (c .before .enum-told .given .1)) ∙ c .before .before .before .posted .ensures ∙ ap (postedValue (a .kind))
+    (back (a .number) (c .before .before .before .before .before .before .before .before .before .fits .number)))
     (c .give2 .ensures .0)
 
 returns-3 : tie.Need-returns-3
@@ -54,9 +55,13 @@ returns-3 c =
     let b = slice-bytes (a .table .now) (c .before .before .before .before .before .before .before .before .before .before .before .before .before .before .slice-known .given) in
     post-stored (p .1) b x (a .item) (a .kind) (a .number) (i .result) (i .ensures) (c .give3 .result) (c .give3 .ensures .1)
     (c .before .before .before .before .before .before .before .before .before .before .before .before .if1 .left) _
-    (sym (ap partsMeaning (c .before .before .before .before .before .before .before .before .before .value .given .1)) ∙ c .before .before .before .before .before .before .before .before .before .before .before .posted .ensures ∙ ap (postedValue (a .kind)) (back (a .number) (c .before .before .before .before .before .before .before .before .before .before .before .before .before .before .before .before .before .fits .number)))
+    (sym (ap partsMeaning (c .before .before .before .before .before .before .before .before .before .value .given .1))
+    ∙ c .before .before .before .before .before .before .before .before .before .before .before .posted .ensures ∙ ap (postedValue (a .kind))
+    (back (a .number) (c .before .before .before .before .before .before .before .before .before .before .before .before .before .before .before .before .before .fits .number)))
     _ _
-    (c .before .before .before .before .before .posted-cell .ensures ∙ ap (λ q. Rattle.circuit.specs.Machine.postCell q (meaning (c .before .before .before .before .before .before .before .before .before .value .given .0 .0))) (c .before .before .before .before .before .before .read-cell .ensures))
+    (c .before .before .before .before .before .posted-cell .ensures ∙ ap
+    (λ q. Rattle.circuit.specs.Machine.postCell q (meaning (c .before .before .before .before .before .before .before .before .before .value .given .0 .0)))
+    (c .before .before .before .before .before .before .read-cell .ensures))
     (c .before .before .before .store-cell .ensures) (c .give3 .ensures .0)
 
 pub post-lent-spec : {M : Type 1} → statement M

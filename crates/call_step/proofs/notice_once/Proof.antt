@@ -24,8 +24,17 @@ unfolding mostItems itemLimit maxParents
 tell-and-clear-requires c κs =
     let a = c .before .before .before .before .before .before .before .before .before .before .before .before .before .args in
     let p = c .before .before .before .before .before .before .before .before .before .before .before .before .before .pre in
-    let l = c .before .before .before .before .before .before .before .link in
-    (p .0, (fresh-ready (a .sheet .now) _ _ refl refl (same-all 0 mostItems), (lists-linked (p .0) (replicate mostItems 0) (replicate (maxParents * mostItems) 0) _ _ refl refl (same-all 0 mostItems) (l .ensures .0) (l .ensures .1), omega (arith, p .1 .0, p .1 .1))))
+    let l = c .before .before .before .before .before .before .before .link in (
+      p .0,
+      (
+        fresh-ready (a .sheet .now) _ _ refl refl (same-all 0 mostItems),
+        (
+          lists-linked (p .0) (replicate mostItems 0) (replicate (maxParents * mostItems) 0) _ _ refl refl (same-all 0 mostItems) (l .ensures .0) (l .ensures .1),
+          omega
+              (arith, p .1 .0, p .1 .1),
+        ),
+      ),
+    )
 
 returns : tie.Need-returns
 returns c =

@@ -25,8 +25,16 @@ catch-up-requires c κs =
     let a = c .before .before .before .before .before .before .before .before .before .before .before .before .before .before .args in
     let p = c .before .before .before .before .before .before .before .before .before .before .before .before .before .before .pre in
     let l = c .before .before .before .before .before .before .before .link in
-    let ready = ready-later (p .1 .0) (2 * a .first + 1) (omega arith) (omega (arith, size-most (a .sheet .now), p .1 .1 .0, p .1 .1 .1 .1)) in
-    (p .0, (ready, (lists-linked (p .0) (replicate mostItems 0) (replicate (maxParents * mostItems) 0) _ _ refl refl (same-all 0 mostItems) (l .ensures .0) (l .ensures .1), (p .1 .1 .0, p .1 .1 .1 .0))))
+    let ready = ready-later (p .1 .0) (2 * a .first + 1) (omega arith) (omega (arith, size-most (a .sheet .now), p .1 .1 .0, p .1 .1 .1 .1)) in (
+      p .0,
+      (
+        ready,
+        (
+          lists-linked (p .0) (replicate mostItems 0) (replicate (maxParents * mostItems) 0) _ _ refl refl (same-all 0 mostItems) (l .ensures .0) (l .ensures .1),
+          (p .1 .1 .0, p .1 .1 .1 .0),
+        ),
+      ),
+    )
 
 pub catch-up-from-spec : {M : Type 1} → statement M
 catch-up-from-spec =

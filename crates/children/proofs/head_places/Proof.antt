@@ -38,13 +38,15 @@ cast-heads c = search needs
 mul-heads : tie.Need-mul-heads Inv-loop μ-loop
 mul-heads c =
     let a = c .before .before .before .before .before .before in
-    let low = place-low (parentsOf (fieldItem (a .args .s .now) (a .args .at))) (a .pre .1 .0) (c .before .before .loop .k) _ _ (c .parent .ensures) (c .before .before .before .parent-count .ensures .count-is) (c .before .loop-test .taken) in
+    let low = place-low (parentsOf (fieldItem (a .args .s .now) (a .args .at))) (a .pre .1 .0) (c .before .before .loop .k) _ _ (c .parent .ensures)
+    (c .before .before .before .parent-count .ensures .count-is) (c .before .loop-test .taken) in
     search (needs, low)
 
 slice-write-heads : tie.Need-slice-write-heads Inv-loop μ-loop
 slice-write-heads c =
     let a = c .before .before .before .before .before .before in
-    let low = place-low (parentsOf (fieldItem (a .args .s .now) (a .args .at))) (a .pre .1 .0) (c .before .before .loop .k) _ _ (c .parent .ensures) (c .before .before .before .parent-count .ensures .count-is) (c .before .loop-test .taken) in
+    let low = place-low (parentsOf (fieldItem (a .args .s .now) (a .args .at))) (a .pre .1 .0) (c .before .before .loop .k) _ _ (c .parent .ensures)
+    (c .before .before .before .parent-count .ensures .count-is) (c .before .loop-test .taken) in
     let kept = ap length (c .before .before .loop .inv .1) ∙ heads-length (a .args .heads .now) (a .args .first) (parentsOf (fieldItem (a .args .s .now) (a .args .at))) (c .before .before .loop .k) in
     omega (arith, low, kept)
 
@@ -68,7 +70,8 @@ same-length c =
 returns : tie.Need-returns Inv-loop μ-loop
 returns c =
     let a = c .before .before .before .before .before .args in
-    let all : c .before .loop .k ≡ length (parentsOf (fieldItem (a .s .now) (a .at))) = omega (arith, c .before .before .parent-count .ensures .count-is, c .loop-test .left, c .before .loop .inv .0) in
+    let all : c .before .loop .k ≡ length (parentsOf (fieldItem (a .s .now) (a .at))) = omega
+    (arith, c .before .before .parent-count .ensures .count-is, c .loop-test .left, c .before .loop .inv .0) in
     c .before .loop .inv .1 ∙ ap (headPlaces (a .heads .now) (a .first) (parentsOf (fieldItem (a .s .now) (a .at)))) all
 
 pub head-places-spec : {M : Type 1} → statement M

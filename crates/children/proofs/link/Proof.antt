@@ -43,8 +43,14 @@ link-places-requires c κs =
     let a = c .before .before .before .before .before .before .before .before .before in
     let l = c .before .before .before .before .loop in
     let more = c .before .before .before .loop-test .taken in
-    let kept = built-lengths (l .inv) in
-    (item-there (a .args .s .now) (a .args .offsets .now) (a .pre .0) (a .pre .1 .0) (l .inv .within) more, (parents-low (a .args .s .now) (a .args .offsets .now) (a .pre .0) (a .pre .1 .0) (l .inv .within) more (l .heads) (omega (arith, a .pre .1 .1 .1 .0, kept .0)), omega (arith, a .pre .1 .1 .1 .1, kept .1, l .inv .within)))
+    let kept = built-lengths (l .inv) in (
+      item-there (a .args .s .now) (a .args .offsets .now) (a .pre .0) (a .pre .1 .0) (l .inv .within) more,
+      (
+        parents-low (a .args .s .now) (a .args .offsets .now) (a .pre .0) (a .pre .1 .0) (l .inv .within) more (l .heads) (omega (arith, a .pre .1 .1 .1 .0, kept .0)),
+        omega
+            (arith, a .pre .1 .1 .1 .1, kept .1, l .inv .within),
+      ),
+    )
 
 mul-head-places : tie.Need-mul-head-places Inv-loop μ-loop
 mul-head-places c =
@@ -57,8 +63,14 @@ head-places-requires c κs =
     let a = c .before .before .before .before .before .before .before .before .before .before .before .before .before in
     let l = c .before .before .before .before .before .before .before .before .loop in
     let more = c .before .before .before .before .before .before .before .loop-test .taken in
-    let kept = built-lengths (l .inv) in
-    (item-there (a .args .s .now) (a .args .offsets .now) (a .pre .0) (a .pre .1 .0) (l .inv .within) more, (parents-low (a .args .s .now) (a .args .offsets .now) (a .pre .0) (a .pre .1 .0) (l .inv .within) more (l .heads) (omega (arith, a .pre .1 .1 .1 .0, kept .0)), omega (arith, size-room (a .args .s .now), a .pre .1 .0, l .inv .within)))
+    let kept = built-lengths (l .inv) in (
+      item-there (a .args .s .now) (a .args .offsets .now) (a .pre .0) (a .pre .1 .0) (l .inv .within) more,
+      (
+        parents-low (a .args .s .now) (a .args .offsets .now) (a .pre .0) (a .pre .1 .0) (l .inv .within) more (l .heads) (omega (arith, a .pre .1 .1 .1 .0, kept .0)),
+        omega
+            (arith, size-room (a .args .s .now), a .pre .1 .0, l .inv .within),
+      ),
+    )
 
 loop-less : tie.Need-loop-less Inv-loop μ-loop
 loop-less c =

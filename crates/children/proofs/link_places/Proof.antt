@@ -34,13 +34,15 @@ parent-requires c κs =
 mul-links : tie.Need-mul-links Inv-loop μ-loop
 mul-links c =
     let a = c .before .before .before .before .before .before .before in
-    let low = place-low (parentsOf (fieldItem (a .args .s .now) (a .args .at))) (a .pre .1 .0) (c .before .before .loop .k) _ _ (c .parent .ensures) (c .before .before .before .parent-count .ensures .count-is) (c .before .loop-test .taken) in
+    let low = place-low (parentsOf (fieldItem (a .args .s .now) (a .args .at))) (a .pre .1 .0) (c .before .before .loop .k) _ _ (c .parent .ensures)
+    (c .before .before .before .parent-count .ensures .count-is) (c .before .loop-test .taken) in
     search (needs, low)
 
 shared-slice-read-links : tie.Need-shared-slice-read-links Inv-loop μ-loop
 shared-slice-read-links c =
     let a = c .before .before .before .before .before .before .before .before in
-    let low = place-low (parentsOf (fieldItem (a .args .s .now) (a .args .at))) (a .pre .1 .0) (c .before .before .before .loop .k) _ _ (c .before .parent .ensures) (c .before .before .before .before .parent-count .ensures .count-is) (c .before .before .loop-test .taken) in
+    let low = place-low (parentsOf (fieldItem (a .args .s .now) (a .args .at))) (a .pre .1 .0) (c .before .before .before .loop .k) _ _ (c .before .parent .ensures)
+    (c .before .before .before .before .parent-count .ensures .count-is) (c .before .before .loop-test .taken) in
     search (needs, low)
 
 add-links : tie.Need-add-links Inv-loop μ-loop
@@ -77,7 +79,8 @@ same-length c =
 returns : tie.Need-returns Inv-loop μ-loop
 returns c =
     let a = c .before .before .before .before .before .before .args in
-    let all : c .before .loop .k ≡ length (parentsOf (fieldItem (a .s .now) (a .at))) = omega (arith, c .before .before .parent-count .ensures .count-is, c .loop-test .left, c .before .loop .inv .0) in
+    let all : c .before .loop .k ≡ length (parentsOf (fieldItem (a .s .now) (a .at))) = omega
+    (arith, c .before .before .parent-count .ensures .count-is, c .loop-test .left, c .before .loop .inv .0) in
     c .before .loop .inv .1 ∙ ap (linkPlaces (a .links .now) (a .heads .now) (a .first) (parentsOf (fieldItem (a .s .now) (a .at)))) all
 
 pub link-places-spec : {M : Type 1} → statement M

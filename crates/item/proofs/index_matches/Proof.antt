@@ -46,8 +46,11 @@ loop-less c = omega arith
 loop-again : tie.Need-loop-again Inv-loop μ-loop
 loop-again c =
     let a = c .before .before .before .before .before .before .before in
-    let l = c .before .before .before .before .loop in
-    (omega arith, compared-next (a .args .index .now) (a .args .offsets .now) (a .args .n) (l .matched) (omega arith) (omega arith) (omega arith) (l .inv .1) (sym (not-false _ (c .if1 .left)) ∙ c .before .is-offset .ensures))
+    let l = c .before .before .before .before .loop in (
+      omega arith,
+      compared-next (a .args .index .now) (a .args .offsets .now) (a .args .n) (l .matched) (omega arith) (omega arith) (omega arith) (l .inv .1)
+          (sym (not-false _ (c .if1 .left)) ∙ c .before .is-offset .ensures),
+    )
 
 returns-2 : tie.Need-returns-2 Inv-loop μ-loop
 returns-2 c =

@@ -32,7 +32,8 @@ returns-3 : tie.Need-returns-3
 returns-3 c =
     let at-start = c .before .before .before .before .before .before .before .before .before .before in
     let read = toZ-ofZ w64 (at-start .args .number) (at-start .fits .number) in
-    let value = formed (at-start .args .kind) read (c .before .before .before .before .before .before .before .before .from-parts .ensures) (c .before .before .before .before .before .before .v .given .1) in
+    let value = formed (at-start .args .kind) read (c .before .before .before .before .before .before .before .before .from-parts .ensures)
+    (c .before .before .before .before .before .before .v .given .1) in
     accepted (at-start .args .kind) (at-start .args .number) _ value (at-start .args .scratch .now) _ _
     (c .before .before .before .before .if1 .left)
     (c .before .before .put-value .ensures)

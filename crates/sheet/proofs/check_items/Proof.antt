@@ -56,7 +56,8 @@ returns c =
 judge-item-requires : tie.Need-judge-item-requires Inv-loop μ-loop
 judge-item-requires c κs =
     let f = c .before .before .tag .given in
-    let g = matched-field (c .before .before .before .before .before .before .before .before .before .before .args .s .now) (c .before .before .before .before .before .before .loop .at) (c .before .before .before .before .field-at .ensures) (f .1) in
+    let g = matched-field (c .before .before .before .before .before .before .before .before .before .before .args .s .now) (c .before .before .before .before .before .before .loop .at)
+    (c .before .before .before .before .field-at .ensures) (f .1) in
     (omega arith, omega arith)
 
 enum-known-number : tie.Need-enum-known-number Inv-loop μ-loop
@@ -110,7 +111,8 @@ loop-again c =
     let n = scan-length (a .s .now) (a .edition) (l .i) (l .at) ps (l .inv .1) in
     let j = c .before .before .before .judge-item .ensures ps n (levels-at ps (l .levels) (a .levels .now) (l .inv .3)) in
     let g = c .before .level .given in
-    let t = turn (a .s .now) (a .edition) (a .count) (l .i) (l .at) (l .offsets) (a .offsets .now) (l .levels) (a .levels .now) (l .inv .1) (l .inv .2) (l .inv .3) (f .0 .0) (f .0 .1 .0) (f .0 .1 .1 .0) (f .0 .1 .1 .1 .0) (g .0 .0) cut (omega arith) (omega arith) (sym (g .1) ∙ j) in
+    let t = turn (a .s .now) (a .edition) (a .count) (l .i) (l .at) (l .offsets) (a .offsets .now) (l .levels) (a .levels .now) (l .inv .1) (l .inv .2) (l .inv .3) (f .0 .0)
+    (f .0 .1 .0) (f .0 .1 .1 .0) (f .0 .1 .1 .1 .0) (g .0 .0) cut (omega arith) (omega arith) (sym (g .1) ∙ j) in
     (search needs, t .0, t .1, t .2, simp length-set (omega arith), simp length-set (omega arith))
 
 check-last-requires : tie.Need-check-last-requires Inv-loop μ-loop

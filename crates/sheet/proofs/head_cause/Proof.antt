@@ -28,7 +28,8 @@ returns-4 c =
     let a = c .before .before .before .before .before .before .before .before .before in
     let e = c .before .before .before .before .before .u16-at .ensures .0 in
     let m = c .before .before .before .before .u16-at2 .ensures .0 in
-    let k : editionKnown (le16At (a .args .s .now) (a .args .start)) ≡ true = sym (ap editionKnown e) ∙ sym (c .before .before .before .edition-known .ensures) ∙ not-false _ (c .before .before .if3 .left) in
+    let k : editionKnown (le16At (a .args .s .now) (a .args .start)) ≡ true = sym (ap editionKnown e) ∙ sym (c .before .before .before .edition-known .ensures) ∙ not-false _
+    (c .before .before .if3 .left) in
     let n : countAllowed (le16At (a .args .s .now) (a .args .start)) (le16At (a .args .s .now) (a .args .start + countAt)) ≡ false =
     sym (ap₂ countAllowed e m) ∙ sym (c .before .count-allowed .ensures) ∙ not-true _ (c .if4 .taken) in
     head-count (a .args .s .now) (a .args .tag) (a .args .start) (a .args .len) (a .pre) (c .before .before .before .before .before .before .before .if1 .left)
@@ -39,7 +40,8 @@ returns-5 c =
     let a = c .before .before .before .before .before .before .before .before .before in
     let e = c .before .before .before .before .before .u16-at .ensures .0 in
     let m = c .before .before .before .before .u16-at2 .ensures .0 in
-    let k : editionKnown (le16At (a .args .s .now) (a .args .start)) ≡ true = sym (ap editionKnown e) ∙ sym (c .before .before .before .edition-known .ensures) ∙ not-false _ (c .before .before .if3 .left) in
+    let k : editionKnown (le16At (a .args .s .now) (a .args .start)) ≡ true = sym (ap editionKnown e) ∙ sym (c .before .before .before .edition-known .ensures) ∙ not-false _
+    (c .before .before .if3 .left) in
     let n : countAllowed (le16At (a .args .s .now) (a .args .start)) (le16At (a .args .s .now) (a .args .start + countAt)) ≡ true =
     sym (ap₂ countAllowed e m) ∙ sym (c .before .count-allowed .ensures) ∙ not-false _ (c .if4 .left) in
     head-sound (a .args .s .now) (a .args .tag) (a .args .start) (a .args .len) (a .pre) (c .before .before .before .before .before .before .before .if1 .left)

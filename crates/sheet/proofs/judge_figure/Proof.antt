@@ -63,7 +63,8 @@ returns-6 c =
     (c .before .before .before .before .before .before .before .before .before .before .before .wide .result) w
     (c .before .before .before .before .before .before .before .before .before .before .before .before .before .if1 .left)
     (c .before .before .before .before .before .before .before .before .before .before .if2 .left)
-    (sym (c .before .before .before .before .before .before .before .before .before .name-allowed .ensures) ∙ not-false _ (c .before .before .before .before .before .before .before .before .if3 .left))
+    (sym (c .before .before .before .before .before .before .before .before .before .name-allowed .ensures) ∙ not-false _
+    (c .before .before .before .before .before .before .before .before .if3 .left))
     (sym (c .before .before .before .before .figure-allowed .ensures) ∙ not-false _ (c .before .before .before .if4 .left))
     (a .args .i) n (a .args .levels .now) l (c .before .before .level-over .result) (c .before .before .level-over .ensures .0) (c .before .if5 .left) (c .if6 .taken)
 
@@ -77,7 +78,8 @@ returns-7 c =
     (c .before .before .before .before .before .before .before .before .before .before .before .wide .result) w
     (c .before .before .before .before .before .before .before .before .before .before .before .before .before .if1 .left)
     (c .before .before .before .before .before .before .before .before .before .before .if2 .left)
-    (sym (c .before .before .before .before .before .before .before .before .before .name-allowed .ensures) ∙ not-false _ (c .before .before .before .before .before .before .before .before .if3 .left))
+    (sym (c .before .before .before .before .before .before .before .before .before .name-allowed .ensures) ∙ not-false _
+    (c .before .before .before .before .before .before .before .before .if3 .left))
     (sym (c .before .before .before .before .figure-allowed .ensures) ∙ not-false _ (c .before .before .before .if4 .left))
     (a .args .i) n (a .args .levels .now) l (c .before .before .level-over .result) (c .before .before .level-over .ensures .0) (c .before .if5 .left) (c .if6 .left)
 

@@ -40,8 +40,11 @@ u16-at-requires c κs = omega arith
 returns : tie.Need-returns Inv-loop μ-loop
 returns c =
     let a = c .before .before .before .before .before .before .args in
-    let u = c .before .u16-at in
-    (level-fails (a .s .now) (a .at) (a .i) (a .levels .now) (c .before .before .before .loop .k) (a .p) (u .result) (c .before .before .loop-test .taken) (u .ensures .0) (c .if1 .taken), search needs)
+    let u = c .before .u16-at in (
+      level-fails (a .s .now) (a .at) (a .i) (a .levels .now) (c .before .before .before .loop .k) (a .p) (u .result) (c .before .before .loop-test .taken) (u .ensures .0)
+          (c .if1 .taken),
+      search needs,
+    )
 
 shared-slice-read-wide : tie.Need-shared-slice-read-wide Inv-loop μ-loop
 shared-slice-read-wide c = omega arith
@@ -64,8 +67,13 @@ loop-again c =
     let u = c .before .before .before .before .u16-at in
     let l = c .before .before .before .before .before .before .loop in
     let w = c .before .wide .ensures in
-    let g = highest-more (a .s .now) (a .at) (a .i) (a .levels .now) (l .k) (u .result) (l .highest) (u .ensures .0) (l .inv .2) in
-    (search needs, below-more (a .s .now) (a .at) (a .i) (l .k) (u .result) (u .ensures .0) (c .before .before .before .if1 .left) (l .inv .1), c .greater .ensures ∙ ap (max (l .highest)) (w .0) ∙ g, omega arith)
+    let g = highest-more (a .s .now) (a .at) (a .i) (a .levels .now) (l .k) (u .result) (l .highest) (u .ensures .0) (l .inv .2) in (
+      search needs,
+      below-more (a .s .now) (a .at) (a .i) (l .k) (u .result) (u .ensures .0) (c .before .before .before .if1 .left) (l .inv .1),
+      c .greater .ensures ∙ ap
+          (max (l .highest)) (w .0) ∙ g,
+      omega arith,
+    )
 
 add-result : tie.Need-add-result Inv-loop μ-loop
 add-result c = omega arith

@@ -8,8 +8,17 @@ renew-requires : tie.Need-renew-requires
 renew-requires c κs =
     let q = c .before .before .before .before .before .before .before .before .before .before .before .before .before .before .pre in
     let a = c .before .before .before .before .before .before .before .before .before .before .before .before .before .before .args in
-    let rc = c .before .before .before .before .before .before .before .before .read-cell in
-    (q .0, (ready-memo (q .1 .0) _, (nothing-above (q .1 .0) (a .i), refresh-renewable (q .0) (q .1 .0) (q .1 .1 .0) (rc .result) (rc .ensures) _ _ (c .before .before .before .before .before .before .value .given .1) (c .before .before .before .enum-told3 .given .1))))
+    let rc = c .before .before .before .before .before .before .before .before .read-cell in (
+      q .0,
+      (
+        ready-memo (q .1 .0) _,
+        (
+          nothing-above (q .1 .0) (a .i),
+          refresh-renewable (q .0) (q .1 .0) (q .1 .1 .0) (rc .result) (rc .ensures) _ _
+              (c .before .before .before .before .before .before .value .given .1) (c .before .before .before .enum-told3 .given .1),
+        ),
+      ),
+    )
 
 returns : tie.Need-returns
 returns c =

@@ -15,8 +15,13 @@ step-marked-requires c κs =
     let a = c .before .before .before .before .before .before .before .before .before .before .before .before .before .before .before .before .before .before .before .before .before .args in
     let m = c .before .before .before .before .before .before .before .before .before .before .before .before .before .is-marked in
     let e = c .before .before .before .before .before .before .before .before .before .before .before .before .if1 .taken in
-    let l = c .before .before .before .before .before .before .before .before .step-item in
-    (second-lent (q .0) (q .1 .0) (a .i) _ (m .ensures) e _ _ (l .last .1 .1 .1 .1 .0) (l .kept .1 .1 .0) (l .kept .1 .1 .1 .0) (l .kept .1 .1 .1 .1 .0) (l .ensures), (second-ready (q .0) (q .1 .0) (a .i) _ (m .ensures) e _ _ (l .last .1 .1 .1 .1 .0) (l .kept .1 .1 .0) (l .kept .1 .1 .1 .0) (l .kept .1 .1 .1 .1 .0) (l .ensures), (q .1 .1 .1 .0, q .1 .1 .1 .1)))
+    let l = c .before .before .before .before .before .before .before .before .step-item in (
+      second-lent (q .0) (q .1 .0) (a .i) _ (m .ensures) e _ _ (l .last .1 .1 .1 .1 .0) (l .kept .1 .1 .0) (l .kept .1 .1 .1 .0) (l .kept .1 .1 .1 .1 .0) (l .ensures),
+      (
+        second-ready (q .0) (q .1 .0) (a .i) _ (m .ensures) e _ _ (l .last .1 .1 .1 .1 .0) (l .kept .1 .1 .0) (l .kept .1 .1 .1 .0) (l .kept .1 .1 .1 .1 .0) (l .ensures),
+        (q .1 .1 .1 .0, q .1 .1 .1 .1),
+      ),
+    )
 
 returns : tie.Need-returns
 returns c =

@@ -20,7 +20,13 @@ returns-2 c =
 
 returns-3 : tie.Need-returns-3
 returns-3 c =
-    held-stored (c .before .before .before .before .before .before .before .before .before .before .before .args .table .now) (c .before .before .before .before .before .before .before .before .before .before .before .args .i) (c .before .before .store-record3 .last .0) (c .before .before .before .before .before .before .before .before .before .before .before .args .cell) (c .before .before .before .before .before .before .before .before .cell2 .given .0 .0) (c .before .before .before .before .before .before .before .before .cell2 .given .0 .1 .0) (c .before .before .before .before .before .kind .result) (c .before .before .before .before .mark-code .result) (c .before .before .before .number-or-zero .result) (c .before .before .before .before .before .before .before .before .cell2 .given .1) (c .before .before .before .before .before .kind .ensures) (c .before .before .before .before .mark-code .ensures) (c .before .before .before .number-or-zero .ensures) (record {
+    held-stored (c .before .before .before .before .before .before .before .before .before .before .before .args .table .now)
+    (c .before .before .before .before .before .before .before .before .before .before .before .args .i) (c .before .before .store-record3 .last .0)
+    (c .before .before .before .before .before .before .before .before .before .before .before .args .cell)
+    (c .before .before .before .before .before .before .before .before .cell2 .given .0 .0) (c .before .before .before .before .before .before .before .before .cell2 .given .0 .1 .0)
+    (c .before .before .before .before .before .kind .result) (c .before .before .before .before .mark-code .result) (c .before .before .before .number-or-zero .result)
+    (c .before .before .before .before .before .before .before .before .cell2 .given .1) (c .before .before .before .before .before .kind .ensures)
+    (c .before .before .before .before .mark-code .ensures) (c .before .before .before .number-or-zero .ensures) (record {
       sfits =
           c .before .before .before .number-or-zero .ok;
     }) (c .before .before .store-record3 .ensures)

@@ -13,8 +13,19 @@ spread-of-requires c κs =
 renew-requires : tie.Need-renew-requires
 renew-requires c κs =
     let q = c .before .before .before .before .before .before .before .before .before .before .before .before .before .before .before .before .before .before .pre in
-    let a = c .before .before .before .before .before .before .before .before .before .before .before .before .before .before .before .before .before .before .args in
-    (q .0, (q .1 .0, (q .1 .1 .0, told-renewable (q .0) (q .1 .0) (q .1 .1 .0) (q .1 .1 .1 .0) (q .1 .1 .1 .1) (c .before .before .before .before .before .before .before .before .before .before .before .before .read-cell .result) (c .before .before .before .before .before .before .before .before .before .before .before .before .read-cell .ensures) _ _ (c .before .before .before .before .before .before .before .before .before .before .value .given .1))))
+    let a = c .before .before .before .before .before .before .before .before .before .before .before .before .before .before .before .before .before .before .args in (
+      q .0,
+      (
+        q .1 .0,
+        (
+          q .1 .1 .0,
+          told-renewable (q .0) (q .1 .0) (q .1 .1 .0) (q .1 .1 .1 .0) (q .1 .1 .1 .1)
+              (c .before .before .before .before .before .before .before .before .before .before .before .before .read-cell .result)
+              (c .before .before .before .before .before .before .before .before .before .before .before .before .read-cell .ensures) _ _
+              (c .before .before .before .before .before .before .before .before .before .before .value .given .1),
+        ),
+      ),
+    )
 
 returns : tie.Need-returns
 returns c =

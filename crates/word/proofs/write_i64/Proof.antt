@@ -16,7 +16,8 @@ returns c =
     c .before .before .write-u64 .ensures
     ∙ ap
     (λ (x : ℕ). sets (c .before .before .before .before .before .before .args .s .now) (c .before .before .before .before .before .before .args .at) (leBytes 8 x))
-    (c .before .before .before .unsigned .ensures ∙ ap (λ (z : ℤ). ofZ w64 z) (toZ-ofZ w64 (c .before .before .before .before .before .before .args .v) (c .before .before .before .before .before .before .fits .v)))
+    (c .before .before .before .unsigned .ensures ∙ ap (λ (z : ℤ). ofZ w64 z)
+    (toZ-ofZ w64 (c .before .before .before .before .before .before .args .v) (c .before .before .before .before .before .before .fits .v)))
 
 pub write-i64-spec : {M : Type 1} → statement M
 write-i64-spec = tie.close (tie.spec (λ c κs. search needs) (λ c κs. search needs) (λ c. search needs) returns)
