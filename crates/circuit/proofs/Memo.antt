@@ -200,7 +200,8 @@ module _ (S : Sheet) (ordered : Ordered S) where
       go (held v m) h = refl
       go (unk f) h = which (keptOf (itemAt S j))
         where
-          all : gather (lookFor fuel S) (upd T c x) (parents S j) ≡ gathered (upd (gather (lookFor fuel S) T (parents S j) .table) c x) (gather (lookFor fuel S) T (parents S j) .values) (gather (lookFor fuel S) T (parents S j) .flag)
+          all : gather (lookFor fuel S) (upd T c x) (parents S j)
+              ≡ gathered (upd (gather (lookFor fuel S) T (parents S j) .table) c x) (gather (lookFor fuel S) T (parents S j) .values) (gather (lookFor fuel S) T (parents S j) .flag)
           all = gather-store (lookFor fuel S) c x (parents S j) (λ U p m. h U p (omega (arith, ordered j p m))) T
 
           which : (b : Bool)

@@ -134,7 +134,8 @@ module _ (s : List ℕ) (edition start len : ℕ) (fits : start + len ≤ length
       unfolding figureCause
       figure-unruled e f = judged-by 4 (cause-at ∙ rw (e, f))
 
-      module _ (e : named ≡ true) (f : ruled ≡ true) (i : ℕ) (count : length ps ≡ i) (levels : List ℕ) (at : LevelsAt levels ps) (level : ℕ) (is′ : level ≡ levelOver i levels (numbersAt s (start + parentsAt) p)) where
+      module _ (e : named ≡ true) (f : ruled ≡ true) (i : ℕ) (count : length ps ≡ i) (levels : List ℕ) (at : LevelsAt levels ps)
+          (level : ℕ) (is′ : level ≡ levelOver i levels (numbersAt s (start + parentsAt) p)) where
         level-cases : level ≡ cond below above 0
         unfolding levelOver
         level-cases = is′ ∙ rw (← count) (go below refl)

@@ -16,7 +16,8 @@ use Rattle.word.specs.Word.{leAt, leBytes, le64At, bytes64}
 
 -- eight bytes, each times its power
 pub le8 : (s : List ℕ) (at : ℕ)
-    → getD s at 0 + getD s (at + 1) 0 * 0x100 + getD s (at + 2) 0 * 0x1_0000 + getD s (at + 3) 0 * 0x100_0000 + getD s (at + 4) 0 * 0x1_0000_0000 + getD s (at + 5) 0 * 0x100_0000_0000 + getD s (at + 6) 0 * 0x1_0000_0000_0000 + getD s (at + 7) 0 * 0x100_0000_0000_0000 ≡ leAt 8 s at
+    → getD s at 0 + getD s (at + 1) 0 * 0x100 + getD s (at + 2) 0 * 0x1_0000 + getD s (at + 3) 0 * 0x100_0000
+    + getD s (at + 4) 0 * 0x1_0000_0000 + getD s (at + 5) 0 * 0x100_0000_0000 + getD s (at + 6) 0 * 0x1_0000_0000_0000 + getD s (at + 7) 0 * 0x100_0000_0000_0000 ≡ leAt 8 s at
 unfolding leAt
 le8 s at = simp (add-assoc at) (omega arith)
 

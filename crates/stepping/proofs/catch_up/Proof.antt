@@ -39,12 +39,9 @@ step-twice-requires c κs =
 
 add-i : tie.Need-add-i Inv-loop μ-loop
 add-i c =
-    let a = c .before .before .before .before .before .before .before .before .before .before .before .before .before .before .before .before .before .args in
-    record {
-      fits =
-          omega
-          (arith, size-most (a .sheet .now), c .before .before .before .before .before .before .before .before .before .before .loop .inv .n-is, c .before .before .before .before .before .before .before .before .before .loop-test .taken);
-    }
+    let l = c .before .before .before .before .before .before .before .before .before in
+    let a = l .before .before .before .before .before .before .before .before .args in
+    record { fits = omega (arith, size-most (a .sheet .now), l .before .loop .inv .n-is, l .loop-test .taken) }
 
 loop-less : tie.Need-loop-less Inv-loop μ-loop
 loop-less c =
