@@ -15,7 +15,7 @@ use Rattle.circuit.specs.Value.{Value, null}
 use Rattle.circuit.specs.Circuit.{IsSolution, Listed, LeadsTo, direct, further}
 use Rattle.circuit.specs.Sheet.{Sheet, Item, entry, figure, itemAt, isFigure, size, parents, Ordered, Entries, circuitOf, evaluate}
 use Rattle.circuit.specs.Table.{Table, Cell, unmarked, refresh, notice, unk, held, isStored, valueIn, isMarked, cellForm}
-use Rattle.circuit.specs.Machine.{lookUp, workOut, keepFigure, dropFigure, dropCell, stepItem, catchUp, storePosting, postCell}
+use Rattle.circuit.specs.Machine.{workOut, keepFigure, dropFigure, dropCell, stepItem, catchUp, storePosting, postCell}
 use Rattle.circuit.specs.Call.{Call, post, keep, drop, step, ask, board}
 use Rattle.circuit.specs.Board.{listed}
 use Rattle.circuit.specs.Calls.{postedValue, postIt, postingOf, tests, firstCause, showItems, effect, effectUnless, perform, run, postingsMade, postingBy, ifAccepted, postings, drops}

@@ -1,12 +1,10 @@
 -- A board on lent bytes: what it leaves, and that it is the asks for its items one after another. Assumes that what is lent is
 -- accepted and that the table is bytes.
-use Prim.Native.Nat.{ℕ, _*_, _<_}
+use Prim.Native.Nat.{ℕ}
 use native.Mathlib.Omega.{arith}
 use mathlib.Core.Path.{_≡_, refl, sym, ap, _∙_, subst}
-use mathlib.Core.Bool.{Bool, true, false, cond, not}
+use mathlib.Core.Bool.{true, false}
 use mathlib.Core.List.{List, [], _∷_, _++_, map}
-use mathlib.Core.Logic.{_⊎_, inl, inr}
-use lib.ListN.{length}
 use borrow.Author.Tests.{leb-false}
 use mir.Syntax.{w64}
 use mir.Val.{toZ, ofZ}
@@ -15,7 +13,7 @@ use Rattle.circuit.specs.Sheet.{Sheet, Ordered, size, beyond}
 use Rattle.circuit.specs.Table.{Table}
 use Rattle.circuit.specs.Machine.{Looked, Gathered, gather, lookUp, catchUp}
 use Rattle.circuit.specs.Call.{Call, ask, board}
-use Rattle.circuit.specs.Board.{listed, listsOff, listsWrong}
+use Rattle.circuit.specs.Board.{listed, listsOff}
 use Rattle.circuit.specs.Calls.{firstCause, tests, someNoItem, showItems, readingOf, effect, perform}
 use Rattle.circuit.specs.Words.{Quiet, CaughtUp}
 use Rattle.circuit.proofs.Parts.{kind-small}

@@ -1,12 +1,11 @@
 -- What the calls leave of an accepted table. Assumes that the table is bytes.
-use Prim.Native.Nat.{ℕ, _*_, _<_}
+use Prim.Native.Nat.{ℕ, _<_}
 use native.Mathlib.Omega.{arith}
 use mathlib.Core.Path.{_≡_, refl, sym, ap, _∙_, subst}
 use mathlib.Core.Bool.{Bool, true, false, cond}
 use mathlib.Core.List.{List, []}
-use mathlib.Core.Logic.{inl, inr, ⊎-elim}
+use mathlib.Core.Logic.{inl, ⊎-elim}
 use lib.IntN.{ℤ, pos}
-use lib.ListN.{length}
 use Rattle.circuit.specs.Value.{Value, null, out, num, same, kindOf, numberOf, wellFormed}
 use Rattle.circuit.specs.Sheet.{Sheet, Ordered, size}
 use Rattle.circuit.specs.Table.{Table, Cell, Mark, unmarked, refresh, notice, unk, held, upd, noticeIf, markOf, valueIn}
