@@ -51,8 +51,8 @@ extern "C" {
 
 /* ---- Limits ---------------------------------------------------------------------------------- */
 
-/* A number of kilograms lies from -ROZHINAL_LIMIT to ROZHINAL_LIMIT. */
-#define ROZHINAL_LIMIT INT64_C(1000000000000)
+/* A number of grams lies from -ROZHINAL_LIMIT to ROZHINAL_LIMIT. */
+#define ROZHINAL_LIMIT INT64_C(1000000000000000)
 /* The second parent of a share lies from 0 to ROZHINAL_WHOLE: it counts ten-thousandths. */
 #define ROZHINAL_WHOLE INT64_C(10000)
 
@@ -150,7 +150,7 @@ enum rozhinal_kind {
     ROZHINAL_UNK = 0,   /* no value: a figure with nothing stored */
     ROZHINAL_NULL = 1,  /* nothing recorded */
     ROZHINAL_OUT = 2,   /* arithmetic left the range */
-    ROZHINAL_NUMBER = 3 /* a number of kilograms */
+    ROZHINAL_NUMBER = 3 /* a number of grams */
 };
 
 enum rozhinal_mark {

@@ -6,9 +6,9 @@ use mathlib.Core.Option.{Option, none, some}
 use lib.Dec.{leb, eqb}
 use lib.IntN.{ℤ, pos, negsuc, natAbs}
 
--- The range: numbers run from -limit to limit, in kilograms. The only place of the definitions that has its size.
+-- The range: numbers run from -limit to limit, in grams. The only place of the definitions that has its size.
 unfoldable pub limit : ℕ
-limit = 1_000_000_000_000
+limit = 1_000_000_000_000_000
 
 unfoldable pub inRange : ℤ → Bool
 inRange z = leb (natAbs z) limit

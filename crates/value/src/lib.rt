@@ -20,7 +20,7 @@ pub struct Value {
 
 // The range: numbers run from -LIMIT to LIMIT. The only place of the code that has its size; in_range's contract holds it to
 // the definition's.
-pub const LIMIT: i64 = 1_000_000_000_000;
+pub const LIMIT: i64 = 1_000_000_000_000_000;
 
 const LOWEST: i64 = -LIMIT;
 

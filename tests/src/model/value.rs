@@ -1,7 +1,7 @@
 //! Values and the eight rules of the figures.
 
-/// A number of kilograms lies from `-LIMIT` to `LIMIT`. The range is written here only.
-pub const LIMIT: i64 = 1_000_000_000_000;
+/// A number of grams lies from `-LIMIT` to `LIMIT`. The range is written here only.
+pub const LIMIT: i64 = 1_000_000_000_000_000;
 
 /// The whole of a share, in ten-thousandths.
 pub const WHOLE: i64 = 10_000;
