@@ -1,4 +1,4 @@
-// The figures to check, worked out by the code of the rules: a line for each.
+// The figures to check, and shares at both ends of the range, worked out by the code of the rules: a line for each.
 ghost use mathlib.Core.Path.{_≡_};
 ghost use mathlib.Core.Bool.{true};
 ghost use Prim.Native.Nat.{_≤_};
@@ -102,6 +102,15 @@ fn figure(name: &[u8], code: u8, n: usize, a: Value, b: Value, c: Value)
     write(b"\n");
 }
 
+// Shares of a number: of parts that give nothing, the least, all but the least, and all of it.
+fn shares(n: i64) {
+    let x = Value::number(n);
+    figure(b"share", 5, 2, x, Value::number(0), Value::NULL);
+    figure(b"share", 5, 2, x, Value::number(1), Value::NULL);
+    figure(b"share", 5, 2, x, Value::number(9999), Value::NULL);
+    figure(b"share", 5, 2, x, Value::number(10000), Value::NULL);
+}
+
 fn main() {
     let none = Value::NULL;
     let top = Value::number(LIMIT);
@@ -126,4 +135,8 @@ fn main() {
     figure(b"count", 7, 2, none, Value::number(4), none);
     figure(b"at least", 8, 2, three, three, none);
     figure(b"smallest", 3, 2, none, Value::number(-2), none);
+    shares(LIMIT);
+    shares(LIMIT - 1);
+    shares(1 - LIMIT);
+    shares(-LIMIT);
 }

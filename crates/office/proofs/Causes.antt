@@ -68,7 +68,7 @@ unfolding numberForm
 refutes-number k z = refutes-cond (tells-eq k 3) (refutes-range z) (refutes-tells (tells-zero z))
 
 -- a record's form
-pub refutes-record : (figure : Bool) (r : List ℕ) → Refutes (RecordBroken figure (kindIn r) (markIn r) (numberIn r)) (recordForm figure r)
+pub refutes-record : (figure : Bool) (r : List ℕ) → Refutes (RecordBroken limit figure (kindIn r) (markIn r) (numberIn r)) (recordForm figure r)
 unfolding recordForm codesForm
 refutes-record figure r =
     refutes-if into back
@@ -89,7 +89,7 @@ refutes-record figure r =
     N : Type 0
     N = ((k ≡ 3) × BeyondRange z) ⊎ ((¬ (k ≡ 3)) × (¬ (z ≡ pos 0)))
 
-    into : ((((3 < k) ⊎ (2 < m)) ⊎ A) ⊎ N) → RecordBroken figure k m z
+    into : ((((3 < k) ⊎ (2 < m)) ⊎ A) ⊎ N) → RecordBroken limit figure k m z
     into (inl (inl (inl h))) = kindUnknown h
     into (inl (inl (inr h))) = markUnknown h
     into (inl (inr (inl (e, inl (inl h))))) = entryUnk e h
@@ -99,7 +99,7 @@ refutes-record figure r =
     into (inr (inl (e, h))) = beyondRange e h
     into (inr (inr (e, h))) = numberNotZero e h
 
-    back : RecordBroken figure k m z → ((((3 < k) ⊎ (2 < m)) ⊎ A) ⊎ N)
+    back : RecordBroken limit figure k m z → ((((3 < k) ⊎ (2 < m)) ⊎ A) ⊎ N)
     back (kindUnknown h) = inl (inl (inl h))
     back (markUnknown h) = inl (inl (inr h))
     back (entryUnk e h) = inl (inr (inl (e, inl (inl h))))
@@ -142,7 +142,7 @@ tells-index ps x = go (sameBytes x (indexBytes ps)) refl
 -- 10
 pub tells-table : (S : Sheet) (t : List ℕ) → Tells (TableBroken S t) (tableWrong S t)
 unfolding tableForm
-tells-table S t = tells-not (refutes-below (recordInForm S t) (RecordBrokenAt S t) (λ i. refutes-record (isFigure (itemAt S i)) (row width t i)) (size S))
+tells-table S t = tells-not (refutes-below (recordInForm S t) (RecordBrokenAt limit S t) (λ i. refutes-record (isFigure (itemAt S i)) (row width t i)) (size S))
 
 -- 11
 pub tells-beyond : (S : Sheet) (i : ℕ) → Tells (NoSuchItem S i) (beyond S i)
@@ -242,7 +242,7 @@ tells-posted kind z = go (tells-eq kind 2) (tells-eq kind 1) (tells-zero z) (tel
     go (fails o) (fails p) q (fails r) s = holds (kindOther p r)
 
 -- 14, where the record is in form
-pub tells-mark : (figure : Bool) (r : List ℕ) → ¬ RecordBroken figure (kindIn r) (markIn r) (numberIn r)
+pub tells-mark : (figure : Bool) (r : List ℕ) → ¬ RecordBroken limit figure (kindIn r) (markIn r) (numberIn r)
     → Tells (markIn r ≡ 0) (not (isMarked (decodeCell r)))
 unfolding decodeCell
 tells-mark figure r form = go (tells-eq (kindIn r) 0) (tells-eq (markIn r) 1) (tells-eq (markIn r) 2)

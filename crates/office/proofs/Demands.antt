@@ -6,6 +6,7 @@ use Rattle.circuit.proofs.Board.{listed-count, listed-at}
 use Rattle.office.specs.Demands.{Refuses, Means, Agrees, Demands}
 use Rattle.office.proofs.Refusals.{turned-back, board-refuses, accepted-lent}
 use Rattle.office.proofs.Examples.{each-given}
+use Rattle.office.proofs.Older.{lower-accepted}
 use Rattle.office.proofs.Words.{sheet-words}
 use Rattle.office.proofs.Meaning.{opens-exactly, opening-writes, fits-sheet, one-layout, accepted-opened, bare-unstored, gives-solution}
 use Rattle.office.proofs.Leaves.{leaves}
@@ -24,6 +25,7 @@ refuses =
       no-value = λ r s o. turned-back r s o .no-value;
       lowest = λ r b s o. turned-back r s o .lowest b;
       boards = board-refuses;
+      older = lower-accepted;
       each = each-given;
       words = sheet-words;
     }

@@ -61,13 +61,13 @@ sheets-refused r kept = (
 unfoldable pub exampleIndex : List ℕ
 exampleIndex = 7 ∷ 0 ∷ 0 ∷ 0 ∷ 11 ∷ 0 ∷ 0 ∷ 0 ∷ 15 ∷ 0 ∷ 0 ∷ 0 ∷ 19 ∷ 0 ∷ 0 ∷ 0 ∷ 31 ∷ 0 ∷ 0 ∷ 0 ∷ []
 
-abbrev zeros8 : List ℕ
+abbrev pub zeros8 : List ℕ
 zeros8 = 0 ∷ 0 ∷ 0 ∷ 0 ∷ 0 ∷ 0 ∷ 0 ∷ 0 ∷ []
 
-abbrev nullRecord : List ℕ
+abbrev pub nullRecord : List ℕ
 nullRecord = 1 ∷ 0 ∷ zeros8
 
-abbrev unkRecord : List ℕ
+abbrev pub unkRecord : List ℕ
 unkRecord = 0 ∷ 0 ∷ zeros8
 
 unfoldable pub bareTable : List ℕ
@@ -238,7 +238,7 @@ unfoldable pub answers : List ℕ → Office → List Call → List Answer
 answers s kept [] = []
 answers s kept (c ∷ cs) = let g : Given = callOn s kept c in answerOf g ∷ answers s (g .after) cs
 
-abbrev answer : ℕ → ℕ → ℤ → Answer
+abbrev pub answer : ℕ → ℕ → ℤ → Answer
 answer number kind value = record { number = number; offset = 0; kind = kind; value = value }
 
 -- the day of the example

@@ -9,5 +9,6 @@ pub mod Holdable
 pub mod Lent
 pub mod Leaves
 pub mod Meaning
+pub mod Older
 pub mod Refusals
 pub mod Words

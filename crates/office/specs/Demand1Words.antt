@@ -45,31 +45,40 @@ LengthsWrong n o = (¬ (length (o .index) ≡ indexWidth * n)) ⊎ (¬ (length (
 abbrev pub IndexNotAsOpened : List Placed → List ℕ → Type 0
 IndexNotAsOpened ps x = ¬ (x ≡ indexBytes ps)
 
+-- a number that lies beyond -most to most
+abbrev pub Beyond : ℕ → ℤ → Type 0
+Beyond most z = most < natAbs z
+
 -- numbers run from -limit to limit
 abbrev pub BeyondRange : ℤ → Type 0
-BeyondRange z = limit < natAbs z
+BeyondRange z = Beyond limit z
 
--- A record of kind k, mark m and number z breaks its form, or the number its range; whether the item is a figure comes first.
-pub data RecordBroken (figure : Bool) (k m : ℕ) (z : ℤ) : Type 0 where
-  kindUnknown : 3 < k → RecordBroken figure k m z
-  markUnknown : 2 < m → RecordBroken figure k m z
+-- A record of kind k, mark m and number z breaks its form, or the number the range from -most to most; whether the item is a figure
+-- comes after the range.
+pub data RecordBroken (most : ℕ) (figure : Bool) (k m : ℕ) (z : ℤ) : Type 0 where
+  kindUnknown : 3 < k → RecordBroken most figure k m z
+  markUnknown : 2 < m → RecordBroken most figure k m z
   -- an entry that is UNK, or OUT, or to be refreshed
-  entryUnk : figure ≡ false → k ≡ 0 → RecordBroken figure k m z
-  entryOut : figure ≡ false → k ≡ 2 → RecordBroken figure k m z
-  entryRefresh : figure ≡ false → m ≡ 1 → RecordBroken figure k m z
+  entryUnk : figure ≡ false → k ≡ 0 → RecordBroken most figure k m z
+  entryOut : figure ≡ false → k ≡ 2 → RecordBroken most figure k m z
+  entryRefresh : figure ≡ false → m ≡ 1 → RecordBroken most figure k m z
   -- an UNK figure that is to be refreshed
-  unkRefresh : figure ≡ true → k ≡ 0 → m ≡ 1 → RecordBroken figure k m z
+  unkRefresh : figure ≡ true → k ≡ 0 → m ≡ 1 → RecordBroken most figure k m z
   -- the number is 0 unless the kind is 3
-  numberNotZero : ¬ (k ≡ 3) → ¬ (z ≡ pos 0) → RecordBroken figure k m z
-  beyondRange : k ≡ 3 → BeyondRange z → RecordBroken figure k m z
+  numberNotZero : ¬ (k ≡ 3) → ¬ (z ≡ pos 0) → RecordBroken most figure k m z
+  beyondRange : k ≡ 3 → Beyond most z → RecordBroken most figure k m z
 
-abbrev pub RecordBrokenAt : Sheet → List ℕ → ℕ → Type 0
-RecordBrokenAt S t i =
-    RecordBroken (isFigure (itemAt S i)) (kindIn (row width t i)) (markIn (row width t i)) (numberIn (row width t i))
+abbrev pub RecordBrokenAt : ℕ → Sheet → List ℕ → ℕ → Type 0
+RecordBrokenAt most S t i =
+    RecordBroken most (isFigure (itemAt S i)) (kindIn (row width t i)) (markIn (row width t i)) (numberIn (row width t i))
+
+-- the table breaks its form, or a number the range from -most to most
+abbrev pub TableBrokenUnder : ℕ → Sheet → List ℕ → Type 0
+TableBrokenUnder most S t = (i : ℕ) × (i < size S) × RecordBrokenAt most S t i
 
 -- 10: table breaks its form, or a number its range
 abbrev pub TableBroken : Sheet → List ℕ → Type 0
-TableBroken S t = (i : ℕ) × (i < size S) × RecordBrokenAt S t i
+TableBroken S t = TableBrokenUnder limit S t
 
 -- 11: item number n or more
 abbrev pub NoSuchItem : Sheet → ℕ → Type 0
@@ -110,13 +119,17 @@ pub record Row : Type 1 where
 abbrev pub cause : ℕ → Type 0 → Row
 cause k P = record { number = k; cause = P }
 
--- The causes of what is lent, which count before a call's own.
-abbrev pub lentCauses : Sheet → List Placed → Office → List Row
-lentCauses S ps o =
+-- The causes of what is lent, under the range from -most to most.
+abbrev pub lentCausesUnder : ℕ → Sheet → List Placed → Office → List Row
+lentCausesUnder most S ps o =
     cause 8 (LengthsWrong (size S) o)
     ∷ cause 9 (IndexNotAsOpened ps (o .index))
-    ∷ cause 10 (TableBroken S (o .table))
+    ∷ cause 10 (TableBrokenUnder most S (o .table))
     ∷ []
+
+-- The causes of what is lent, which count before a call's own.
+abbrev pub lentCauses : Sheet → List Placed → Office → List Row
+lentCauses S ps o = lentCausesUnder limit S ps o
 
 -- the causes of a call's own
 abbrev pub ownCauses : Sheet → List ℕ → Call → List Row
@@ -201,10 +214,15 @@ pub record Gets (k : ℕ) : Type 0 where
   pub lendable : Lendable request sheet office
   pub given : serve request sheet office .number ≡ k
 
--- What is lent with a sheet is accepted: the sheet has no fault, and none of the causes of index and table holds.
-pub record AcceptedLent (s : List ℕ) (o : Office) : Type 0 where
+-- What is lent with a sheet is accepted under the range from -most to most: the sheet has no fault, and none of the causes of index
+-- and table holds.
+pub record AcceptedUnder (most : ℕ) (s : List ℕ) (o : Office) : Type 0 where
   pub sheet : Faultless s
-  pub lent : NoneHolds (lentCauses (sheetOf s) (itemsOf s) o)
+  pub lent : NoneHolds (lentCausesUnder most (sheetOf s) (itemsOf s) o)
+
+-- what is lent with a sheet is accepted
+abbrev pub AcceptedLent : List ℕ → Office → Type 0
+AcceptedLent s o = AcceptedUnder limit s o
 
 -- A board's own refusals, where sheet, index and table are accepted: 17 exactly if its lists are wrong, whatever its items are; 11
 -- exactly if the lists are right and one of its items is n or more. Refused for whatever cause, it leaves the results as they were lent.

@@ -1,13 +1,13 @@
 -- The three demands of document 01, with 02's board, a record for each, in its order. They are demands on `openOn` and `callOn`
 -- (Office), which the contracts of the exported functions cite: a function gives and leaves exactly what these say, for all lent bytes.
 -- That every call ends and touches only what it was lent is proved of each function by the language. Assumes nothing.
-use Prim.Native.Nat.{ℕ}
+use Prim.Native.Nat.{ℕ, _≤_}
 use mathlib.Core.Path.{_≡_}
 use mathlib.Core.Bool.{true}
 use mathlib.Core.List.{List}
 use mathlib.Core.Logic.{_↔_}
 use lib.IntN.{pos}
-use Rattle.circuit.specs.Value.{Value, kindOf, numberOf, wellFormed}
+use Rattle.circuit.specs.Value.{Value, limit, kindOf, numberOf, wellFormed}
 use Rattle.circuit.specs.Equations.{Equations}
 use Rattle.circuit.specs.Call.{Call, drop, board, Opening, bare}
 use Rattle.circuit.specs.Calls.{drops}
@@ -16,7 +16,7 @@ use Rattle.layout.specs.Layout.{machineSheet}
 use Rattle.layout.specs.Opened.{sheetOf}
 use Rattle.layout.specs.Causes.{Faultless}
 use Rattle.office.specs.Office.{Office, resultOf, callOn, openOn}
-use Rattle.office.specs.Demand1Words.{Invocation, serve, resultsLentTo, causesOf, First, InBase, Lowest, Refused, NoCause, Gets, AcceptedLent, BoardRefuses, SheetWords}
+use Rattle.office.specs.Demand1Words.{Invocation, serve, resultsLentTo, causesOf, First, InBase, Lowest, Refused, NoCause, Gets, AcceptedUnder, AcceptedLent, BoardRefuses, SheetWords}
 use Rattle.office.specs.Demand2Words.{FollowsLayout, Writes, NoneStored, OnlySolution, entriesIn, Gives, ListWords, ResultWords, CallsLeave}
 use Rattle.office.specs.Demand3Words.{acceptedPosts, SameAnswers, Retains, CountsAsAsks, OfficeAccepted}
 
@@ -37,6 +37,8 @@ pub record Refuses : Type 0 where
   pub lowest : (r : Invocation) → InBase r → (s : List ℕ) (o : Office) (k : ℕ) → First (causesOf s o r) k ↔ Lowest (causesOf s o r) k
   -- of a board: 17 comes after 10 and before 11
   pub boards : (s : List ℕ) (o : Office) (items results : List ℕ) → BoardRefuses s o items results
+  -- 02's "older tables are accepted": what is accepted under a range with a lower limit, every other cause the same, is accepted
+  pub older : (most : ℕ) → most ≤ limit → (s : List ℕ) (o : Office) → AcceptedUnder most s o → AcceptedLent s o
   -- each number has its cause (15 is the printer's, printer/specs/Causes, and 16 the day program's, day_meaning/specs/Causes)
   pub each : Gets 1 × Gets 2 × Gets 3 × Gets 4 × Gets 5 × Gets 6 × Gets 7 × Gets 8 × Gets 9 × Gets 10 × Gets 11 × Gets 12 × Gets 13 × Gets 14 × Gets 17
   -- the sheet's words in the causes are those of its bytes
