@@ -11,8 +11,8 @@
  * no byte of it changes. Its entries are shown, to be posted to a new book in grams. The office
  * cannot do this by itself, since it does not know which entries are weights.
  *
- * Exit status: 0 after quit or the end of the input, 1 if the sheet or the book is refused, the book
- * is an older one, a file cannot be used or the input ends within a line, 2 for wrong usage.
+ * Exit status: 0 after quit or the end of the input, 1 if the sheet or the book is refused, the
+ * book is an older one, a file cannot be used or the input ends within a line, 2 for wrong usage.
  */
 #include "book.h"
 #include "rozhinal.h"
