@@ -1,6 +1,7 @@
 /*
  * The file, numbers little-endian: the mark of a book, three lengths (4 bytes each), sheet, index,
- * table, and the FNV-1a sum of all bytes before it (8 bytes).
+ * table, and the FNV-1a sum of all bytes before it (8 bytes). The library cannot tell how old a
+ * table is; the mark can.
  */
 #include "book.h"
 
@@ -16,7 +17,9 @@
 
 enum { MARK_BYTES = 16, LENGTH_BYTES = 4, SUM_BYTES = 8 };
 enum { HEAD_BYTES = MARK_BYTES + 3 * LENGTH_BYTES };
-static const char book_mark[MARK_BYTES + 1] = "rozhinal book 1\n";
+static const char book_mark[MARK_BYTES + 1] = "rozhinal book 2\n";
+/* Of a book from before version 2.0.0, which has the same form. */
+static const char older_mark[MARK_BYTES + 1] = "rozhinal book 1\n";
 
 #define BOOK_MOST                                                                                \
     (HEAD_BYTES + SHEET_MOST + ROZHINAL_INDEX_BYTES(ROZHINAL_MAX_ITEMS)                          \
@@ -89,7 +92,10 @@ static uint64_t refusal_of(const struct book *book, const uint8_t *index, size_t
 static enum book_state load_bytes(struct book *book, uint8_t *bytes, size_t length,
                                   uint64_t *refusal)
 {
-    if (length < HEAD_BYTES + SUM_BYTES || memcmp(bytes, book_mark, MARK_BYTES) != 0)
+    if (length < HEAD_BYTES + SUM_BYTES)
+        return BOOK_DAMAGED;
+    int older = memcmp(bytes, older_mark, MARK_BYTES) == 0;
+    if (!older && memcmp(bytes, book_mark, MARK_BYTES) != 0)
         return BOOK_DAMAGED;
     size_t sheet_len = (size_t)get_number(bytes + MARK_BYTES, LENGTH_BYTES);
     size_t index_len = (size_t)get_number(bytes + MARK_BYTES + LENGTH_BYTES, LENGTH_BYTES);
@@ -106,7 +112,7 @@ static enum book_state load_bytes(struct book *book, uint8_t *bytes, size_t leng
         return BOOK_DAMAGED;
     memcpy(book->index, index, book->index_len);
     memcpy(book->table, table, book->table_len);
-    return BOOK_LOADED;
+    return older ? BOOK_OLDER : BOOK_LOADED;
 }
 
 enum book_state book_load(struct book *book, uint64_t *refusal)

@@ -20,6 +20,7 @@ struct book {
 
 enum book_state {
     BOOK_LOADED,
+    BOOK_OLDER,       /* whole, but from before version 2.0.0 */
     BOOK_ABSENT,      /* there is no such file */
     BOOK_OTHER_SHEET, /* whole, but of another sheet */
     BOOK_DAMAGED,     /* not a book, cut short or changed */
@@ -33,8 +34,11 @@ enum book_state {
 int book_take(const struct book *book);
 
 /*
- * Reads index and table from the file. Any state but BOOK_LOADED leaves both as they were. Where
- * the library refuses what the file holds, *refusal is its number, else 0.
+ * Reads index and table from the file. Any state but BOOK_LOADED and BOOK_OLDER leaves both as they
+ * were. Where the library refuses what the file holds, *refusal is its number, else 0.
+ *
+ * The table of an older book is to be shown, not to be gone on with: its numbers are kilograms, and
+ * it may hold an OUT from the range of before.
  */
 enum book_state book_load(struct book *book, uint64_t *refusal);
 

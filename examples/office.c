@@ -7,8 +7,12 @@
  * run goes on from. Commands come from standard input, one a line; `help` lists them. A command is
  * answered once its change is in the file.
  *
- * Exit status: 0 after quit or the end of the input, 1 if the sheet or the book is refused, a file
- * cannot be used or the input ends within a line, 2 for wrong usage.
+ * Amounts are grams. A book from before version 2.0.0 holds kilograms: it is not gone on with, and
+ * no byte of it changes. Its entries are shown, to be posted to a new book in grams. The office
+ * cannot do this by itself, since it does not know which entries are weights.
+ *
+ * Exit status: 0 after quit or the end of the input, 1 if the sheet or the book is refused, the
+ * book is an older one, a file cannot be used or the input ends within a line, 2 for wrong usage.
  */
 #include "book.h"
 #include "rozhinal.h"
@@ -29,6 +33,9 @@ struct office {
 #define LENT(b) (b)->sheet, (b)->sheet_len, (b)->index, (b)->index_len, (b)->table, (b)->table_len
 
 /* ---- Showing items ---- */
+
+/* The widest value is -ROZHINAL_LIMIT: a sign and 16 digits. */
+enum { VALUE_COLUMNS = 17 };
 
 /* A value at the right end of so many columns; 0 for just its length. */
 static void print_value(int columns, uint64_t kind, int64_t number)
@@ -225,7 +232,6 @@ static bool list_items(const struct office *office, char **words, size_t count, 
 static void show_board(const struct book *book, const uint8_t *items, const uint8_t *results,
                        size_t count)
 {
-    enum { VALUE_COLUMNS = 14 };
     for (size_t k = 0; k < count; k++) {
         const uint8_t *result = results + ROZHINAL_RESULTS_BYTES(k);
         size_t item = (size_t)items[2 * k] + 256 * (size_t)items[2 * k + 1];
@@ -269,7 +275,7 @@ static const struct {
     size_t least, most; /* words, with the verb; a board counts its items itself */
     const char *help;
 } verbs[VERBS] = {
-    [POST] = { "post", "ITEM NUMBER", 3, 3, "post kilograms, or `null` for nothing recorded" },
+    [POST] = { "post", "ITEM NUMBER", 3, 3, "post grams, or `null` for nothing recorded" },
     [ASK] = { "ask", "ITEM", 2, 2, "catch up, and read an item" },
     [BOARD] = { "board", "ITEM...", 2, SIZE_MAX, "catch up once, and read up to 64 items" },
     [KEEP] = { "keep", "ITEM", 2, 2, "store a figure" },
@@ -431,6 +437,27 @@ static bool open_sheet(const struct book *book, bool full)
     return false;
 }
 
+/* What was posted to an older book, and what to do with it. */
+static void show_older(const struct book *book)
+{
+    size_t count = rozhinal_item_count(book->sheet, book->sheet_len);
+    for (size_t i = 0; i < count; i++) {
+        const uint8_t *record = book->table + ROZHINAL_TABLE_BYTES(i);
+        struct item item = item_at(book->sheet, book->index, i);
+        if (item.figure || record[0] != ROZHINAL_NUMBER)
+            continue;
+        printf("%4zu  %-16s  ", i, item.name);
+        print_value(VALUE_COLUMNS, record[0], number_at(record + 2));
+        putchar('\n');
+    }
+    fflush(stdout);
+    fprintf(stderr,
+            "office: %s is from before version 2.0.0: its amounts are kilograms, and its balances\n"
+            "are not sure. It is left as it is. Begin a new book, and post again what is shown:\n"
+            "weights in grams, shares and switches as they stand.\n",
+            book->path);
+}
+
 /* Goes on from the book, or begins it with the table that the opening wrote. */
 static bool open_book(struct book *book, bool full)
 {
@@ -440,6 +467,9 @@ static bool open_book(struct book *book, bool full)
     case BOOK_LOADED:
         printf("going on with %s\n", book->path);
         return true;
+    case BOOK_OLDER:
+        show_older(book);
+        return false;
     case BOOK_ABSENT:
         saved = book_save(book);
         if (saved < 0)

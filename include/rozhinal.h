@@ -1,5 +1,5 @@
 /*
- * Rozhinal 1.1.0: an engine for quota ledgers.
+ * Rozhinal 2.0.0: an engine for quota ledgers.
  *
  * A sheet is a circuit of items. An entry is posted; a figure is worked out from earlier items, its
  * parents, by one of eight rules. The caller lends three slices of bytes to each call:
@@ -26,6 +26,9 @@
  *   - A table that only the engine has written since an opening is always accepted (with its own
  *     sheet and index). A table with bytes from elsewhere may be accepted too, but its readings are
  *     then not promised.
+ *   - A table that was opened before version 2.0.0 is accepted too, and the library cannot tell it.
+ *     Its numbers are kilograms, and it may hold an OUT from the range of before, so its readings
+ *     are not promised either. Open anew, and post again in grams.
  *
  * A refused call changes no lent byte. An accepted call never fails halfway.
  *
@@ -44,10 +47,10 @@
 extern "C" {
 #endif
 
-#define ROZHINAL_VERSION_MAJOR 1
-#define ROZHINAL_VERSION_MINOR 1
+#define ROZHINAL_VERSION_MAJOR 2
+#define ROZHINAL_VERSION_MINOR 0
 #define ROZHINAL_VERSION_PATCH 0
-#define ROZHINAL_VERSION "1.1.0"
+#define ROZHINAL_VERSION "2.0.0"
 
 /* ---- Limits ---------------------------------------------------------------------------------- */
 
@@ -309,7 +312,7 @@ rozhinal_answer rozhinal_board(const uint8_t *sheet, size_t sheet_len,
 /* ---- Printer --------------------------------------------------------------------------------- */
 
 /*
- * The scratch bytes that the printer asks for. A printed value is shorter. No 0 byte is written
+ * The scratch bytes that the printer asks for. A printed value has at most 17. No 0 byte is written
  * after it.
  */
 #define ROZHINAL_PRINT_BYTES 20
