@@ -5,6 +5,9 @@ use crate::model::table::{encode, Cell, Mark};
 use crate::model::value::{Value, LIMIT, WHOLE};
 use crate::rng::Rng;
 
+/// A number lay from `-OLDER_LIMIT` to `OLDER_LIMIT` before the range was of grams.
+pub const OLDER_LIMIT: i64 = 1_000_000_000_000;
+
 /// Which numbers a list favours.
 #[derive(Clone, Copy, Debug, PartialEq, Eq)]
 pub enum Numbers {
@@ -13,8 +16,11 @@ pub enum Numbers {
     Small,
     /// Near the limits of the range.
     Limits,
-    /// Ten-thousandths, and numbers of which they leave a remainder.
+    /// Ten-thousandths, numbers of which they leave a remainder, and numbers whose product with
+    /// them is on either side of what a signed 64-bit number holds.
     Shares,
+    /// Those of an older table.
+    Older,
 }
 
 pub fn choose_numbers(rng: &mut Rng) -> Numbers {
@@ -26,11 +32,46 @@ pub fn number(rng: &mut Rng, numbers: Numbers) -> i64 {
     match numbers {
         Numbers::Small => rng.between(0, 4) as i64 - 2,
         Numbers::Limits => *rng.pick(&[LIMIT, LIMIT - 1, -LIMIT, 1 - LIMIT, 1, -1]),
-        Numbers::Shares => {
-            *rng.pick(&[-1, -7, 13, 1, WHOLE / 2, WHOLE / 3, WHOLE, 1 - WHOLE, WHOLE + 1])
-        }
+        Numbers::Shares => match rng.below(4) {
+            0 => near_limit(rng),
+            1 => near_whole(rng),
+            _ => *rng.pick(&[-1, -7, 13, 1, WHOLE / 2, WHOLE / 3, WHOLE, 1 - WHOLE, WHOLE + 1]),
+        },
+        Numbers::Older if rng.percent(30) => *rng.pick(&[OLDER_LIMIT, -OLDER_LIMIT, 1, 0, -1]),
+        Numbers::Older => within(rng, OLDER_LIMIT),
         Numbers::Any => any_number(rng),
     }
+}
+
+/// Any number from `-most` to `most`.
+fn within(rng: &mut Rng, most: i64) -> i64 {
+    rng.below(2 * most as u64 + 1) as i64 - most
+}
+
+/// A number of either sign in the last twentieth before the limit.
+fn near_limit(rng: &mut Rng) -> i64 {
+    (LIMIT - rng.below(LIMIT as u64 / 20) as i64) * *rng.pick(&[-1, 1])
+}
+
+/// Ten-thousandths whose product with a number at the limit is on either side of 2^63.
+fn near_whole(rng: &mut Rng) -> i64 {
+    WHOLE - rng.below(800) as i64
+}
+
+/// The parents of a share that is a number: over all of the range, and near its limits.
+pub fn share_pair(rng: &mut Rng) -> (i64, i64) {
+    let first = match rng.below(4) {
+        0 => any_number(rng),
+        1 => near_limit(rng),
+        2 => number(rng, Numbers::Limits),
+        _ => within(rng, LIMIT),
+    };
+    let second = match rng.below(3) {
+        0 => rng.below(WHOLE as u64 + 1) as i64,
+        1 => near_whole(rng),
+        _ => *rng.pick(&[0, 1, 2, WHOLE / 2 - 1, WHOLE / 2, WHOLE / 2 + 1, WHOLE - 1, WHOLE]),
+    };
+    (first, second)
 }
 
 pub fn any_number(rng: &mut Rng) -> i64 {
@@ -39,9 +80,9 @@ pub fn any_number(rng: &mut Rng) -> i64 {
         6 => *rng.pick(&[WHOLE, WHOLE + 1, WHOLE / 2, WHOLE - 1, 1]),
         7 | 8 => rng.below(WHOLE as u64 + 1) as i64,
         9 => *rng.pick(&[LIMIT / 2, LIMIT / 2 + 1, -LIMIT / 2, -LIMIT / 2 - 1]),
-        10 | 11 => rng.below(2_000_001) as i64 - 1_000_000,
+        10 | 11 => within(rng, 1_000_000),
         12 => power_of_ten(rng),
-        _ => rng.below(2 * LIMIT as u64 + 1) as i64 - LIMIT,
+        _ => within(rng, LIMIT),
     }
 }
 
@@ -77,6 +118,15 @@ pub fn entry_value(rng: &mut Rng, numbers: Numbers) -> Value {
 /// A table that is accepted, with any marks and any stale values.
 pub fn accepted_table(rng: &mut Rng, items: &[Item]) -> Vec<u8> {
     let numbers = choose_numbers(rng);
+    table_with(rng, items, numbers)
+}
+
+/// The same, with numbers of the range before.
+pub fn older_table(rng: &mut Rng, items: &[Item]) -> Vec<u8> {
+    table_with(rng, items, Numbers::Older)
+}
+
+fn table_with(rng: &mut Rng, items: &[Item], numbers: Numbers) -> Vec<u8> {
     let (marked, stored) = (*rng.pick(&[0, 10, 50, 90]), *rng.pick(&[10, 50, 70, 100]));
     let cells: Vec<Cell> = items
         .iter()
