@@ -16,8 +16,8 @@ pub enum Numbers {
     Small,
     /// Near the limits of the range.
     Limits,
-    /// Ten-thousandths, numbers of which they leave a remainder, and numbers whose product with
-    /// them is on either side of what a signed 64-bit number holds.
+    /// Ten-thousandths, and numbers of which they leave a remainder; for the parents of shares, also
+    /// those whose product is on either side of 2^63.
     Shares,
     /// Those of an older table.
     Older,
@@ -32,11 +32,9 @@ pub fn number(rng: &mut Rng, numbers: Numbers) -> i64 {
     match numbers {
         Numbers::Small => rng.between(0, 4) as i64 - 2,
         Numbers::Limits => *rng.pick(&[LIMIT, LIMIT - 1, -LIMIT, 1 - LIMIT, 1, -1]),
-        Numbers::Shares => match rng.below(4) {
-            0 => near_limit(rng),
-            1 => near_whole(rng),
-            _ => *rng.pick(&[-1, -7, 13, 1, WHOLE / 2, WHOLE / 3, WHOLE, 1 - WHOLE, WHOLE + 1]),
-        },
+        Numbers::Shares => {
+            *rng.pick(&[-1, -7, 13, 1, WHOLE / 2, WHOLE / 3, WHOLE, 1 - WHOLE, WHOLE + 1])
+        }
         Numbers::Older if rng.percent(30) => *rng.pick(&[OLDER_LIMIT, -OLDER_LIMIT, 1, 0, -1]),
         Numbers::Older => within(rng, OLDER_LIMIT),
         Numbers::Any => any_number(rng),
@@ -107,11 +105,25 @@ pub fn beyond(rng: &mut Rng) -> i64 {
     }
 }
 
-pub fn entry_value(rng: &mut Rng, numbers: Numbers) -> Value {
+/// A value in range, or NULL.
+fn stored_value(rng: &mut Rng, numbers: Numbers) -> Value {
     if rng.percent(25) {
         Value::Null
     } else {
         Value::Number(number(rng, numbers))
+    }
+}
+
+/// A value for an entry.
+pub fn entry_value(rng: &mut Rng, items: &[Item], entry: usize, numbers: Numbers) -> Value {
+    let is_part =
+        |item: &Item| item.figure.as_ref().is_some_and(|f| f.rule == 5 && f.parents[1] == entry);
+    match numbers {
+        Numbers::Shares if rng.percent(60) => Value::Number(match items.iter().any(is_part) {
+            true => near_whole(rng),
+            false => near_limit(rng),
+        }),
+        _ => stored_value(rng, numbers),
     }
 }
 
@@ -130,16 +142,18 @@ fn table_with(rng: &mut Rng, items: &[Item], numbers: Numbers) -> Vec<u8> {
     let (marked, stored) = (*rng.pick(&[0, 10, 50, 90]), *rng.pick(&[10, 50, 70, 100]));
     let cells: Vec<Cell> = items
         .iter()
-        .map(|item| {
+        .enumerate()
+        .map(|(i, item)| {
             let marked = rng.percent(marked);
             let notice = if marked { Mark::Notice } else { Mark::None };
             if item.figure.is_none() {
-                return Cell { stored: Some(entry_value(rng, numbers)), mark: notice };
+                let value = entry_value(rng, items, i, numbers);
+                return Cell { stored: Some(value), mark: notice };
             }
             if !rng.percent(stored) {
                 return Cell { stored: None, mark: notice };
             }
-            let value = if rng.percent(10) { Value::Out } else { entry_value(rng, numbers) };
+            let value = if rng.percent(10) { Value::Out } else { stored_value(rng, numbers) };
             let mark = if marked && rng.percent(50) { Mark::Refresh } else { notice };
             Cell { stored: Some(value), mark }
         })
