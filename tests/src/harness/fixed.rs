@@ -143,7 +143,11 @@ fn arguments(c: &mut Comparison) -> Result<(), String> {
     for item in (0..8).chain(beyond) {
         let kinds = (0..6).chain([256, 257, 259, (1 << 32) + 3, u64::MAX]);
         let posts = kinds.flat_map(|kind| {
-            [0, 7, -1, LIMIT, LIMIT + 1].map(|number| Call::Post { item, kind, number })
+            [0, 7, -1, LIMIT, LIMIT + 1, -LIMIT, -LIMIT - 1].map(|number| Call::Post {
+                item,
+                kind,
+                number,
+            })
         });
         let others =
             [Call::Keep { item }, Call::Drop { item }, Call::Step { item }, Call::Ask { item }];
@@ -224,17 +228,19 @@ fn item_counts(c: &mut Comparison) -> Result<(), String> {
     Ok(())
 }
 
-/// The range of posts and of tables, from both sides.
+/// The range of posts and of tables, from both sides: of the number of an entry and of a figure.
 fn range(c: &mut Comparison) -> Result<(), String> {
     let (lent, _) = opened(c, EXAMPLE.to_vec(), 5, false)?;
     for (number, right) in [(LIMIT, 0), (LIMIT + 1, 13), (-LIMIT, 0), (-LIMIT - 1, 13)] {
         let given = c.act(&Act::Give(post(0, number)), &mut lent.clone())?;
         expect("range of a post", given.number, right)?;
-        let mut table = lent.clone();
-        table.table[0] = 3;
-        table.table[2..10].copy_from_slice(&number.to_le_bytes());
-        let given = c.act(&Act::Give(Call::Ask { item: 0 }), &mut table)?;
-        expect("range of a table", given.number, if right == 0 { 0 } else { 10 })?;
+        for item in [0, 3] {
+            let (mut table, at) = (lent.clone(), 10 * item as usize);
+            table.table[at] = 3;
+            table.table[at + 2..at + 10].copy_from_slice(&number.to_le_bytes());
+            let given = c.act(&Act::Give(Call::Ask { item }), &mut table)?;
+            expect("range of a table", given.number, if right == 0 { 0 } else { 10 })?;
+        }
     }
     Ok(())
 }
