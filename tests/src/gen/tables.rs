@@ -114,7 +114,8 @@ fn stored_value(rng: &mut Rng, numbers: Numbers) -> Value {
     }
 }
 
-/// A value for an entry.
+/// A value for an entry. Where a list favours shares, the second parent of one mostly gets
+/// ten-thousandths, and another entry a number near the limit.
 pub fn entry_value(rng: &mut Rng, items: &[Item], entry: usize, numbers: Numbers) -> Value {
     let is_part =
         |item: &Item| item.figure.as_ref().is_some_and(|f| f.rule == 5 && f.parents[1] == entry);

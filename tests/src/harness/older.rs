@@ -1,5 +1,5 @@
-//! Tables of before the range was of grams: they are accepted, and may hold an OUT of the range
-//! before.
+//! Older tables: their numbers lie within 10^12, and a figure may be stored as OUT that is a number
+//! in the range of grams. They are accepted.
 
 use super::compare::{Act, Comparison, Lent};
 use super::fixed::{opened, post, reads, OUT};
@@ -9,7 +9,7 @@ use crate::model::sheet::{index_of, read_sheet, EXAMPLE};
 use crate::model::table::{encode, Cell, Mark};
 use crate::model::value::Value;
 
-/// The example with a sum that was OUT: it is read as it is stored until it is worked out anew.
+/// The example with a sum that was OUT: it is read as it is stored, until it is worked out anew.
 /// The same posts on a table opened now give the sum.
 pub fn older_example(c: &mut Comparison) -> Result<(), String> {
     let stored = [

@@ -33,7 +33,7 @@ pub const BOARDS: [&str; 8] = [
     "results a byte long",
 ];
 
-/// What is said of a share's product that the paper's old range did not have.
+/// What a share in the older range never had.
 const WIDE: &str = "a product beyond a signed 64-bit number";
 
 /// The refusals in the lines of a day, by the line's first word.
