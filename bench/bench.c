@@ -78,6 +78,10 @@ static uint8_t board_items[ROZHINAL_ITEMS_BYTES(BOARD_ITEMS)];
 static const char *workload = "preparing";
 enum { LABEL_BYTES = 128 };
 
+/* The grams posted to one entry; a prime, for what is posted to all of them on each of DAYS days. */
+enum { POSTED = 4321098, PRIME = 7919003, DAYS = 2 };
+enum { RATES_WITHIN = 500 }; /* of the whole, the rates by which amounts at the limit are shared */
+
 /* ---- Calls ----------------------------------------------------------------------------------- */
 
 static void fail(const char *what)
@@ -211,21 +215,34 @@ static int64_t amount(size_t item, size_t day)
 {
     size_t in_group = item % GROUP_ITEMS;
     size_t most = in_group == RATE ? ROZHINAL_WHOLE : MOST_POSTED;
-    return (int64_t)((in_group + 1) * (day + 1) * 7919 % most);
+    return (int64_t)((in_group + 1) * (day + 1) * PRIME % most);
 }
 
-static void post_every_entry(size_t day)
+/* The same for a sheet of shares. */
+static int64_t amount_at_limit(size_t item, size_t day)
+{
+    int64_t less = (int64_t)((item + 1) * (day + 1) * PRIME);
+    if (item < RATES)
+        return ROZHINAL_WHOLE - less % RATES_WITHIN;
+    return item % 2 ? ROZHINAL_LIMIT - less : less - ROZHINAL_LIMIT;
+}
+
+_Static_assert(INT64_MAX / (ROZHINAL_WHOLE - RATES_WITHIN)
+                   < ROZHINAL_LIMIT - (RATES + SHARED) * DAYS * PRIME,
+               "every product is beyond a signed 64-bit number");
+
+static void post_every_entry(int64_t (*amount_of)(size_t, size_t), size_t day)
 {
     for (size_t i = 0; i < sheet.count; i++)
         if (is_entry(&sheet, i))
-            prepare(post_of(i, amount(i, day)));
+            prepare(post_of(i, amount_of(i, day)));
 }
 
 /* Opens, posts every entry and catches up. */
 static void settle(enum call_kind opening)
 {
     prepare(call_of(opening, 0));
-    post_every_entry(0);
+    post_every_entry(amount, 0);
     prepare(call_of(ASK, sheet.top));
 }
 
@@ -251,7 +268,7 @@ static void one_post_all_stored(size_t groups)
 {
     make_ledger(&sheet, groups, 1);
     settle(OPEN_FULL);
-    prepare(post_of(0, 4321));
+    prepare(post_of(0, POSTED));
 }
 
 static void one_post_half_stored(size_t groups)
@@ -259,21 +276,21 @@ static void one_post_half_stored(size_t groups)
     make_ledger(&sheet, groups, 0);
     settle(OPEN_BARE);
     keep_half_the_figures();
-    prepare(post_of(0, 4321));
+    prepare(post_of(0, POSTED));
 }
 
 static void one_post_none_stored(size_t groups)
 {
     make_ledger(&sheet, groups, 0);
     settle(OPEN_BARE);
-    prepare(post_of(0, 4321));
+    prepare(post_of(0, POSTED));
 }
 
 static void every_entry_posted(size_t groups)
 {
     make_ledger(&sheet, groups, 1);
     settle(OPEN_FULL);
-    post_every_entry(1);
+    post_every_entry(amount, 1);
 }
 
 static const struct state {
@@ -332,7 +349,7 @@ static void count_small_calls(size_t groups)
     make_ledger(&sheet, groups, 1);
     settle(OPEN_FULL);
     count("ask, nothing posted", call_of(ASK, sheet.top));
-    count("post", post_of(0, 4321));
+    count("post", post_of(0, POSTED));
     count("step of an entry", call_of(STEP, 0));
     count("step of a figure", call_of(STEP, marked(ROZHINAL_MARK_REFRESH)));
     count("drop", call_of(DROP, sheet.top));
@@ -375,7 +392,7 @@ static void count_chain(void)
 {
     make_chain(&sheet);
     settle(OPEN_BARE);
-    prepare(post_of(0, 4321));
+    prepare(post_of(0, POSTED));
     count("ask, 64 levels of one parent 16 times", call_of(ASK, sheet.top));
 }
 
@@ -383,16 +400,30 @@ static void count_fan(void)
 {
     make_fan(&sheet, 800);
     settle(OPEN_FULL);
-    prepare(post_of(0, 4321));
+    prepare(post_of(0, POSTED));
     count("ask, an entry with 800 children", call_of(ASK, sheet.top));
+}
+
+/* Every share is worked out anew. */
+static void count_shares(void)
+{
+    make_shares(&sheet, 900);
+    prepare(call_of(OPEN_FULL, 0));
+    post_every_entry(amount_at_limit, 0);
+    prepare(call_of(ASK, sheet.top));
+    post_every_entry(amount_at_limit, 1);
+    count("ask, shares at the limit", call_of(ASK, sheet.top));
 }
 
 static void count_printer(void)
 {
     static const struct call prints[] = {
-        { PRINT, 0, ROZHINAL_NULL, 0 },         { PRINT, 0, ROZHINAL_OUT, 0 },
-        { PRINT, 0, ROZHINAL_NUMBER, 0 },       { PRINT, 0, ROZHINAL_NUMBER, 75 },
-        { PRINT, 0, ROZHINAL_NUMBER, -48250 },  { PRINT, 0, ROZHINAL_NUMBER, 1234567 },
+        { PRINT, 0, ROZHINAL_NULL, 0 },
+        { PRINT, 0, ROZHINAL_OUT, 0 },
+        { PRINT, 0, ROZHINAL_NUMBER, 0 },
+        { PRINT, 0, ROZHINAL_NUMBER, 75000 },
+        { PRINT, 0, ROZHINAL_NUMBER, -48250125 },
+        { PRINT, 0, ROZHINAL_NUMBER, ROZHINAL_LIMIT },
         { PRINT, 0, ROZHINAL_NUMBER, -ROZHINAL_LIMIT },
     };
     enum { PRINTS = sizeof prints / sizeof prints[0] };
@@ -414,6 +445,7 @@ int main(void)
         count_board(&states[k], MOST_GROUPS);
     count_chain();
     count_fan();
+    count_shares();
     count_printer();
     return 0;
 }

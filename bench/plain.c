@@ -164,15 +164,24 @@ static struct value difference(struct value a, struct value b)
     return number_value(a.number - b.number);
 }
 
+/*
+ * The product of the two, up to 10^19, can leave a signed 64-bit number. So the units of 10,000 in
+ * the first are multiplied alone, and only what is over, 0 to 9,999, is also divided: both products
+ * here are at most 10^15.
+ */
 static struct value share(struct value whole, struct value parts)
 {
     if (whole.kind == ROZHINAL_NULL || parts.kind == ROZHINAL_NULL)
         return null_value;
     if (parts.number < 0 || ROZHINAL_WHOLE < parts.number)
         return out_value;
-    int64_t product = whole.number * parts.number; /* at most 10^16 */
-    int64_t quotient = product / ROZHINAL_WHOLE;
-    return number_value(product % ROZHINAL_WHOLE < 0 ? quotient - 1 : quotient);
+    int64_t units = whole.number / ROZHINAL_WHOLE;
+    int64_t over = whole.number % ROZHINAL_WHOLE;
+    if (over < 0) {
+        units--;
+        over += ROZHINAL_WHOLE;
+    }
+    return number_value(units * parts.number + over * parts.number / ROZHINAL_WHOLE);
 }
 
 static struct value choice(struct value test, struct value yes, struct value no)
@@ -745,6 +754,9 @@ static const uint64_t powers_of_ten[] = {
     100000000000,
     1000000000000,
     10000000000000,
+    100000000000000,
+    1000000000000000,
+    10000000000000000, /* above every number */
 };
 
 /* Writes a number that is in the range, and gives the length. */

@@ -199,20 +199,41 @@ void make_chain(struct sheet *sheet)
     end_sheet(sheet);
 }
 
-void make_fan(struct sheet *sheet, size_t figures)
+static void put_entries(struct sheet *sheet, size_t count)
 {
     struct figure item = { .rule = 0 };
+    for (size_t i = 0; i < count; i++) {
+        draw_name(&item);
+        put_item(sheet, &item, 0);
+    }
+}
+
+void make_fan(struct sheet *sheet, size_t figures)
+{
+    struct figure item = { .rule = ROZHINAL_SUM, .level = 1 };
     begin_sheet(sheet, COMMON_ENTRIES + figures);
-    for (size_t i = 0; i < COMMON_ENTRIES + figures; i++) {
-        if (i >= COMMON_ENTRIES) {
-            item.level = 1;
-            item.rule = ROZHINAL_SUM;
-            item.keep = (uint8_t)draw(2);
-            item.spread = (uint8_t)draw(3);
-            item.parent_count = 1 + draw(4);
-            for (size_t k = 1; k < item.parent_count; k++)
-                item.parents[k] = draw(COMMON_ENTRIES);
-        }
+    put_entries(sheet, COMMON_ENTRIES);
+    for (size_t i = 0; i < figures; i++) {
+        item.keep = (uint8_t)draw(2);
+        item.spread = (uint8_t)draw(3);
+        item.parent_count = 1 + draw(4);
+        for (size_t k = 1; k < item.parent_count; k++)
+            item.parents[k] = draw(COMMON_ENTRIES);
+        draw_name(&item);
+        put_item(sheet, &item, 0);
+    }
+    end_sheet(sheet);
+}
+
+void make_shares(struct sheet *sheet, size_t figures)
+{
+    struct figure item = { .rule = ROZHINAL_SHARE, .level = 1, .parent_count = 2 };
+    begin_sheet(sheet, RATES + SHARED + figures);
+    put_entries(sheet, RATES + SHARED);
+    for (size_t i = 0; i < figures; i++) {
+        item.spread = draw(2) ? ROZHINAL_RENEW : ROZHINAL_DEFER;
+        item.parents[0] = RATES + draw(SHARED);
+        item.parents[1] = draw(RATES);
         draw_name(&item);
         put_item(sheet, &item, 0);
     }

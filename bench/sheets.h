@@ -4,7 +4,9 @@
 
 #include "rozhinal.h"
 
-enum { SHEET_BYTES = 65536, GROUP_ITEMS = 125, COMMON_ENTRIES = 4, RATE = 1, MOST_POSTED = 100000 };
+enum { SHEET_BYTES = 65536, GROUP_ITEMS = 125, COMMON_ENTRIES = 4, RATE = 1 };
+enum { MOST_POSTED = 100000000 }; /* grams */
+enum { RATES = 8, SHARED = 24 };
 
 struct sheet {
     uint8_t bytes[SHEET_BYTES];
@@ -27,6 +29,12 @@ void make_chain(struct sheet *sheet);
 
 /* COMMON_ENTRIES entries, and figures that all list the first. */
 void make_fan(struct sheet *sheet, size_t figures);
+
+/*
+ * RATES + SHARED entries, and shares of the last SHARED by the first RATES. None is forgotten: once
+ * stored, a share is worked out anew whenever a parent was posted.
+ */
+void make_shares(struct sheet *sheet, size_t figures);
 
 /* Whether the item is an entry. */
 int is_entry(const struct sheet *sheet, size_t item);

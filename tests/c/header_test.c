@@ -18,9 +18,10 @@ _Static_assert(ROZHINAL_INDEX_BYTES(5) == 20 && ROZHINAL_TABLE_BYTES(5) == 50, "
 _Static_assert(ROZHINAL_REFUSED_DAY == 16 && ROZHINAL_REFUSED_SIZES == 8, "refusals");
 _Static_assert(ROZHINAL_REFUSED_LISTS == 17 && ROZHINAL_MAX_BOARD == 64, "the board");
 _Static_assert(ROZHINAL_ITEMS_BYTES(64) == 128 && ROZHINAL_RESULTS_BYTES(64) == 576, "its lists");
+_Static_assert(ROZHINAL_LIMIT == INT64_C(1000000000000000) && ROZHINAL_WHOLE == 10000, "the range");
 _Static_assert(ROZHINAL_NUMBER == 3 && ROZHINAL_MARK_NOTICE == 2, "kinds and marks");
 
-enum { ITEMS = 5, INDEX = 4 * ITEMS, TABLE = 10 * ITEMS, SHEET = 46 };
+enum { ITEMS = 5, INDEX = 4 * ITEMS, TABLE = 10 * ITEMS, SHEET = 46, RULE_OF_3 = 22 };
 enum { MOST = ROZHINAL_MAX_BOARD, OVER = MOST + 1, PAIR = 2, RESULT = 9 };
 
 static const uint8_t example[SHEET] = {
@@ -117,6 +118,81 @@ static void the_example(void)
     ask(4);
 }
 
+/* ---- The range ---- */
+
+static void post_number(const char *what, int64_t number)
+{
+    accepted(what, rozhinal_post(LENT, 0, ROZHINAL_NUMBER, number));
+}
+
+static void post_beyond(const char *what, int64_t number)
+{
+    refused(what, rozhinal_post(LENT, 0, ROZHINAL_NUMBER, number));
+}
+
+/* The number of entry 0, put into the table by hand, then an ask for it. */
+static void lend_number(const char *what, int64_t number)
+{
+    now.table[0] = ROZHINAL_NUMBER;
+    for (size_t k = 0; k < 8; k++)
+        now.table[2 + k] = (uint8_t)((uint64_t)number >> 8 * k);
+    before = now;
+    rozhinal_reading r = rozhinal_ask(LENT, 0);
+    printf("table with %s: %" PRIu64 " %" PRIu64 " %" PRId64 "\n", what, r.number, r.kind, r.value);
+    require(r.number == 0 || memcmp(&now, &before, sizeof now) == 0,
+            "a refused ask changed a lent byte");
+}
+
+static void print_number(const char *what, int64_t number)
+{
+    memset(now.scratch, 0xEE, sizeof now.scratch);
+    before = now;
+    int64_t given = rozhinal_print(ROZHINAL_NUMBER, number, now.scratch, sizeof now.scratch);
+    size_t length = given > 0 ? (size_t)given : 0;
+    printf("print %s: %" PRId64 "%s%.*s\n", what, given, length > 0 ? " " : "", (int)length,
+           (const char *)now.scratch);
+    require(memcmp(now.scratch + length, before.scratch + length, sizeof now.scratch - length) == 0,
+            "a byte after what is printed");
+}
+
+/* Item 3 is made the share of item 0 by item 2. */
+static void shares_at_the_limit(void)
+{
+    start();
+    now.sheet[RULE_OF_3] = ROZHINAL_SHARE;
+    accepted("open full", rozhinal_open_full(LENT));
+    for (int64_t parts = ROZHINAL_WHOLE - 1; parts <= ROZHINAL_WHOLE + 1; parts++) {
+        printf("shares of %" PRId64 " parts\n", parts);
+        accepted("post 2", rozhinal_post(LENT, 2, ROZHINAL_NUMBER, parts));
+        post_number("post 0 limit", ROZHINAL_LIMIT);
+        ask(3);
+        post_number("post 0 limit - 1", ROZHINAL_LIMIT - 1);
+        ask(3);
+        post_number("post 0 -limit", -ROZHINAL_LIMIT);
+        ask(3);
+        post_number("post 0 -limit + 1", -ROZHINAL_LIMIT + 1);
+        ask(3);
+    }
+}
+
+static void the_range(void)
+{
+    shares_at_the_limit();
+    post_beyond("post 0 limit + 1", ROZHINAL_LIMIT + 1);
+    post_beyond("post 0 -limit - 1", -ROZHINAL_LIMIT - 1);
+    post_beyond("post 0 least", INT64_MIN);
+    lend_number("limit", ROZHINAL_LIMIT);
+    lend_number("limit + 1", ROZHINAL_LIMIT + 1);
+    lend_number("-limit", -ROZHINAL_LIMIT);
+    lend_number("-limit - 1", -ROZHINAL_LIMIT - 1);
+    print_number("limit", ROZHINAL_LIMIT);
+    print_number("limit + 1", ROZHINAL_LIMIT + 1);
+    print_number("-limit", -ROZHINAL_LIMIT);
+    print_number("-limit - 1", -ROZHINAL_LIMIT - 1);
+}
+
+/* ---- Refusals ---- */
+
 /* One byte of the example changed, then an ask. */
 static void damaged_sheet(const char *what, size_t place, uint8_t byte)
 {
@@ -151,7 +227,7 @@ static void sheet_refusals(void)
     damaged_sheet("a tag of 5", 11, 5);
     damaged_sheet("a name with a blank", 18, ' ');
     damaged_sheet("edition 2", 3, 2);
-    damaged_sheet("rule 9", 22, 9);
+    damaged_sheet("rule 9", RULE_OF_3, 9);
     damaged_sheet("item 3 with parent 3", 26, 3);
     too_deep();
 }
@@ -320,6 +396,7 @@ static void null_pointers(void)
 int main(void)
 {
     the_example();
+    the_range();
     sheet_refusals();
     other_refusals();
     the_board();

@@ -3,6 +3,7 @@
 //! It can be made wrong in one respect.
 
 mod board;
+mod older;
 
 use crate::engine::{DayProgram, Engine};
 use crate::guarded::Guarded;
@@ -33,6 +34,13 @@ with_all! {
     pub enum Wrong {
         Nothing,
         RoundsTowardZero,
+        ShareWrapsAt64Bits,
+        ShareInFloatingPoint,
+        ShareOfRoundedFirst,
+        PostsInOlderRange,
+        TablesInOlderRange,
+        ResultsInOlderRange,
+        PrinterInOlderRange,
         TestsRangeAtEachAddition,
         ClearsMarkBeforeTelling,
         WorksOutStoredNull,
@@ -68,6 +76,18 @@ with_all! {
 
 pub struct Mock(pub Wrong);
 
+/// The share of two numbers, of which the second is within 0 to 10,000.
+fn share(wrong: Wrong, first: i128, second: i128) -> Value {
+    let whole = WHOLE as i128;
+    Value::Number(match wrong {
+        Wrong::RoundsTowardZero => (first * second / whole) as i64,
+        Wrong::ShareWrapsAt64Bits => ((first * second) as i64).div_euclid(WHOLE),
+        Wrong::ShareInFloatingPoint => (first as f64 * second as f64 / WHOLE as f64).floor() as i64,
+        Wrong::ShareOfRoundedFirst => (first.div_euclid(whole) * second) as i64,
+        _ => (first * second).div_euclid(whole) as i64,
+    })
+}
+
 struct Sweep<'a> {
     items: &'a [Item],
     cells: Vec<Cell>,
@@ -82,8 +102,8 @@ impl Sweep<'_> {
             .collect();
         let right = apply(rule, parents);
         match (self.wrong, rule) {
-            (Wrong::RoundsTowardZero, 5) if matches!(right, Value::Number(_)) => {
-                Value::Number((numbers[0] * numbers[1] / WHOLE as i128) as i64)
+            (wrong, 5) if matches!(right, Value::Number(_)) => {
+                wrong.result(share(wrong, numbers[0], numbers[1]))
             }
             (Wrong::TestsRangeAtEachAddition, 1) => {
                 let mut sum = 0;
@@ -95,7 +115,7 @@ impl Sweep<'_> {
                 }
                 right
             }
-            _ => right,
+            (wrong, _) => wrong.result(right),
         }
     }
 
@@ -299,6 +319,9 @@ impl Engine for Mock {
         }
         let items = read_sheet(sheet.bytes()).unwrap();
         let cells = decode(&items, table.bytes()).unwrap();
+        if let Some(number) = wrong.refusal(call, &cells) {
+            return Reply { number, offset: 0, kind: 0, value: 0 };
+        }
         let mut machine = Sweep { items: &items, cells, wrong };
         let reply = machine.give(call);
         table.bytes_mut().copy_from_slice(&encode(&machine.cells));
@@ -325,6 +348,9 @@ impl Engine for Mock {
         let length = scratch.length();
         if self.0 == Wrong::PrinterSays15First && length < printer::SCRATCH {
             return -15;
+        }
+        if self.0 == Wrong::PrinterInOlderRange && older::beyond(number) {
+            return -10;
         }
         let written = printer::print(kind, number, scratch.bytes_mut());
         if self.0 == Wrong::PrinterClearsTheRest && written > 0 {

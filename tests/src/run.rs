@@ -6,6 +6,8 @@ use crate::harness::days::{compare_fixed_days, compare_random_day};
 use crate::harness::fixed::run_fixed;
 use crate::harness::lists::run_list;
 use crate::harness::offices::run_offices;
+use crate::harness::older::run_older;
+use crate::harness::shares::{run_pairs, BATCH};
 use crate::harness::tally::Tally;
 use crate::rng::Rng;
 
@@ -16,6 +18,9 @@ pub struct Plan {
     /// Lists are run until so many of their calls are compared.
     pub calls: u64,
     pub offices: u64,
+    /// Pairs of which the share is asked for, a hundred at a time.
+    pub pairs: u64,
+    pub older: u64,
     pub days: u64,
     /// Slices are lent in blocks of their own, for a run under a memory checker.
     pub alone: bool,
@@ -30,6 +35,8 @@ const OFFICES: u64 = 1 << 40;
 const DAYS: u64 = 2 << 40;
 const FIXED: u64 = 3 << 40;
 const FIXED_DAYS: u64 = FIXED + 1;
+const PAIRS: u64 = 4 << 40;
+const OLDER: u64 = 5 << 40;
 
 /// Everything compared, or the first difference.
 pub fn run(
@@ -48,6 +55,12 @@ pub fn run(
     }
     for pair in 0..plan.offices {
         run_part(plan, OFFICES + pair, &mut c, &mut day)?;
+    }
+    for batch in 0..plan.pairs.div_ceil(BATCH) {
+        run_part(plan, PAIRS + batch, &mut c, &mut day)?;
+    }
+    for table in 0..plan.older {
+        run_part(plan, OLDER + table, &mut c, &mut day)?;
     }
     let (mut list, others) = (0, c.tally.calls());
     while c.tally.calls() < others + plan.calls {
@@ -81,6 +94,8 @@ fn run_part(
     c.rng = Rng::part(seed, part);
     let result = match (part, day) {
         (FIXED, _) => run_fixed(c),
+        (OLDER.., _) => run_older(c),
+        (PAIRS.., _) => run_pairs(c),
         (FIXED_DAYS, Some(program)) => compare_fixed_days(*program, &mut c.tally),
         (DAYS.., Some(program)) => compare_random_day(*program, &mut c.rng, &mut c.tally),
         (DAYS.., None) => Err("no day program is given".to_string()),
@@ -102,6 +117,8 @@ mod tests {
         fixed: false,
         calls: 50_000,
         offices: 10,
+        pairs: 0,
+        older: 0,
         days: 0,
         alone: false,
         only: None,
@@ -114,9 +131,18 @@ mod tests {
 
     #[test]
     fn the_model_agrees_with_another_machine() {
-        let plan = Plan { fixed: true, calls: 15_000, offices: 100, days: 60, ..SHORT };
+        let plan = Plan {
+            fixed: true,
+            calls: 15_000,
+            offices: 100,
+            pairs: 2_000,
+            older: 300,
+            days: 60,
+            ..SHORT
+        };
         let tally = try_mock(&plan, Wrong::Nothing).unwrap();
         assert!(tally.calls() >= 50_000);
+        assert_eq!((tally.pairs, tally.older_tables), (2_000, 300));
         assert_eq!(tally.lists_from_tables, tally.lists.div_ceil(5));
         assert_eq!(tally.random_days, 60);
         assert!(tally.damaged_days > 10);
@@ -151,6 +177,22 @@ mod tests {
         }
     }
 
+    /// Wrong shares are found by pairs alone too.
+    #[test]
+    fn wrong_shares_are_found() {
+        let plan = Plan { calls: 0, offices: 0, pairs: 500, ..SHORT };
+        for wrong in [
+            Wrong::RoundsTowardZero,
+            Wrong::ShareWrapsAt64Bits,
+            Wrong::ShareInFloatingPoint,
+            Wrong::ShareOfRoundedFirst,
+            Wrong::ResultsInOlderRange,
+        ] {
+            let found = try_mock(&plan, wrong).unwrap_err();
+            assert!(found.contains("--seed 5 --part"), "{wrong:?}: {found}");
+        }
+    }
+
     /// The part that a failure names fails alone too.
     #[test]
     fn a_part_can_be_run_again() {
@@ -179,7 +221,8 @@ mod tests {
     #[cfg(engine)]
     #[test]
     fn the_linked_engine_agrees() {
-        let plan = Plan { fixed: true, calls: 20_000, offices: 100, ..SHORT };
+        let plan =
+            Plan { fixed: true, calls: 20_000, offices: 100, pairs: 2_000, older: 300, ..SHORT };
         if let Err(difference) = run(&plan, &mut crate::ffi::Linked, None) {
             panic!("{difference}");
         }

@@ -9,7 +9,8 @@ use std::process::ExitCode;
 use std::time::{Instant, SystemTime, UNIX_EPOCH};
 
 const USAGE: &str =
-    "differential [--self] [--trace] [--alone] [--seed N] [--calls N] [--offices N] [--days N] [--part N]";
+    "differential [--self] [--trace] [--alone] [--seed N] [--calls N] [--offices N] [--pairs N] [--older N] \
+     [--days N] [--part N]";
 
 struct Options {
     mock: bool,
@@ -33,6 +34,8 @@ fn options() -> Result<Options, String> {
         fixed: true,
         calls: 600_000,
         offices: 5_000,
+        pairs: 50_000,
+        older: 5_000,
         days: 1_000,
         alone: false,
         only: None,
@@ -61,6 +64,8 @@ fn options() -> Result<Options, String> {
             "--seed" => options.plan.seed = number,
             "--calls" => options.plan.calls = number,
             "--offices" => options.plan.offices = number,
+            "--pairs" => options.plan.pairs = number,
+            "--older" => options.plan.older = number,
             "--days" => options.plan.days = number,
             "--part" => options.plan.only = Some(number),
             _ => return Err(USAGE.to_string()),

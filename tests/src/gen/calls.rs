@@ -25,7 +25,7 @@ fn item_where(rng: &mut Rng, items: &[Item], test: impl Fn(usize) -> bool) -> Op
 /// A post without a cause 11 to 13. Item 0 of an accepted sheet is an entry.
 pub fn good_post(rng: &mut Rng, items: &[Item], numbers: Numbers) -> Call {
     let item = item_where(rng, items, |i| items[i].figure.is_none()).unwrap();
-    match entry_value(rng, numbers) {
+    match entry_value(rng, items, item as usize, numbers) {
         Value::Number(number) => Call::Post { item, kind: 3, number },
         _ => Call::Post { item, kind: 1, number: 0 },
     }

@@ -12,7 +12,8 @@ pub use calls::{any_call, bad_post, day_field, day_log, good_post, other_call};
 pub use damage::{bad_sheet, damaged, damaged_sheet};
 pub use sheets::{shape, sheet, small_specs, Shape};
 pub use tables::{
-    accepted_table, beyond, choose_numbers, damaged_index, damaged_table, number, Numbers,
+    accepted_table, beyond, choose_numbers, damaged_index, damaged_table, number, older_table,
+    share_pair, Numbers, OLDER_LIMIT,
 };
 pub use write::{plain_chain, spec_figure, write_sheet, Spec};
 
@@ -25,8 +26,7 @@ mod tests {
     use crate::model::sheet::read_sheet;
     use crate::model::sheet::{Item, MAX_ITEMS, MAX_LEVEL};
     use crate::model::table::decode;
-    use crate::model::value::count_fits;
-    use crate::model::value::Value;
+    use crate::model::value::{count_fits, Value, LIMIT, WHOLE};
     use crate::rng::Rng;
 
     #[test]
@@ -91,6 +91,37 @@ mod tests {
         assert!(figures[0][0] * figures[0][2] > 0, "{figures:?}");
         assert!(figures[1..].iter().flatten().all(|&m| m > 0), "{figures:?}");
         assert!(stale > 300, "{stale}");
+    }
+
+    /// Numbers of older tables reach the limits of the range before, and do not pass them.
+    #[test]
+    fn older_tables_are_of_the_range_before() {
+        let mut rng = Rng::new(8);
+        let (mut least, mut most, mut out) = (0, 0, 0);
+        for _ in 0..200 {
+            let items = read_sheet(&write_sheet(&small_specs(&mut rng))).unwrap();
+            for cell in decode(&items, &older_table(&mut rng, &items)).unwrap() {
+                match cell.stored {
+                    Some(Value::Number(x)) => (least, most) = (x.min(least), x.max(most)),
+                    stored => out += (stored == Some(Value::Out)) as u64,
+                }
+            }
+        }
+        assert_eq!((least, most), (-OLDER_LIMIT, OLDER_LIMIT));
+        assert!(out > 20, "{out}");
+    }
+
+    /// Pairs for shares are of both signs, and their products on both sides of 2^63.
+    #[test]
+    fn pairs_leave_64_bits() {
+        let mut rng = Rng::new(9);
+        let mut met = [[0; 2]; 2];
+        for _ in 0..2_000 {
+            let (first, second) = share_pair(&mut rng);
+            assert!((-LIMIT..=LIMIT).contains(&first) && (0..=WHOLE).contains(&second));
+            met[(first < 0) as usize][first.checked_mul(second).is_none() as usize] += 1;
+        }
+        assert!(met.iter().flatten().all(|&m| m > 100), "{met:?}");
     }
 
     /// Each call is made with the largest item number, and with one that is cut to a good one.

@@ -5,6 +5,9 @@ use crate::model::table::{encode, Cell, Mark};
 use crate::model::value::{Value, LIMIT, WHOLE};
 use crate::rng::Rng;
 
+/// A number lay from `-OLDER_LIMIT` to `OLDER_LIMIT` before the range was of grams.
+pub const OLDER_LIMIT: i64 = 1_000_000_000_000;
+
 /// Which numbers a list favours.
 #[derive(Clone, Copy, Debug, PartialEq, Eq)]
 pub enum Numbers {
@@ -13,8 +16,11 @@ pub enum Numbers {
     Small,
     /// Near the limits of the range.
     Limits,
-    /// Ten-thousandths, and numbers of which they leave a remainder.
+    /// Ten-thousandths, and numbers of which they leave a remainder; for the parents of shares, also
+    /// those whose product is on either side of 2^63.
     Shares,
+    /// Those of an older table.
+    Older,
 }
 
 pub fn choose_numbers(rng: &mut Rng) -> Numbers {
@@ -29,8 +35,41 @@ pub fn number(rng: &mut Rng, numbers: Numbers) -> i64 {
         Numbers::Shares => {
             *rng.pick(&[-1, -7, 13, 1, WHOLE / 2, WHOLE / 3, WHOLE, 1 - WHOLE, WHOLE + 1])
         }
+        Numbers::Older if rng.percent(30) => *rng.pick(&[OLDER_LIMIT, -OLDER_LIMIT, 1, 0, -1]),
+        Numbers::Older => within(rng, OLDER_LIMIT),
         Numbers::Any => any_number(rng),
     }
+}
+
+/// Any number from `-most` to `most`.
+fn within(rng: &mut Rng, most: i64) -> i64 {
+    rng.below(2 * most as u64 + 1) as i64 - most
+}
+
+/// A number of either sign in the last twentieth before the limit.
+fn near_limit(rng: &mut Rng) -> i64 {
+    (LIMIT - rng.below(LIMIT as u64 / 20) as i64) * *rng.pick(&[-1, 1])
+}
+
+/// Ten-thousandths whose product with a number at the limit is on either side of 2^63.
+fn near_whole(rng: &mut Rng) -> i64 {
+    WHOLE - rng.below(800) as i64
+}
+
+/// The parents of a share that is a number: over all of the range, and near its limits.
+pub fn share_pair(rng: &mut Rng) -> (i64, i64) {
+    let first = match rng.below(4) {
+        0 => any_number(rng),
+        1 => near_limit(rng),
+        2 => number(rng, Numbers::Limits),
+        _ => within(rng, LIMIT),
+    };
+    let second = match rng.below(3) {
+        0 => rng.below(WHOLE as u64 + 1) as i64,
+        1 => near_whole(rng),
+        _ => *rng.pick(&[0, 1, 2, WHOLE / 2 - 1, WHOLE / 2, WHOLE / 2 + 1, WHOLE - 1, WHOLE]),
+    };
+    (first, second)
 }
 
 pub fn any_number(rng: &mut Rng) -> i64 {
@@ -39,9 +78,9 @@ pub fn any_number(rng: &mut Rng) -> i64 {
         6 => *rng.pick(&[WHOLE, WHOLE + 1, WHOLE / 2, WHOLE - 1, 1]),
         7 | 8 => rng.below(WHOLE as u64 + 1) as i64,
         9 => *rng.pick(&[LIMIT / 2, LIMIT / 2 + 1, -LIMIT / 2, -LIMIT / 2 - 1]),
-        10 | 11 => rng.below(2_000_001) as i64 - 1_000_000,
+        10 | 11 => within(rng, 1_000_000),
         12 => power_of_ten(rng),
-        _ => rng.below(2 * LIMIT as u64 + 1) as i64 - LIMIT,
+        _ => within(rng, LIMIT),
     }
 }
 
@@ -66,7 +105,8 @@ pub fn beyond(rng: &mut Rng) -> i64 {
     }
 }
 
-pub fn entry_value(rng: &mut Rng, numbers: Numbers) -> Value {
+/// A value in range, or NULL.
+fn stored_value(rng: &mut Rng, numbers: Numbers) -> Value {
     if rng.percent(25) {
         Value::Null
     } else {
@@ -74,22 +114,47 @@ pub fn entry_value(rng: &mut Rng, numbers: Numbers) -> Value {
     }
 }
 
+/// A value for an entry. Where a list favours shares, the second parent of one mostly gets
+/// ten-thousandths, and another entry a number near the limit.
+pub fn entry_value(rng: &mut Rng, items: &[Item], entry: usize, numbers: Numbers) -> Value {
+    let is_part =
+        |item: &Item| item.figure.as_ref().is_some_and(|f| f.rule == 5 && f.parents[1] == entry);
+    match numbers {
+        Numbers::Shares if rng.percent(60) => Value::Number(match items.iter().any(is_part) {
+            true => near_whole(rng),
+            false => near_limit(rng),
+        }),
+        _ => stored_value(rng, numbers),
+    }
+}
+
 /// A table that is accepted, with any marks and any stale values.
 pub fn accepted_table(rng: &mut Rng, items: &[Item]) -> Vec<u8> {
     let numbers = choose_numbers(rng);
+    table_with(rng, items, numbers)
+}
+
+/// The same, with numbers of the range before.
+pub fn older_table(rng: &mut Rng, items: &[Item]) -> Vec<u8> {
+    table_with(rng, items, Numbers::Older)
+}
+
+fn table_with(rng: &mut Rng, items: &[Item], numbers: Numbers) -> Vec<u8> {
     let (marked, stored) = (*rng.pick(&[0, 10, 50, 90]), *rng.pick(&[10, 50, 70, 100]));
     let cells: Vec<Cell> = items
         .iter()
-        .map(|item| {
+        .enumerate()
+        .map(|(i, item)| {
             let marked = rng.percent(marked);
             let notice = if marked { Mark::Notice } else { Mark::None };
             if item.figure.is_none() {
-                return Cell { stored: Some(entry_value(rng, numbers)), mark: notice };
+                let value = entry_value(rng, items, i, numbers);
+                return Cell { stored: Some(value), mark: notice };
             }
             if !rng.percent(stored) {
                 return Cell { stored: None, mark: notice };
             }
-            let value = if rng.percent(10) { Value::Out } else { entry_value(rng, numbers) };
+            let value = if rng.percent(10) { Value::Out } else { stored_value(rng, numbers) };
             let mark = if marked && rng.percent(50) { Mark::Refresh } else { notice };
             Cell { stored: Some(value), mark }
         })

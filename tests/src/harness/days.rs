@@ -1,12 +1,14 @@
 //! Whole days, by their printed bytes.
 
 use super::compare::hex;
+use super::fixed::post;
 use super::tally::Tally;
 use crate::engine::DayProgram;
 use crate::gen::{self, Shape};
 use crate::model::calls::Call;
 use crate::model::day::{run_day, MOST};
 use crate::model::sheet::{read_sheet, EXAMPLE, MAX_LEVEL};
+use crate::model::value::LIMIT;
 use crate::rng::Rng;
 use std::path::{Path, PathBuf};
 use std::process::Command;
@@ -74,12 +76,13 @@ pub fn compare_random_day(
 /// The example day, each shorter one, and each byte of its log changed.
 pub fn compare_fixed_days(program: &mut dyn DayProgram, tally: &mut Tally) -> Result<(), String> {
     let (sheet, log) = (EXAMPLE.to_vec(), example_log());
-    if run_day(&sheet, &log) != EXAMPLE_OUTPUT.as_bytes() {
-        return Err("the model does not print the example's output".to_string());
+    for (log, output) in [(&log, EXAMPLE_OUTPUT), (&limits_log(), LIMITS_OUTPUT)] {
+        if run_day(&sheet, log) != output.as_bytes() {
+            return Err(format!("the model does not print {output:?}"));
+        }
+        compare_day(program, Some(&sheet), Some(log), tally)?;
     }
-    for present in
-        [(None, None), (Some(&sheet), None), (None, Some(&log)), (Some(&sheet), Some(&log))]
-    {
+    for present in [(None, None), (Some(&sheet), None), (None, Some(&log))] {
         compare_day(program, present.0, present.1, tally)?;
     }
     for length in 0..log.len() {
@@ -121,11 +124,17 @@ fn refused_sheets() -> Vec<Vec<u8>> {
     sheets
 }
 
+fn log_of(calls: &[Call]) -> Vec<u8> {
+    calls.iter().flat_map(gen::day_field).collect()
+}
+
+fn ask(item: u64) -> Call {
+    Call::Ask { item }
+}
+
 /// The example day of the paper.
 pub fn example_log() -> Vec<u8> {
-    let post = |item, number| Call::Post { item, kind: 3, number };
-    let ask = |item| Call::Ask { item };
-    let calls = [
+    log_of(&[
         post(0, 1000),
         post(1, 300),
         ask(4),
@@ -133,9 +142,27 @@ pub fn example_log() -> Vec<u8> {
         ask(4),
         Call::Drop { item: 0 },
         ask(9),
-    ];
-    calls.iter().flat_map(gen::day_field).collect()
+    ])
 }
+
+/// A day at the limits of the range, from both sides.
+fn limits_log() -> Vec<u8> {
+    log_of(&[
+        post(0, LIMIT),
+        post(0, LIMIT + 1),
+        ask(3),
+        post(2, 1),
+        ask(3),
+        post(0, -LIMIT),
+        post(0, -LIMIT - 1),
+        ask(4),
+        post(1, 2),
+        ask(4),
+    ])
+}
+
+const LIMITS_OUTPUT: &str = "OK\nNO 13\nASK 3 1000000000000000\nOK\nASK 3 OUT\nOK\nNO 13\n\
+                             ASK 4 -999999999999999\nOK\nASK 4 OUT\n";
 
 const EXAMPLE_OUTPUT: &str = "OK\nOK\nASK 4 700\nOK\nASK 4 500\nNO 12\nNO 11\n";
 

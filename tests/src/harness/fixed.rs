@@ -5,6 +5,8 @@ use super::boards::plain_board;
 use super::compare::{Act, Comparison, Lent};
 use super::fixed_boards::run_fixed_boards;
 use super::lists::{plain_call, Office};
+use super::older::older_example;
+use super::shares::fixed_shares;
 use crate::gen::{self, plain_chain, spec_figure, write_sheet, Spec};
 use crate::model::board::Board;
 use crate::model::calls::Call;
@@ -22,6 +24,8 @@ pub fn run_fixed(c: &mut Comparison) -> Result<(), String> {
     parent_counts(c)?;
     names(c)?;
     figures(c)?;
+    fixed_shares(c)?;
+    older_example(c)?;
     long_fields(c)?;
     stale_ledgers(c)?;
     run_fixed_boards(c)
@@ -139,7 +143,11 @@ fn arguments(c: &mut Comparison) -> Result<(), String> {
     for item in (0..8).chain(beyond) {
         let kinds = (0..6).chain([256, 257, 259, (1 << 32) + 3, u64::MAX]);
         let posts = kinds.flat_map(|kind| {
-            [0, 7, -1, LIMIT, LIMIT + 1].map(|number| Call::Post { item, kind, number })
+            [0, 7, -1, LIMIT, LIMIT + 1, -LIMIT, -LIMIT - 1].map(|number| Call::Post {
+                item,
+                kind,
+                number,
+            })
         });
         let others =
             [Call::Keep { item }, Call::Drop { item }, Call::Step { item }, Call::Ask { item }];
@@ -220,17 +228,19 @@ fn item_counts(c: &mut Comparison) -> Result<(), String> {
     Ok(())
 }
 
-/// The range of posts and of tables, from both sides.
+/// The range of posts and of tables, from both sides: of the number of an entry and of a figure.
 fn range(c: &mut Comparison) -> Result<(), String> {
     let (lent, _) = opened(c, EXAMPLE.to_vec(), 5, false)?;
     for (number, right) in [(LIMIT, 0), (LIMIT + 1, 13), (-LIMIT, 0), (-LIMIT - 1, 13)] {
         let given = c.act(&Act::Give(post(0, number)), &mut lent.clone())?;
         expect("range of a post", given.number, right)?;
-        let mut table = lent.clone();
-        table.table[0] = 3;
-        table.table[2..10].copy_from_slice(&number.to_le_bytes());
-        let given = c.act(&Act::Give(Call::Ask { item: 0 }), &mut table)?;
-        expect("range of a table", given.number, if right == 0 { 0 } else { 10 })?;
+        for item in [0, 3] {
+            let (mut table, at) = (lent.clone(), 10 * item as usize);
+            table.table[at] = 3;
+            table.table[at + 2..at + 10].copy_from_slice(&number.to_le_bytes());
+            let given = c.act(&Act::Give(Call::Ask { item }), &mut table)?;
+            expect("range of a table", given.number, if right == 0 { 0 } else { 10 })?;
+        }
     }
     Ok(())
 }
@@ -269,9 +279,9 @@ fn names(c: &mut Comparison) -> Result<(), String> {
 }
 
 /// A parent or a result: nothing recorded, or a number.
-type Given = Option<i64>;
+pub type Given = Option<i64>;
 /// No number is this; it stands for OUT.
-const OUT: Given = Some(i64::MIN);
+pub const OUT: Given = Some(i64::MIN);
 
 /// The paper's figures to check, and the limits of the range from both sides.
 const FIGURES: [(u8, &[Given], Given); 19] = [
@@ -296,37 +306,45 @@ const FIGURES: [(u8, &[Given], Given); 19] = [
     (7, &[Some(0); 16], Some(16)),
 ];
 
-/// Each of the figures, and its sum with 0: read and printed from both openings.
 fn figures(c: &mut Comparison) -> Result<(), String> {
     for (rule, parents, right) in FIGURES {
-        let count = parents.len() as u16;
-        let mut specs = vec![Spec::Entry(b"A".to_vec()); parents.len()];
-        specs.push(spec_figure(rule, 1, 1, &(0..count).collect::<Vec<u16>>()));
-        specs.push(spec_figure(1, 0, 0, &[count]));
-        let (kind, value) = match right {
-            None => (1, 0),
-            OUT => (2, 0),
-            Some(number) => (3, number),
-        };
-        for full in [false, true] {
-            let (mut lent, _) = opened(c, write_sheet(&specs), specs.len(), full)?;
-            for (item, number) in parents.iter().enumerate() {
-                let call = number
-                    .map_or(Call::Post { item: item as u64, kind: 1, number: 0 }, |x| {
-                        post(item as u64, x)
-                    });
-                c.act(&Act::Give(call), &mut lent)?;
-            }
-            for item in [count, count + 1] {
-                let ask = Call::Ask { item: item as u64 };
-                let given = c.act(&Act::Give(ask), &mut lent)?;
-                if (given.kind, given.value) != (kind, value) {
-                    return Err(format!("rule {rule} of {parents:?} gives {given:?}"));
-                }
-            }
+        figure(c, rule, parents, right)?;
+    }
+    Ok(())
+}
+
+/// A figure of posted parents, and its sum alone: read and printed from both openings.
+pub fn figure(c: &mut Comparison, rule: u8, parents: &[Given], right: Given) -> Result<(), String> {
+    let count = parents.len() as u16;
+    let mut specs = vec![Spec::Entry(b"A".to_vec()); parents.len()];
+    specs.push(spec_figure(rule, 1, 1, &(0..count).collect::<Vec<u16>>()));
+    specs.push(spec_figure(1, 0, 0, &[count]));
+    for full in [false, true] {
+        let (mut lent, _) = opened(c, write_sheet(&specs), specs.len(), full)?;
+        for (item, number) in (0..).zip(parents) {
+            let null = Call::Post { item, kind: 1, number: 0 };
+            c.act(&Act::Give(number.map_or(null, |x| post(item, x))), &mut lent)?;
+        }
+        for item in [count, count + 1] {
+            reads(c, &mut lent, item as u64, right)
+                .map_err(|e| format!("rule {rule} of {parents:?}: {e}"))?;
         }
     }
     Ok(())
+}
+
+/// An ask, with what it must read.
+pub fn reads(c: &mut Comparison, lent: &mut Lent, item: u64, right: Given) -> Result<(), String> {
+    let (kind, value) = match right {
+        None => (1, 0),
+        OUT => (2, 0),
+        Some(number) => (3, number),
+    };
+    let given = c.act(&Act::Give(Call::Ask { item }), lent)?;
+    match (given.number, given.kind, given.value) == (0, kind, value) {
+        true => Ok(()),
+        false => Err(format!("item {item} is read as {given:?}")),
+    }
 }
 
 /// Fields and sheets longer than any that is accepted.

@@ -145,7 +145,7 @@ fn random_print(c: &mut Comparison) -> Result<(), String> {
         _ if kind != 3 && rng.percent(70) => 0,
         _ => gen::number(rng, Numbers::Any),
     };
-    let length = *rng.pick(&[0, 1, 13, 18, 19, 20, 20, 20, 21, 24, 100]);
+    let length = *rng.pick(&[0, 1, 17, 18, 19, 20, 20, 20, 21, 24, 100]);
     let scratch = rng.bytes(length);
     c.print(kind, number, &scratch)
 }

@@ -7,4 +7,6 @@ pub mod fixed;
 pub mod fixed_boards;
 pub mod lists;
 pub mod offices;
+pub mod older;
+pub mod shares;
 pub mod tally;

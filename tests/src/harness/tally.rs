@@ -33,6 +33,9 @@ pub const BOARDS: [&str; 8] = [
     "results a byte long",
 ];
 
+/// What a share in the older range never had.
+const WIDE: &str = "a product beyond a signed 64-bit number";
+
 /// The refusals in the lines of a day, by the line's first word.
 pub const LINES: [(&str, &[usize]); 3] =
     [("NO", &[11, 12, 13, 14]), ("SHEET", &[1, 2, 3, 4, 5, 6, 7]), ("DAY", &[16])];
@@ -49,6 +52,11 @@ pub struct Tally {
     /// Lists that begin with an accepted table of no opening.
     pub lists_from_tables: u64,
     pub offices: u64,
+    /// Pairs of which the share was asked for.
+    pub pairs: u64,
+    /// Those with a product that a signed 64-bit number does not hold.
+    pub wide_pairs: u64,
+    pub older_tables: u64,
     /// Values held against the fresh office.
     pub judged: u64,
     pub days: u64,
@@ -101,6 +109,12 @@ impl Tally {
         self.given[PRINT][number as usize] += 1;
     }
 
+    /// Counts the parents of a share that was asked for.
+    pub fn count_pair(&mut self, first: i64, second: i64) {
+        self.pairs += 1;
+        self.wide_pairs += first.checked_mul(second).is_none() as u64;
+    }
+
     /// Counts a line of a day, without its end.
     pub fn count_line(&mut self, line: &str) {
         self.day_lines += 1;
@@ -118,7 +132,7 @@ impl Tally {
     }
 
     /// The refusals that some function can give, or a day print, and the lists of boards, that were
-    /// never met.
+    /// never met; also products of shares beyond 64 bits, if they were fewer than one in twenty.
     pub fn never_met(&self) -> Vec<String> {
         let mut missing = Vec::new();
         for ((name, numbers), given) in FUNCTIONS.iter().zip(&self.given) {
@@ -128,6 +142,9 @@ impl Tally {
         }
         for (name, _) in BOARDS.iter().zip(&self.boards).filter(|(_, &times)| times == 0) {
             missing.push(format!("board, {name}"));
+        }
+        if 20 * self.wide_pairs < self.pairs {
+            missing.push(format!("{WIDE}, more than {} times", self.wide_pairs));
         }
         for ((word, numbers), printed) in LINES.iter().zip(&self.printed) {
             for &number in numbers.iter().filter(|&&n| self.days > 0 && printed[n] == 0) {
@@ -162,6 +179,8 @@ impl fmt::Display for Tally {
             "lists: {} ({} from a table of no opening); pairs of offices: {}",
             self.lists, self.lists_from_tables, self.offices
         )?;
+        writeln!(f, "share pairs: {} ({} with {WIDE})", self.pairs, self.wide_pairs)?;
+        writeln!(f, "older tables: {}", self.older_tables)?;
         write!(f, "values held against the fresh office: {}", self.judged)?;
         if self.days == 0 {
             return Ok(());
@@ -184,6 +203,7 @@ impl fmt::Display for Tally {
 #[cfg(test)]
 mod tests {
     use super::*;
+    use crate::model::value::LIMIT;
 
     /// Everything that must be met, met once.
     fn full() -> Tally {
@@ -220,6 +240,18 @@ mod tests {
                 assert_eq!(tally.never_met(), [format!("{word} {number}")]);
             }
         }
+    }
+
+    /// One pair in twenty must have a product beyond 64 bits.
+    #[test]
+    fn wide_pairs_are_missed() {
+        let mut tally = full();
+        (0..19).for_each(|_| tally.count_pair(LIMIT, 9_223));
+        tally.count_pair(-LIMIT, 9_224);
+        assert_eq!((tally.pairs, tally.wide_pairs), (20, 1));
+        assert_eq!(tally.never_met(), [""; 0]);
+        tally.count_pair(0, 0);
+        assert_eq!(tally.never_met(), [format!("{WIDE}, more than 1 times")]);
     }
 
     /// Each number of the paper's table is asked for somewhere.

@@ -41,8 +41,9 @@ mod tests {
             (3, -1, "-1".to_string()),
             (3, 10, "10".to_string()),
             (3, -907_060, "-907060".to_string()),
-            (3, LIMIT, LIMIT.to_string()),
-            (3, -LIMIT, format!("-{LIMIT}")),
+            (3, LIMIT, "1000000000000000".to_string()),
+            (3, -LIMIT, "-1000000000000000".to_string()),
+            (3, LIMIT - 1, "999999999999999".to_string()),
         ];
         for (kind, number, text) in cases {
             let mut scratch = [b'?'; 24];

@@ -155,8 +155,28 @@ mod tests {
         assert_eq!(apply(8, &[Null, n(3)]), Null);
     }
 
+    /// First, and its shares of 0, 1, 9,999 and 10,000: rounded down, and exact where the product
+    /// leaves a signed 64-bit number.
+    #[test]
+    fn shares_at_the_limits() {
+        let table = [
+            (LIMIT, [0, 100_000_000_000, 999_900_000_000_000, 1_000_000_000_000_000]),
+            (-LIMIT, [0, -100_000_000_000, -999_900_000_000_000, -1_000_000_000_000_000]),
+            (LIMIT - 1, [0, 99_999_999_999, 999_899_999_999_999, 999_999_999_999_999]),
+            (1 - LIMIT, [0, -100_000_000_000, -999_900_000_000_000, -999_999_999_999_999]),
+        ];
+        for (first, shares) in table {
+            for (second, share) in [0, 1, 9_999, 10_000].into_iter().zip(shares) {
+                assert_eq!(apply(5, &[n(first), n(second)]), n(share), "{first} {second}");
+            }
+            assert_eq!(apply(5, &[n(first), n(-1)]), Out);
+            assert_eq!(apply(5, &[n(first), n(10_001)]), Out);
+        }
+    }
+
     #[test]
     fn the_range_has_two_sides() {
+        assert_eq!(LIMIT, 10i64.pow(15));
         assert_eq!(ranged(LIMIT as i128), n(LIMIT));
         assert_eq!(ranged(LIMIT as i128 + 1), Out);
         assert_eq!(ranged(-(LIMIT as i128)), n(-LIMIT));

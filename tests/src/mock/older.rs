@@ -1,0 +1,31 @@
+//! How the mock can still be of the older range.
+
+use super::Wrong;
+use crate::gen::OLDER_LIMIT;
+use crate::model::calls::Call;
+use crate::model::table::Cell;
+use crate::model::value::Value;
+
+pub(super) fn beyond(number: i64) -> bool {
+    !(-OLDER_LIMIT..=OLDER_LIMIT).contains(&number)
+}
+
+impl Wrong {
+    /// The number of a call that is accepted in the range of grams.
+    pub(super) fn refusal(self, call: &Call, cells: &[Cell]) -> Option<u64> {
+        let wide = |c: &Cell| matches!(c.stored, Some(Value::Number(x)) if beyond(x));
+        match (self, call) {
+            (Wrong::PostsInOlderRange, Call::Post { number, .. }) if beyond(*number) => Some(13),
+            (Wrong::TablesInOlderRange, _) if cells.iter().any(wide) => Some(10),
+            _ => None,
+        }
+    }
+
+    /// What a rule gives in place of the right result.
+    pub(super) fn result(self, right: Value) -> Value {
+        match right {
+            Value::Number(x) if self == Wrong::ResultsInOlderRange && beyond(x) => Value::Out,
+            _ => right,
+        }
+    }
+}
