@@ -78,7 +78,7 @@ static uint8_t board_items[ROZHINAL_ITEMS_BYTES(BOARD_ITEMS)];
 static const char *workload = "preparing";
 enum { LABEL_BYTES = 128 };
 
-/* The grams posted to one entry; a prime, for what is posted to all of them on each of DAYS days. */
+/* Grams posted to one entry; a prime, for what is posted to all of them on each of DAYS days. */
 enum { POSTED = 4321098, PRIME = 7919003, DAYS = 2 };
 enum { RATES_WITHIN = 500 }; /* of the whole, the rates by which amounts at the limit are shared */
 

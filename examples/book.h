@@ -37,7 +37,7 @@ int book_take(const struct book *book);
  * Reads index and table from the file. Any state but BOOK_LOADED and BOOK_OLDER leaves both as they
  * were. Where the library refuses what the file holds, *refusal is its number, else 0.
  *
- * The table of an older book is to be shown, not to be gone on with: its numbers are kilograms, and
+ * The table of an older book is to be shown, not to be gone on with: its weights are kilograms, and
  * it may hold an OUT from the range of before.
  */
 enum book_state book_load(struct book *book, uint64_t *refusal);

@@ -441,6 +441,7 @@ static bool open_sheet(const struct book *book, bool full)
 static void show_older(const struct book *book)
 {
     size_t count = rozhinal_item_count(book->sheet, book->sheet_len);
+    puts("item  name              posted, weights in kg");
     for (size_t i = 0; i < count; i++) {
         const uint8_t *record = book->table + ROZHINAL_TABLE_BYTES(i);
         struct item item = item_at(book->sheet, book->index, i);
@@ -452,9 +453,10 @@ static void show_older(const struct book *book)
     }
     fflush(stdout);
     fprintf(stderr,
-            "office: %s is from before version 2.0.0: its amounts are kilograms, and its balances\n"
-            "are not sure. It is left as it is. Begin a new book, and post again what is shown:\n"
-            "weights in grams, shares and switches as they stand.\n",
+            "office: %s is from before version 2.0.0: its weights are kilograms, and its\n"
+            "balances are not sure. It is left as it is. Begin a new book under another name, and\n"
+            "post again what was posted: weights times 1,000, since they are grams now; shares\n"
+            "and switches as they are.\n",
             book->path);
 }
 

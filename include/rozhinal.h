@@ -27,7 +27,7 @@
  *     sheet and index). A table with bytes from elsewhere may be accepted too, but its readings are
  *     then not promised.
  *   - A table that was opened before version 2.0.0 is accepted too, and the library cannot tell it.
- *     Its numbers are kilograms, and it may hold an OUT from the range of before, so its readings
+ *     Its weights are kilograms, and it may hold an OUT from the range of before, so its readings
  *     are not promised either. Open anew, and post again in grams.
  *
  * A refused call changes no lent byte. An accepted call never fails halfway.

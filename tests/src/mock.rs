@@ -41,6 +41,8 @@ with_all! {
         TablesInOlderRange,
         ResultsInOlderRange,
         PrinterInOlderRange,
+        RefusesStoredOut,
+        WorksOutStoredOut,
         TestsRangeAtEachAddition,
         ClearsMarkBeforeTelling,
         WorksOutStoredNull,
@@ -123,7 +125,8 @@ impl Sweep<'_> {
         let null = self.wrong == Wrong::WorksOutStoredNull
             && self.items[i].figure.is_some()
             && self.cells[i] == Cell { stored: Some(Value::Null), mark: Mark::None };
-        null || self.cells[i].stored.is_none()
+        let out = self.wrong == Wrong::WorksOutStoredOut && older::is_out(&self.cells[i]);
+        null || out || self.cells[i].stored.is_none()
     }
 
     /// What a look-up of each item up to one of them gives.

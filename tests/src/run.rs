@@ -193,6 +193,15 @@ mod tests {
         }
     }
 
+    #[test]
+    fn wrong_readings_of_older_tables_are_found() {
+        let plan = Plan { calls: 0, offices: 0, older: 300, ..SHORT };
+        for wrong in [Wrong::RefusesStoredOut, Wrong::WorksOutStoredOut] {
+            let found = try_mock(&plan, wrong).unwrap_err();
+            assert!(found.contains("--seed 5 --part"), "{wrong:?}: {found}");
+        }
+    }
+
     /// The part that a failure names fails alone too.
     #[test]
     fn a_part_can_be_run_again() {

@@ -107,7 +107,7 @@ fn difference(a: Value, b: Value) -> Value
     Value::exact(minus(a.number_or_zero(), b.number_or_zero()))
 }
 
-// (m * parts + more) / WHOLE, without a product that grows with the range.
+// (m * parts + more) / WHOLE, by products of which none is larger than m or WHOLE * WHOLE.
 fn scaled(m: u64, parts: u64, more: u64) -> u64
     requires { ⌜ m ≤ circuit.limit ⌝ ∗ ⌜ parts ≤ rules.whole ⌝ ∗ ⌜ more < rules.whole ⌝ }
     ensures { λ r. ⌜ r ≡ (m * parts + more) / rules.whole ⌝ }

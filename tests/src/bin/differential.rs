@@ -9,8 +9,22 @@ use std::process::ExitCode;
 use std::time::{Instant, SystemTime, UNIX_EPOCH};
 
 const USAGE: &str =
-    "differential [--self] [--trace] [--alone] [--seed N] [--calls N] [--offices N] [--pairs N] [--older N] \
-     [--days N] [--part N]";
+    "differential [--self] [--trace] [--alone] [--seed N] [--calls N] [--offices N] \
+                     [--pairs N] [--older N] [--days N] [--part N]";
+
+/// What a run compares unless it is told otherwise; its seed is then the clock's.
+const PLAN: Plan = Plan {
+    seed: 0,
+    fixed: true,
+    calls: 600_000,
+    offices: 5_000,
+    pairs: 50_000,
+    older: 5_000,
+    days: 1_000,
+    alone: false,
+    only: None,
+    trace: false,
+};
 
 struct Options {
     mock: bool,
@@ -29,19 +43,7 @@ fn main() -> ExitCode {
 
 fn options() -> Result<Options, String> {
     let clock = SystemTime::now().duration_since(UNIX_EPOCH).map_or(1, |d| d.as_nanos() as u64);
-    let plan = Plan {
-        seed: clock,
-        fixed: true,
-        calls: 600_000,
-        offices: 5_000,
-        pairs: 50_000,
-        older: 5_000,
-        days: 1_000,
-        alone: false,
-        only: None,
-        trace: false,
-    };
-    let mut options = Options { mock: false, plan };
+    let mut options = Options { mock: false, plan: Plan { seed: clock, ..PLAN } };
     let mut words = std::env::args().skip(1);
     while let Some(word) = words.next() {
         match word.as_str() {

@@ -113,7 +113,7 @@ mod tests {
 
     /// Pairs for shares are of both signs, and their products on both sides of 2^63.
     #[test]
-    fn pairs_leave_64_bits() {
+    fn pairs_leave_signed_64_bits() {
         let mut rng = Rng::new(9);
         let mut met = [[0; 2]; 2];
         for _ in 0..2_000 {

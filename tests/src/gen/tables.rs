@@ -16,8 +16,8 @@ pub enum Numbers {
     Small,
     /// Near the limits of the range.
     Limits,
-    /// Ten-thousandths, and numbers of which they leave a remainder; for the parents of shares, also
-    /// those whose product is on either side of 2^63.
+    /// Ten-thousandths, and numbers of which they leave a remainder; for the parents of shares,
+    /// also those whose product is on either side of 2^63.
     Shares,
     /// Those of an older table.
     Older,

@@ -132,7 +132,8 @@ impl Tally {
     }
 
     /// The refusals that some function can give, or a day print, and the lists of boards, that were
-    /// never met; also products of shares beyond 64 bits, if they were fewer than one in twenty.
+    /// never met; also products of shares beyond a signed 64-bit number, if they were fewer than
+    /// one in twenty.
     pub fn never_met(&self) -> Vec<String> {
         let mut missing = Vec::new();
         for ((name, numbers), given) in FUNCTIONS.iter().zip(&self.given) {
@@ -144,7 +145,7 @@ impl Tally {
             missing.push(format!("board, {name}"));
         }
         if 20 * self.wide_pairs < self.pairs {
-            missing.push(format!("{WIDE}, more than {} times", self.wide_pairs));
+            missing.push(format!("{WIDE} in one pair of twenty"));
         }
         for ((word, numbers), printed) in LINES.iter().zip(&self.printed) {
             for &number in numbers.iter().filter(|&&n| self.days > 0 && printed[n] == 0) {
@@ -242,7 +243,7 @@ mod tests {
         }
     }
 
-    /// One pair in twenty must have a product beyond 64 bits.
+    /// One pair in twenty must have a product beyond signed 64 bits.
     #[test]
     fn wide_pairs_are_missed() {
         let mut tally = full();
@@ -251,7 +252,7 @@ mod tests {
         assert_eq!((tally.pairs, tally.wide_pairs), (20, 1));
         assert_eq!(tally.never_met(), [""; 0]);
         tally.count_pair(0, 0);
-        assert_eq!(tally.never_met(), [format!("{WIDE}, more than 1 times")]);
+        assert_eq!(tally.never_met(), [format!("{WIDE} in one pair of twenty")]);
     }
 
     /// Each number of the paper's table is asked for somewhere.

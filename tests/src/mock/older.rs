@@ -1,4 +1,4 @@
-//! How the mock can still be of the older range.
+//! How the mock can still be of the older range, or wrong about what it left in a table.
 
 use super::Wrong;
 use crate::gen::OLDER_LIMIT;
@@ -10,6 +10,10 @@ pub(super) fn beyond(number: i64) -> bool {
     !(-OLDER_LIMIT..=OLDER_LIMIT).contains(&number)
 }
 
+pub(super) fn is_out(cell: &Cell) -> bool {
+    cell.stored == Some(Value::Out)
+}
+
 impl Wrong {
     /// The number of a call that is accepted in the range of grams.
     pub(super) fn refusal(self, call: &Call, cells: &[Cell]) -> Option<u64> {
@@ -17,6 +21,7 @@ impl Wrong {
         match (self, call) {
             (Wrong::PostsInOlderRange, Call::Post { number, .. }) if beyond(*number) => Some(13),
             (Wrong::TablesInOlderRange, _) if cells.iter().any(wide) => Some(10),
+            (Wrong::RefusesStoredOut, _) if cells.iter().any(is_out) => Some(10),
             _ => None,
         }
     }

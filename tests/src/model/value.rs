@@ -1,6 +1,6 @@
 //! Values and the eight rules of the figures.
 
-/// A number of grams lies from `-LIMIT` to `LIMIT`. The range is written here only.
+/// A number of grams lies from `-LIMIT` to `LIMIT`. The model has the range here only.
 pub const LIMIT: i64 = 1_000_000_000_000_000;
 
 /// The whole of a share, in ten-thousandths.
