@@ -102,7 +102,7 @@ fn figure(name: &[u8], code: u8, n: usize, a: Value, b: Value, c: Value)
     write(b"\n");
 }
 
-// Shares of a number: of parts that give nothing, the least, all but the least, and all of it.
+// Shares of a number: by 0, 1, 9,999 and 10,000 parts of the whole.
 fn shares(n: i64) {
     let x = Value::number(n);
     figure(b"share", 5, 2, x, Value::number(0), Value::NULL);

@@ -95,6 +95,9 @@ example-opens = (refl, refl)
 abbrev atLimit : List ℕ
 atLimit = bytes64 (pos limit)
 
+abbrev atLowest : List ℕ
+atLowest = bytes64 (negsuc (limit - 1))
+
 abbrev aboveLimit : List ℕ
 aboveLimit = bytes64 (pos (limit + 1))
 
@@ -169,6 +172,7 @@ examples =
     ∷ lendTable (post 2 3 (negsuc (limit - 1))) bareTable 0
     ∷ lendTable (keep 3) bareTable 0
     ∷ lendTable (drop 4) (lastIs (3 ∷ 1 ∷ atLimit)) 0
+    ∷ lendTable (drop 4) (lastIs (3 ∷ 1 ∷ atLowest)) 0
     ∷ lendTable (step 4) (lastIs (3 ∷ 1 ∷ atLimit)) 0
     ∷ lendTable (ask 4) bareTable 0
     ∷ []

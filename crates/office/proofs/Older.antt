@@ -10,41 +10,40 @@ use lib.IntN.{ℤ, pos, natAbs}
 use borrow.Author.Tests.{leb-true}
 use Rattle.word.specs.Word.{bytes64}
 use Rattle.circuit.specs.Value.{limit}
-use Rattle.circuit.specs.Sheet.{Sheet, size}
-use Rattle.circuit.specs.Call.{post, ask, bare}
+use Rattle.circuit.specs.Sheet.{size}
+use Rattle.circuit.specs.Call.{post, drop, ask, bare}
 use Rattle.circuit.proofs.Examples.{machine}
 use Rattle.layout.specs.Opened.{sheetOf}
 use Rattle.layout.proofs.Examples.{exampleBytes}
 use Rattle.table.specs.Rows.{row, allBelow}
 use Rattle.table.specs.Record.{width, numberIn}
 use Rattle.table.proofs.Rows.{below-true}
-use Rattle.office.specs.Office.{Office, keeping, callOn, openOn}
-use Rattle.office.specs.Demand1Words.{Beyond, RecordBroken, kindUnknown, markUnknown, entryUnk, entryOut, entryRefresh, unkRefresh, numberNotZero, beyondRange}
+use Rattle.office.specs.Office.{Office, keeping, openOn, runOn}
+use Rattle.office.specs.Demand1Words.{BeyondLimit, RecordBroken, kindUnknown, markUnknown, entryUnk, entryOut, entryRefresh, unkRefresh, numberNotZero, beyondRange}
 use Rattle.office.specs.Demand1Words.{TableBrokenUnder, AcceptedUnder, AcceptedLent}
-use Rattle.office.specs.Demand2Words.{answerOf}
 use Rattle.office.proofs.Refusals.{accepted-lent}
 use Rattle.office.proofs.Examples.{calls, exampleIndex, zeros8, nullRecord, unkRecord, answers, answer}
 
 -- a record is broken under another range too, if a number beyond the one is beyond the other
-record-under : (most other : ℕ) (figure : Bool) (k m : ℕ) (z : ℤ) → (Beyond most z → Beyond other z)
-    → RecordBroken most figure k m z → RecordBroken other figure k m z
-record-under most other figure k m z h (kindUnknown a) = kindUnknown a
-record-under most other figure k m z h (markUnknown a) = markUnknown a
-record-under most other figure k m z h (entryUnk a b) = entryUnk a b
-record-under most other figure k m z h (entryOut a b) = entryOut a b
-record-under most other figure k m z h (entryRefresh a b) = entryRefresh a b
-record-under most other figure k m z h (unkRefresh a b c) = unkRefresh a b c
-record-under most other figure k m z h (numberNotZero a b) = numberNotZero a b
-record-under most other figure k m z h (beyondRange a b) = beyondRange a (h b)
+record-under : {most other : ℕ} {figure : Bool} {k m : ℕ} {z : ℤ} → (BeyondLimit most z → BeyondLimit other z) → RecordBroken most figure k m z
+    → RecordBroken other figure k m z
+record-under h (kindUnknown a) = kindUnknown a
+record-under h (markUnknown a) = markUnknown a
+record-under h (entryUnk a b) = entryUnk a b
+record-under h (entryOut a b) = entryOut a b
+record-under h (entryRefresh a b) = entryRefresh a b
+record-under h (unkRefresh a b c) = unkRefresh a b c
+record-under h (numberNotZero a b) = numberNotZero a b
+record-under h (beyondRange a b) = beyondRange a (h b)
 
 -- what is accepted under one range is accepted under another in which the table's numbers lie if they lie in the first
 accepted-under : (most other : ℕ) (s : List ℕ) (o : Office)
-    → ((i : ℕ) → i < size (sheetOf s) → Beyond other (numberIn (row width (o .table) i)) → Beyond most (numberIn (row width (o .table) i)))
+    → ((i : ℕ) → i < size (sheetOf s) → BeyondLimit other (numberIn (row width (o .table) i)) → BeyondLimit most (numberIn (row width (o .table) i)))
     → AcceptedUnder most s o → AcceptedUnder other s o
 accepted-under most other s o h a = record { sheet = a .sheet; lent = (a .lent .0, (a .lent .1 .0, (unbroken, tt))) }
   where
     unbroken : ¬ TableBrokenUnder other (sheetOf s) (o .table)
-    unbroken (i, low, broken) = a .lent .1 .1 .0 (i, low, record-under other most _ _ _ _ (h i low) broken)
+    unbroken (i, low, broken) = a .lent .1 .1 .0 (i, low, record-under (h i low) broken)
 
 -- what is accepted under a lower limit is accepted
 pub lower-accepted : (most : ℕ) → most ≤ limit → (s : List ℕ) (o : Office) → AcceptedUnder most s o → AcceptedLent s o
@@ -54,7 +53,7 @@ lower-accepted most h s o a = accepted-under most limit s o (λ i low b. omega a
 unfoldable pub formerLimit : ℕ
 formerLimit = 1_000_000_000_000
 
-pub former-lower : formerLimit ≤ limit
+former-lower : formerLimit ≤ limit
 unfolding formerLimit limit
 former-lower = omega arith
 
@@ -75,20 +74,34 @@ older-numbers : allBelow inFormer (size (sheetOf exampleBytes)) ≡ true
 unfolding calls exampleBytes olderTable formerLimit sheetOf
 older-numbers = refl
 
--- It was accepted under the former range, under which its OUT was right. It is accepted still, and an ask for T gives OUT; on a table
--- opened since, with the same postings, T is their sum.
-pub older-out : AcceptedUnder formerLimit exampleBytes (keeping exampleIndex olderTable)
-    × Beyond formerLimit (pos (formerLimit + 1))
-    × (answerOf (callOn exampleBytes (keeping exampleIndex olderTable) (ask 3)) ≡ answer 0 2 (pos 0))
-    × (answers exampleBytes (openOn bare exampleBytes (keeping exampleIndex olderTable) .after) (post 0 3 (pos formerLimit) ∷ post 2 3 (pos 1) ∷ ask 3 ∷ [])
-    ≡ answer 0 0 (pos 0) ∷ answer 0 0 (pos 0) ∷ answer 0 3 (pos (formerLimit + 1)) ∷ [])
-unfolding calls machine answers exampleBytes exampleIndex olderTable formerLimit
-older-out = (accepted-under limit formerLimit exampleBytes lent within (accepted-lent exampleBytes lent (ask 3) refl), omega arith, refl, refl)
-  where
-    lent : Office
-    lent = keeping exampleIndex olderTable
+-- what an office kept with it
+abbrev older : Office
+older = keeping exampleIndex olderTable
 
-    within : (i : ℕ) → i < size (sheetOf exampleBytes) → Beyond formerLimit (numberIn (row width olderTable i)) → Beyond limit (numberIn (row width olderTable i))
+-- It was accepted under the former range. It is accepted still, and asks give A, S and T as they are stored. T worked out anew is the
+-- sum of A and S, and so it is on a table opened since, with the same postings; a table that holds it was not accepted under the former
+-- range.
+pub older-out : AcceptedUnder formerLimit exampleBytes older
+    × (answers exampleBytes older (ask 0 ∷ ask 2 ∷ ask 3 ∷ drop 3 ∷ ask 3 ∷ [])
+    ≡ answer 0 3 (pos formerLimit) ∷ answer 0 3 (pos 1) ∷ answer 0 2 (pos 0) ∷ answer 0 0 (pos 0) ∷ answer 0 3 (pos (formerLimit + 1)) ∷ [])
+    × (answers exampleBytes (openOn bare exampleBytes older .after) (post 0 3 (pos formerLimit) ∷ post 2 3 (pos 1) ∷ ask 3 ∷ [])
+    ≡ answer 0 0 (pos 0) ∷ answer 0 0 (pos 0) ∷ answer 0 3 (pos (formerLimit + 1)) ∷ [])
+    × (¬ AcceptedUnder formerLimit exampleBytes (runOn exampleBytes older (drop 3 ∷ ask 3 ∷ [])))
+unfolding calls machine answers runOn exampleBytes exampleIndex olderTable formerLimit sheetOf
+older-out = (
+  accepted-under limit formerLimit exampleBytes older within (accepted-lent exampleBytes older (ask 3) refl),
+  refl,
+  refl,
+  λ a. a .lent .1 .1 .0 (3, low, beyondRange refl above),
+)
+  where
+    within : (i : ℕ) → i < size (sheetOf exampleBytes) → BeyondLimit formerLimit (numberIn (row width olderTable i)) → BeyondLimit limit (numberIn (row width olderTable i))
     within i low b =
         let small = leb-true (natAbs (numberIn (row width olderTable i))) formerLimit (below-true inFormer (size (sheetOf exampleBytes)) older-numbers i low) in
         absurd (omega (arith, small))
+
+    low : 3 < size (sheetOf exampleBytes)
+    low = omega arith
+
+    above : BeyondLimit formerLimit (pos (formerLimit + 1))
+    above = omega arith

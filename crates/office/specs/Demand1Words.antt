@@ -45,16 +45,16 @@ LengthsWrong n o = (¬ (length (o .index) ≡ indexWidth * n)) ⊎ (¬ (length (
 abbrev pub IndexNotAsOpened : List Placed → List ℕ → Type 0
 IndexNotAsOpened ps x = ¬ (x ≡ indexBytes ps)
 
--- a number that lies beyond -most to most
-abbrev pub Beyond : ℕ → ℤ → Type 0
-Beyond most z = most < natAbs z
+-- a number beyond the range from -most to most
+abbrev pub BeyondLimit : ℕ → ℤ → Type 0
+BeyondLimit most z = most < natAbs z
 
 -- numbers run from -limit to limit
 abbrev pub BeyondRange : ℤ → Type 0
-BeyondRange z = Beyond limit z
+BeyondRange z = BeyondLimit limit z
 
--- A record of kind k, mark m and number z breaks its form, or the number the range from -most to most; whether the item is a figure
--- comes after the range.
+-- A record of kind k, mark m and number z breaks its form, or the number the range from -most to most; `figure` says whether the item
+-- is one.
 pub data RecordBroken (most : ℕ) (figure : Bool) (k m : ℕ) (z : ℤ) : Type 0 where
   kindUnknown : 3 < k → RecordBroken most figure k m z
   markUnknown : 2 < m → RecordBroken most figure k m z
@@ -66,7 +66,7 @@ pub data RecordBroken (most : ℕ) (figure : Bool) (k m : ℕ) (z : ℤ) : Type 
   unkRefresh : figure ≡ true → k ≡ 0 → m ≡ 1 → RecordBroken most figure k m z
   -- the number is 0 unless the kind is 3
   numberNotZero : ¬ (k ≡ 3) → ¬ (z ≡ pos 0) → RecordBroken most figure k m z
-  beyondRange : k ≡ 3 → Beyond most z → RecordBroken most figure k m z
+  beyondRange : k ≡ 3 → BeyondLimit most z → RecordBroken most figure k m z
 
 abbrev pub RecordBrokenAt : ℕ → Sheet → List ℕ → ℕ → Type 0
 RecordBrokenAt most S t i =

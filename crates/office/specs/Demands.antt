@@ -1,4 +1,4 @@
--- The three demands of document 01, with 02's board, a record for each, in its order. They are demands on `openOn` and `callOn`
+-- The three demands of document 01, with 02's board and older tables, a record for each, in its order. They are demands on `openOn` and `callOn`
 -- (Office), which the contracts of the exported functions cite: a function gives and leaves exactly what these say, for all lent bytes.
 -- That every call ends and touches only what it was lent is proved of each function by the language. Assumes nothing.
 use Prim.Native.Nat.{ℕ, _≤_}

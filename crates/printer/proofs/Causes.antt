@@ -5,12 +5,12 @@ use mathlib.Core.Bool.{Bool, true, false, cond}
 use mathlib.Core.Option.{none, some}
 use native.Mathlib.Omega.{arith}
 use lib.Dec.{eqb, ltb}
-use lib.IntN.{ℤ, pos}
-use borrow.Author.Tests.{eqb-true, eqb-false, ltb-true, ltb-false}
+use lib.IntN.{ℤ, pos, natAbs}
+use borrow.Author.Tests.{eqb-true, eqb-false, leb-false, ltb-true, ltb-false}
 use Rattle.field.proofs.Tells.{Tells, holds, fails}
-use Rattle.circuit.specs.Value.{null, out, num, inRange, sameNumber}
+use Rattle.circuit.specs.Value.{null, out, num, limit, inRange, sameNumber}
 use Rattle.circuit.specs.Calls.{isNone, firstCause}
-use Rattle.circuit.proofs.RuleLaws.{sameNumber-true, sameNumber-refl}
+use Rattle.circuit.proofs.RuleLaws.{inRange-size, sameNumber-true, sameNumber-refl}
 use Rattle.value.specs.Meaning.{partsOf}
 use Rattle.printer.specs.Printing.{leastScratch, noValue, printCause}
 use Rattle.printer.specs.Causes.{ValueWrong, kindOther, notZero, numberBeyond, PrintCauses}
@@ -44,8 +44,8 @@ tells-wrong kind z = go (eqb kind 1) (eqb kind 2) (eqb kind 3) (sameNumber z (po
         no : ValueWrong kind z → ⊥
         no (kindOther p q w) = w (eqb-true kind 3 ec)
         no (notZero p q) = p (eqb-true kind 3 ec)
-        no (numberBeyond p q) = let bad : _≡_ {A = ℕ} 0 1 = cc (er, q) in omega (arith, bad)
-    go false false true s false ea eb ec es er = holds (numberBeyond (eqb-true kind 3 ec) er)
+        no (numberBeyond p q) = omega (arith, inRange-size z er, q)
+    go false false true s false ea eb ec es er = holds (numberBeyond (eqb-true kind 3 ec) (leb-false (natAbs z) limit (unfold inRange in er)))
     go false false false s r ea eb ec es er = holds (kindOther (eqb-false kind 1 ea) (eqb-false kind 2 eb) (eqb-false kind 3 ec))
 
 pub print-causes : (kind : ℕ) (z : ℤ) (count : ℕ) → PrintCauses kind z count
