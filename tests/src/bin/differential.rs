@@ -10,7 +10,7 @@ use std::time::{Instant, SystemTime, UNIX_EPOCH};
 
 const USAGE: &str =
     "differential [--self] [--trace] [--alone] [--seed N] [--calls N] [--offices N] \
-                     [--pairs N] [--older N] [--days N] [--part N]";
+     [--pairs N] [--older N] [--days N] [--part N]";
 
 /// What a run compares unless it is told otherwise; its seed is then the clock's.
 const PLAN: Plan = Plan {
