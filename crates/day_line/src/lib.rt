@@ -2,7 +2,7 @@
 ghost use mathlib.Core.Path.{_≡_};
 ghost use Prim.Native.Nat.{_≤_, min};
 ghost use lib.ListN.{length};
-ghost use Rattle.printer.specs.Decimal.{digits};
+ghost use Rattle.decimal.specs.Decimal.{digits};
 ghost use Rattle.printer.specs.Printing.{textOf};
 ghost use Rattle.value.specs.Meaning.{partsOf};
 ghost use Rattle.day_meaning.specs.Lines.{Appended, noLine, askLine, lastLine};
@@ -21,11 +21,6 @@ pub const OK_LINE: [u8; 3] = *b"OK\n";
 const SPACE: [u8; 1] = *b" ";
 
 const LINE_END: [u8; 1] = *b"\n";
-
-// The most digits of a number, and the place of the last of them.
-const MOST_DIGITS: usize = 20;
-
-const LAST_DIGIT: usize = MOST_DIGITS - 1;
 
 // The scratch bytes that the printer asks for.
 const SCRATCH: usize = 20;
@@ -49,21 +44,14 @@ pub fn append(out: &mut [u8], at: usize, bytes: &[u8]) -> usize
     at + n
 }
 
-// A number in decimal. The digits are stored from the last to the first.
+// A number in decimal.
 fn append_number(out: &mut [u8], at: usize, m: u64) -> usize
     requires { ⌜ at ≤ length (now out) ⌝ }
     ensures { λ r. ⌜ Appended (digits m) (now (out .entry)) at r (now (out .exit)) ⌝ }
 {
-    let mut digits = [0u8; MOST_DIGITS];
-    let mut rest = m;
-    let mut place = LAST_DIGIT;
-    while 10 <= rest {
-        digits[place] = (48 + rest % 10) as u8;
-        rest = rest / 10;
-        place -= 1;
-    }
-    digits[place] = (48 + rest) as u8;
-    append(out, at, &digits[place..])
+    let mut digits = [0u8; decimal::MOST_DIGITS];
+    let count = decimal::put_digits(m, 0, &mut digits);
+    append(out, at, &digits[..count])
 }
 
 // The printer's text of a value.

@@ -4,7 +4,7 @@ use mathlib.Core.Path.{_≡_, refl}
 use mathlib.Core.List.{List, [], _∷_}
 use Rattle.circuit.specs.Rules.{least, greatest, whole}
 use Rattle.circuit.proofs.Examples.{machine}
-use Rattle.printer.specs.Decimal.{digitsUpTo, digits, decimal}
+use Rattle.decimal.specs.Decimal.{digitsUpTo, digits, decimal}
 use Rattle.value.specs.Meaning.{partsOf}
 use Rattle.office.proofs.Examples.{calls}
 use Rattle.day_meaning.specs.Day.{playFrom, countSaid, dayOn, runDay}

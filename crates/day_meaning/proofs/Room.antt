@@ -27,10 +27,11 @@ use Rattle.table.specs.Bytes.{decodeTable}
 use Rattle.table.specs.Record.{width}
 use Rattle.office.specs.Office.{Given, resultsLent, lengthsWrong, openRead, openOn, callOn, callTests, unlessRefused, effectOn, keeping}
 use Rattle.office.proofs.Agreeing.{opening-opens}
-use Rattle.printer.specs.Decimal.{digits}
+use Rattle.decimal.specs.Decimal.{digits}
 use Rattle.printer.specs.Printing.{textOf, leastScratch}
 use Rattle.value.specs.Meaning.{partsOf}
-use Rattle.printer.proofs.Digits.{length-at-most}
+use Rattle.decimal.proofs.Digits.{length-at-most}
+use Rattle.printer.proofs.Notation.{longest}
 use Rattle.printer.proofs.Meaning.{part-small}
 use Rattle.day_meaning.specs.Lines.{noLine, askLine, lastLine, sheetWord, dayWord, space, lineEnd}
 use Rattle.day_meaning.specs.Orders.{postTag, askTag, keepTag, dropTag, stepTag, postLength, callLength, itemIn, kindIn, numberIn, kindAllowed, postIn, callIn, orderOf}
@@ -136,7 +137,7 @@ number-at-most s x t c edition ps r = rw r (given (firstCause (callTests (sheetR
     given (suc m) h o = h
 
 -- the lines
-text-small : (kind : ℕ) (z : _) → length (textOf (partsOf kind z)) ≤ 19
+text-small : (kind : ℕ) (z : _) → length (textOf (partsOf kind z)) ≤ longest
 text-small kind z = rw (sym (part-whole kind leastScratch z z refl refl)) (part-small kind z leastScratch)
 
 no-line-short : (n : ℕ) → n ≤ 99 → length (noLine n) ≤ 30
@@ -146,11 +147,11 @@ answer-short : (n : ℕ) → n ≤ 99 → length (answerLine n) ≤ 30
 answer-short zero h = omega arith
 answer-short (suc n) h = no-line-short (suc n) h
 
-ask-line-short : (i : ℕ) (text : List ℕ) → i < 65536 → length text ≤ 19 → length (askLine i text) ≤ 30
+ask-line-short : (i : ℕ) (text : List ℕ) → i < 65536 → length text ≤ longest → length (askLine i text) ≤ 30
 ask-line-short i text h k =
     rw (length-append (digits i) (space ++ (text ++ lineEnd)), length-append text lineEnd) (omega (arith, length-at-most 4 i (omega arith)))
 
-reading-short : (i n : ℕ) (text : List ℕ) → i < 65536 → length text ≤ 19 → n ≤ 99 → length (readingLine i n text) ≤ 30
+reading-short : (i n : ℕ) (text : List ℕ) → i < 65536 → length text ≤ longest → n ≤ 99 → length (readingLine i n text) ≤ 30
 reading-short i zero text a b h = ask-line-short i text a b
 reading-short i (suc n) text a b h = no-line-short (suc n) h
 

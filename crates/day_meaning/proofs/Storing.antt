@@ -1,23 +1,23 @@
 -- Text stored from a place on, as far as it fits: byte by byte, text after text, and from the front. Assumes nothing.
-use Prim.Native.Nat.{ℕ, zero, suc, _+_, _-_, _/_, _%_, _^_, _≤_, _<_, min}
+use Prim.Native.Nat.{ℕ, suc, _+_, _-_, _≤_, _<_, min}
 use mathlib.Core.Path.{_≡_, refl, sym, ap, _∙_}
 use mathlib.Core.Bool.{Bool, true, false, cond}
-use mathlib.Core.List.{List, [], _∷_, _++_, append-nil, append-assoc}
+use mathlib.Core.List.{List, [], _∷_, _++_}
 use mathlib.Core.Option.{Option, none, some}
-use native.Mathlib.Nat.{add-zero, pow-succ', mul-comm, div-lt-iff-lt-mul}
+use native.Mathlib.Nat.{add-zero}
 use native.Mathlib.Numerals.{add-one}
 use native.Mathlib.Omega.{arith}
 use borrow.Author.Tests.{leb-true, leb-false}
 use lib.Dec.{leb, eqb}
 use lib.IntN.{ℤ}
-use lib.ListN.{length, take, drop, set, getD, length-set, length-append, length-drop, take-append-drop}
-use lib.Seq.{sets, length-sets, set-out, take-suc, take-all, length-take-le, drop-cons, drop-set-lt, getD-set-same}
+use lib.ListN.{length, take, drop, set, getD, length-set, length-append, length-take, take-append-drop}
+use lib.Seq.{sets, length-sets, set-out, take-suc, take-all, take-at, length-take-le}
 use Rattle.circuit.specs.Value.{Value}
-use Rattle.printer.specs.Decimal.{digit, digits}
+use Rattle.decimal.specs.Decimal.{digits}
+use Rattle.decimal.specs.Contract.{WithDigits}
 use Rattle.printer.specs.Printing.{textOf, partOf, leastScratch, scratchShort}
 use Rattle.value.specs.Meaning.{partsOf}
 use Rattle.circuit.specs.Calls.{test, firstCause, isNone}
-use Rattle.printer.proofs.Digits.{digits-small, digits-more}
 use Rattle.day_meaning.specs.Lines.{written, writtenCount, Appended}
 
 -- beyond the end nothing is stored
@@ -103,77 +103,18 @@ appended-front {text} {out} p = p .bytes ∙ sets-front text out
 pub appended-count : {text out after : List ℕ} {next : ℕ} → Appended text out 0 next after → next ≡ writtenCount out text
 appended-count p = omega (arith, p .place)
 
--- ---- the digits of a number, stored from the last to the first
+-- ---- the digits of a number
 
--- the most digits of a number of 64 bits
-abbrev pub mostDigits : ℕ
-mostDigits = 20
+-- the digits written at the front, as a part of the bytes
+pub digits-part : {m count : ℕ} {before after : List ℕ} → WithDigits m 0 before count after → take count after ≡ digits m
+digits-part {m} {count} {before} w =
+    ap (λ l. take count l) (w .bytes) ∙ take-at (digits m) (drop count before) count (omega (arith, w .place))
 
--- the digits of m are those of rest and then the bytes after the place, where the next digit goes
-pub record Backward (m : ℕ) (bytes : List ℕ) (rest place : ℕ) : Type 0 where
-  pub size : length bytes ≡ mostDigits
-  pub room : place < mostDigits
-  pub small : rest < 10 ^ suc place
-  pub text : digits m ≡ digits rest ++ drop (suc place) bytes
+pub digits-count : {m count : ℕ} {before after : List ℕ} → WithDigits m 0 before count after → count ≡ length (take count after)
+digits-count w = omega (arith, w .place, ap length (digits-part w))
 
-pub backward-start : (m : ℕ) (bytes : List ℕ) → length bytes ≡ mostDigits → m < 2 ^ 64 → Backward m bytes m (mostDigits - 1)
-backward-start m bytes e h =
-    record {
-      size = e;
-      room = omega arith;
-      small = omega arith;
-      text = sym (ap (λ r. digits m ++ r) (take-past bytes mostDigits e) ∙ append-nil (digits m));
-    }
-  where
-    take-past : (l : List ℕ) (n : ℕ) → length l ≡ n → drop n l ≡ []
-    take-past l n q = rw (← q) (lib.Seq.drop-length l)
-
-tenth-below : (k n : ℕ) → n < 10 ^ suc k → n / 10 < 10 ^ k
-tenth-below k n h = div-lt-iff-lt-mul {k = 10} (omega arith) .1 (rw (pow-succ' 10 k, mul-comm 10 (10 ^ k)) at h)
-
--- there is a place for a further digit
-pub backward-place : {m rest place : ℕ} {bytes : List ℕ} → Backward m bytes rest place → 10 ≤ rest → 0 < place
-backward-place {m} {rest} {place} {bytes} w h = go place (w .small)
-  where
-    go : (p : ℕ) → rest < 10 ^ suc p → 0 < p
-    go zero s = absurd (omega arith)
-    go (suc p) s = omega arith
-
-stored : (bytes : List ℕ) (place b : ℕ) → place < length bytes → drop place (set bytes place b) ≡ b ∷ drop (suc place) bytes
-stored bytes place b h =
-    drop-cons (set bytes place b) place 0 (omega (arith, length-set bytes place b))
-    ∙ ap (λ x. x ∷ drop (suc place) (set bytes place b)) (getD-set-same bytes place b 0 h)
-    ∙ ap (λ r. b ∷ r) (drop-set-lt (suc place) bytes place b (omega arith))
-
-pub backward-step : {m rest place : ℕ} {bytes : List ℕ} → Backward m bytes rest place → 10 ≤ rest
-    → Backward m (set bytes place (digit (rest % 10))) (rest / 10) (place - 1)
-backward-step {m} {rest} {place} {bytes} w h =
-    record {
-      size = length-set bytes place (digit (rest % 10)) ∙ w .size;
-      room = omega (arith, w .room);
-      small = rw up (tenth-below place rest (w .small));
-      text = rw (up, stored bytes place (digit (rest % 10)) (omega (arith, w .size, w .room))) (
-          w .text
-          ∙ ap (λ d. d ++ drop (suc place) bytes) (digits-more rest h)
-          ∙ append-assoc (digits (rest / 10)) (digit (rest % 10) ∷ []) (drop (suc place) bytes));
-    }
-  where
-    up : suc (place - 1) ≡ place
-    up = omega (arith, backward-place w h)
-
-backward-end : {m rest place : ℕ} {bytes : List ℕ} → Backward m bytes rest place → rest < 10
-    → drop place (set bytes place (digit rest)) ≡ digits m
-backward-end {m} {rest} {place} {bytes} w h =
-    stored bytes place (digit rest) (omega (arith, w .size, w .room))
-    ∙ sym (w .text ∙ ap (λ d. d ++ drop (suc place) bytes) (digits-small rest h))
-
--- the stored digits, as a part of the bytes
-pub backward-part : {m rest place : ℕ} {bytes : List ℕ} → Backward m bytes rest place → rest < 10
-    → take (mostDigits - place) (drop place (set bytes place (digit rest))) ≡ digits m
-backward-part {m} {rest} {place} {bytes} w h =
-    take-all (mostDigits - place) (drop place (set bytes place (digit rest)))
-    (omega (arith, length-drop place (set bytes place (digit rest)), length-set bytes place (digit rest), w .size))
-    ∙ backward-end w h
+pub digits-within : {m count : ℕ} {before after : List ℕ} → WithDigits m 0 before count after → count ≤ length after
+digits-within {m} {count} {before} {after} w = omega (arith, digits-count w, length-take count after)
 
 -- what is appended, by another name
 pub appended-as : {xs ys before after : List ℕ} {at next : ℕ} → xs ≡ ys → Appended xs before at next after → Appended ys before at next after

@@ -4,7 +4,7 @@ use mathlib.Core.Path.{_≡_}
 use mathlib.Core.List.{List, [], _∷_, _++_}
 use lib.ListN.{length, take, drop}
 use lib.Seq.{sets}
-use Rattle.printer.specs.Decimal.{digits}
+use Rattle.decimal.specs.Decimal.{digits}
 
 -- the words of the lines, each with the space after it: `ASK `, `NO `, `SHEET `, `DAY `
 abbrev pub askWord : List ℕ

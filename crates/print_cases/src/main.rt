@@ -1,5 +1,6 @@
-// Prints a fixed set of values, and what turns the printer back.
+// Prints a fixed set of values, what turns the printer back, and the digits of numbers on both sides of each power of ten.
 ghost use mathlib.Core.Path.{_≡_};
+ghost use Prim.Native.Nat.{_≤_};
 ghost use lib.ListN.{length};
 ghost use Rattle.printer.specs.Printing.{partOf};
 ghost use Rattle.field.specs.Bytes.{over};
@@ -50,6 +51,46 @@ fn in_nineteen(kind: u64, number: i64) {
     show_all(kind, number, &mut scratch);
 }
 
+// The digits of a number from the second byte on, with the bytes before and after them.
+fn show_digits(m: u64) {
+    let mut bytes = [b'.'; decimal::MOST_DIGITS + 2];
+    decimal::put_digits(m, 1, &mut bytes);
+    line(&bytes);
+}
+
+// Both sides of a power of ten.
+fn about(power: u64)
+    requires { ⌜ 1 ≤ power ⌝ }
+{
+    show_digits(power - 1);
+    show_digits(power);
+}
+
+fn all_lengths() {
+    about(1);
+    about(10);
+    about(100);
+    about(1_000);
+    about(10_000);
+    about(100_000);
+    about(1_000_000);
+    about(10_000_000);
+    about(100_000_000);
+    about(1_000_000_000);
+    about(10_000_000_000);
+    about(100_000_000_000);
+    about(1_000_000_000_000);
+    about(10_000_000_000_000);
+    about(100_000_000_000_000);
+    about(1_000_000_000_000_000);
+    about(10_000_000_000_000_000);
+    about(100_000_000_000_000_000);
+    about(1_000_000_000_000_000_000);
+    about(10_000_000_000_000_000_000);
+    show_digits(9_876_543_210);
+    show_digits(18_446_744_073_709_551_615);
+}
+
 fn numbers() {
     show(3, 0);
     show(3, 1);
@@ -85,4 +126,5 @@ fn main() {
     in_twenty(3, -1 - LIMIT);
     in_nineteen(3, 5);
     in_nineteen(0, 0);
+    all_lengths();
 }

@@ -23,7 +23,7 @@ use Rattle.printer.specs.Printing.{printed, textOf, noValue, scratchShor
 use Rattle.printer.specs.Contract.{answerOf, codeOf, Prints, PrintsCode}
 use Rattle.printer.proofs.Answers.{refusalOf, lengthOf}
 use Rattle.printer.proofs.Values.{part-length}
-use Rattle.printer.proofs.Notation.{printed-fits}
+use Rattle.printer.proofs.Notation.{longest, printed-fits}
 
 -- the part that the printer hands back for a value, in scratch that is long enough, is what is printed of it
 pub part-of-value : (v : Value) (count : ℕ) → wellFormed v ≡ true → 20 ≤ count → partOf (kindOf v) (numberOf v) count ≡ printed v
@@ -40,10 +40,10 @@ refusal-is kind z count = go (printCause kind z count) (length (partOf kind z co
 
 -- ---- the answer's size
 
-pub part-small : (kind : ℕ) (z : ℤ) (count : ℕ) → length (partOf kind z count) ≤ 19
+pub part-small : (kind : ℕ) (z : ℤ) (count : ℕ) → length (partOf kind z count) ≤ longest
 part-small kind z count = go (eqb (printCause kind z count) 0) (partsOf kind z) refl
   where
-    go : (b : Bool) (o : Option Value) → partsOf kind z ≡ o → length (cond b (textOf o) []) ≤ 19
+    go : (b : Bool) (o : Option Value) → partsOf kind z ≡ o → length (cond b (textOf o) []) ≤ longest
     go true none e = omega arith
     go true (some v) e = printed-fits v (parts-some kind z v e .formed)
     go false o e = omega arith
@@ -58,7 +58,7 @@ cause-small kind z count = go (noValue kind z) (scratchShort count)
     go false false = omega arith
 
 module _ (kind : ℕ) (z : ℤ) (s : List ℕ) (a : Printed) (s′ : List ℕ) (p : Prints kind z s a s′) where
-  pub length-small : lengthOf a ≤ 19
+  pub length-small : lengthOf a ≤ longest
   length-small = omega (arith, part-length kind z s a s′ p, part-small kind z (length s))
 
   pub refusal-small : refusalOf a ≤ 15

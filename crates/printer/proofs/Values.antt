@@ -1,44 +1,35 @@
 -- What the printer makes of a value, and of a call. Assumes nothing.
-use Prim.Native.Nat.{ℕ, suc, _^_, _≤_, _<_}
+use Prim.Native.Nat.{ℕ, suc, _≤_, _<_}
 use mathlib.Core.Path.{_≡_, refl, sym, ap, _∙_}
 use mathlib.Core.Bool.{Bool, true, false, cond}
 use mathlib.Core.List.{List, [], _∷_, _++_}
 use mathlib.Core.Option.{none, some}
 use native.Mathlib.Omega.{arith}
-use borrow.Author.Tests.{lt-ltb, le-ltb, leb-true}
+use borrow.Author.Tests.{lt-ltb, le-ltb}
 use lib.Dec.{eqb}
 use lib.IntN.{ℤ, pos, negsuc, natAbs}
 use lib.Signed.{ltZ}
 use lib.ListN.{length, take, drop, set}
 use lib.Seq.{take-at}
+use mir.Syntax.{w64}
+use mir.Val.{SFits}
 use Rattle.circuit.specs.Calls.{firstCause}
-use Rattle.circuit.specs.Value.{Value, limit, inRange, wellFormed}
+use Rattle.circuit.specs.Value.{Value}
 use Rattle.value.specs.Meaning.{amountMeaning, meaning, partsOf, partsMeaning}
 use Rattle.value.specs.declared.Amount.{Amount}
-use Rattle.value.specs.declared.Amount.the-variants.{Number}
 use Rattle.value.specs.declared.Parts.{Parts}
 use Rattle.value.specs.declared.Parts.the-variants.{Formed, Unformed}
 use Rattle.value.specs.declared.Value as code
 use Rattle.printer.specs.declared.Printed.{Printed}
 use Rattle.printer.specs.declared.Printed.the-variants.{Length, Refused}
-use Rattle.printer.specs.Decimal.{digits, decimal, minus}
+use Rattle.decimal.specs.Decimal.{digits, decimal, minus}
+use Rattle.decimal.specs.Contract.{WithDigits}
+use Rattle.decimal.proofs.Digits.{length-at-most}
 use Rattle.printer.specs.Printing.{printed, textOf, printCause, partOf}
-use Rattle.printer.specs.Contract.{answerOf, WithDigits, Front, Prints}
+use Rattle.printer.specs.Contract.{answerOf, Front, Prints}
 use Rattle.printer.proofs.Answers.{lengthOf}
 
--- the numbers of the range have at most 18 digits
-pub limit-small : limit < 10 ^ 18
-unfolding limit
-limit-small = omega arith
-
-pub number-small : (z : ℤ) → inRange z ≡ true → natAbs z < 10 ^ 18
-unfolding inRange
-number-small z h = omega (arith, leb-true (natAbs z) limit h, limit-small)
-
 -- ---- the values of the code
-
-pub amount-small : (v : code.Value) (z : ℤ) → v .amount ≡ Number z → wellFormed (meaning v) ≡ true → natAbs z < 10 ^ 18
-amount-small v z e h = number-small z (sym (ap (λ (a : Amount). wellFormed (amountMeaning a)) e) ∙ h)
 
 -- the value of a kind and a number, by the answer r for the number x that was read
 module _ {x z : ℤ} {r : Parts} (kind : ℕ) (read : x ≡ z) (answer : partsMeaning r ≡ partsOf kind x) where
@@ -53,6 +44,11 @@ module _ {x z : ℤ} {r : Parts} (kind : ℕ) (read : x ≡ z) (answer : partsMe
 -- the text of an amount
 pub of-amount : {a b : Amount} (s : List ℕ) (n : ℕ) (s′ : List ℕ) → a ≡ b → Front (printed (amountMeaning b)) s n s′ → Front (printed (amountMeaning a)) s n s′
 of-amount s n s′ e f = rw e f
+
+-- the magnitude of a signed number of 64 bits has at most 19 digits
+pub magnitude-fits : (z : ℤ) → SFits w64 z → length (digits (natAbs z)) ≤ 19
+magnitude-fits (pos a) h = length-at-most 18 a (omega (arith, h .sfits))
+magnitude-fits (negsuc a) h = length-at-most 18 (suc a) (omega (arith, h .sfits))
 
 -- a number: the sign, where it has one, and then its digits
 pub number-below : (z : ℤ) (s₀ s : List ℕ) (m n : ℕ) → ltZ z (pos 0) ≡ true → m ≡ natAbs z → 0 < length s₀ → WithDigits m 1 (set s₀ 0 minus) n s → Front (decimal z) s₀ n s

@@ -1,12 +1,11 @@
 -- The printer's answer, and what its contract says. Assumes nothing.
 use mathlib.Core.Path.{_≡_}
-use Prim.Native.Nat.{ℕ, _+_}
+use Prim.Native.Nat.{ℕ}
 use mathlib.Core.Bool.{cond}
-use mathlib.Core.List.{List, _++_}
+use mathlib.Core.List.{List}
 use lib.Dec.{eqb}
 use lib.IntN.{ℤ, pos, negℤ}
-use lib.ListN.{length, take, drop}
-use Rattle.printer.specs.Decimal.{digits}
+use lib.ListN.{length}
 use Rattle.printer.specs.declared.Printed.{Printed}
 use Rattle.printer.specs.declared.Printed.the-variants.{Length, Refused}
 use Rattle.field.specs.Bytes.{over}
@@ -21,11 +20,6 @@ answerOf kind z count =
 abbrev pub codeOf : Printed → ℤ
 codeOf (Length n) = pos n
 codeOf (Refused cause) = negℤ (pos cause)
-
--- the digits of m written into bytes from the place `at` on, and the place after them
-pub record WithDigits (m at : ℕ) (before : List ℕ) (next : ℕ) (after : List ℕ) : Type 0 where
-  pub place : next ≡ at + length (digits m)
-  pub bytes : after ≡ take at before ++ digits m ++ drop next before
 
 -- a text written at the front of bytes, and its length
 pub record Front (text before : List ℕ) (count : ℕ) (after : List ℕ) : Type 0 where

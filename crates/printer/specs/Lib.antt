@@ -1,4 +1,3 @@
-pub mod Decimal
 pub mod Printing
 pub mod Contract
 pub mod Causes

@@ -8,7 +8,7 @@ use lib.IntN.{ℤ}
 use Rattle.circuit.specs.Calls.{isNone, test, firstCause}
 use Rattle.circuit.specs.Value.{Value, null, out, num}
 use Rattle.value.specs.Meaning.{partsOf}
-use Rattle.printer.specs.Decimal.{decimal, minus}
+use Rattle.decimal.specs.Decimal.{decimal, minus}
 
 -- NULL is `-`, OUT is the letters O, U and T, a number is decimal
 abbrev pub printed : Value → List ℕ

@@ -1,7 +1,6 @@
 -- `printer::print_into` meets its contract. Assumes nothing.
 use mir.Syntax.{w64}
 use mir.ValLaws.{toZ-ofZ}
-use Rattle.circuit.proofs.Parts.{parts-some}
 use Rattle.printer.proofs.Values.{formed, unformed, refused-value, refused-scratch, accepted}
 use borrow.Author.Needs.{needs}
 use Rattle.printer.proofs.print_into.Statement.{statement}
@@ -13,13 +12,6 @@ returns c =
     let read = toZ-ofZ w64 (at-start .args .number) (at-start .fits .number) in
     let value = formed (at-start .args .kind) read (c .before .before .before .before .from-parts .ensures) (c .before .before .v .given .1) in
     refused-scratch (at-start .args .kind) (at-start .args .number) _ value (at-start .args .scratch .now) (c .if1 .taken)
-
-put-value-requires : tie.Need-put-value-requires
-put-value-requires c κs =
-    let at-start = c .before .before .before .before .before .before .before in
-    let read = toZ-ofZ w64 (at-start .args .number) (at-start .fits .number) in
-    let value = formed (at-start .args .kind) read (c .before .before .before .before .before .from-parts .ensures) (c .before .before .before .v .given .1) in
-    (parts-some (at-start .args .kind) (at-start .args .number) _ value .formed, c .before .if1 .left)
 
 returns-2 : tie.Need-returns-2
 returns-2 c =
@@ -46,7 +38,7 @@ print-into-spec =
     (λ c. search needs)
     (λ c. search needs)
     returns
-    put-value-requires
+    (λ c κs. c .before .if1 .left)
     returns-2
     (λ c. search needs)
     returns-3)

@@ -4,7 +4,7 @@ use Prim.Native.Nat.{_-_}
 use mathlib.Core.Path.{_≡_}
 use native.Mathlib.Omega.{arith}
 use lib.ListN.{length}
-use Rattle.printer.proofs.Writing.{Copying, copy-start, copy-step, copy-finish}
+use Rattle.printer.proofs.Copying.{Copying, copy-start, copy-step, copy-finish}
 use Rattle.printer.proofs.put_mark.Statement.{statement}
 use Rattle.printer.proofs.put_mark.Tie as tie
 

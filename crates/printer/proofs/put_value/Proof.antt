@@ -1,20 +1,10 @@
 -- `printer::put_value` meets its contract. Assumes nothing.
-use native.Mathlib.Omega.{arith}
 use mir.Syntax.{w64}
 use mir.ValLaws.{toZ-ofZ}
-use Rattle.printer.proofs.Values.{amount-small, of-amount}
+use Rattle.printer.proofs.Values.{of-amount}
 use borrow.Author.Needs.{needs}
 use Rattle.printer.proofs.put_value.Statement.{statement}
 use Rattle.printer.proofs.put_value.Tie as tie
-
-put-number-requires : tie.Need-put-number-requires
-put-number-requires c κs =
-    let at-start = c .before .before .before .before .before in
-    let given = c .before .before .a .given in
-    let z = given .0 .0 in (
-      rw (toZ-ofZ w64 z (search needs)) (amount-small (at-start .args .v) z (given .1) (at-start .pre .0)),
-      omega (arith, at-start .pre .1),
-    )
 
 returns : tie.Need-returns
 returns c =
@@ -44,7 +34,7 @@ put-value-spec =
     (λ c. search needs)
     (λ c κs. search needs)
     (λ c. search needs)
-    put-number-requires
+    (λ c κs. search needs)
     (λ c. search needs)
     returns
     (λ c. search needs)

@@ -1,17 +1,14 @@
--- The digits of a number: what they mean read back, how many there are, and that they come from the highest down by
--- dividing by the powers of ten. Assumes nothing.
+-- The digits of a number: their two equations, what they mean read back, and how many there are. Assumes nothing.
 use Prim.Native.Nat.{ℕ, zero, suc, _+_, _-_, _*_, _/_, _%_, _^_, _≤_, _<_}
 use mathlib.Core.Path.{_≡_, refl, sym, ap, _∙_}
 use mathlib.Core.Bool.{Bool, true, false}
 use mathlib.Core.List.{List, [], _∷_, _++_}
-use native.Mathlib.Nat.{pow-succ', one-le-pow, div-one, mod-lt, mod-eq-of-lt, div-add-mod, mul-add-div, mul-add-mod-self-left, div-lt-iff-lt-mul, le-div-iff-mul-le, div-div-eq-div-mul}
-use native.Mathlib.Nat.{mul-assoc, mul-comm, mul-pos}
-use native.Mathlib.Numerals.{add-one}
+use native.Mathlib.Nat.{pow-succ', mul-comm, div-lt-iff-lt-mul}
 use native.Mathlib.Omega.{arith}
 use borrow.Author.Tests.{lt-ltb, le-ltb, ltb-true, ltb-false}
 use lib.Dec.{ltb}
 use lib.ListN.{length, length-append}
-use Rattle.printer.specs.Decimal.{digit, digitsUpTo, digits, readFrom}
+use Rattle.decimal.specs.Decimal.{digit, digitsUpTo, digits, readFrom}
 
 upTo-small : (f n : ℕ) → n < 10 → digitsUpTo (suc f) n ≡ digit n ∷ []
 unfolding digitsUpTo
@@ -75,7 +72,7 @@ read-digits = by-digits (λ n. readFrom 0 (digits n) ≡ n) small more
 
 -- ---- how many digits there are
 
-length-more : (n : ℕ) → 10 ≤ n → length (digits n) ≡ length (digits (n / 10)) + 1
+pub length-more : (n : ℕ) → 10 ≤ n → length (digits n) ≡ length (digits (n / 10)) + 1
 length-more n h = rw (digits-more n h, length-append)
 
 pub length-pos : (n : ℕ) → 1 ≤ length (digits n)
@@ -83,12 +80,6 @@ length-pos = by-digits (λ n. 1 ≤ length (digits n)) (λ n h. rw (digits-small
 
 tenth-below : (k n : ℕ) → n < 10 ^ suc k → n / 10 < 10 ^ k
 tenth-below k n h = div-lt-iff-lt-mul {k = 10} (omega arith) .1 (rw (pow-succ' 10 k, mul-comm 10 (10 ^ k)) at h)
-
-tenth-above : (k n : ℕ) → 10 ^ suc k ≤ n → 10 ^ k ≤ n / 10
-tenth-above k n h = le-div-iff-mul-le {k = 10} (omega arith) .1 (rw (pow-succ' 10 k, mul-comm 10 (10 ^ k)) at h)
-
-pub pow-pos : (k : ℕ) → 0 < 10 ^ k
-pow-pos k = one-le-pow k 10 (omega arith)
 
 -- a number below 10^k has at most k digits, for k from 1
 pub length-at-most : (k n : ℕ) → n < 10 ^ suc k → length (digits n) ≤ suc k
@@ -99,76 +90,9 @@ length-at-most (suc k) n h = go (length-at-most k (n / 10) (tenth-below (suc k) 
     go ih true e = rw (digits-small n (ltb-true n 10 e)) (omega arith)
     go ih false e = omega (arith, length-more n (ltb-false n 10 e))
 
--- a number from 10^k on has more than k digits
-pub length-at-least : (k n : ℕ) → 10 ^ k ≤ n → suc k ≤ length (digits n)
-length-at-least zero n h = length-pos n
-length-at-least (suc k) n h =
-    let t = tenth-above k n h in
-    let ih = length-at-least k (n / 10) t in
-    omega (arith, length-more n (omega (arith, le-div-iff-mul-le {k = 10} {x = 1} {y = n} (omega arith) .0 (omega (arith, pow-pos k)))))
+-- the most digits of a number of 64 bits
+abbrev pub mostDigits : ℕ
+mostDigits = 20
 
--- so the count is known from the two powers between which the number lies
-pub length-digits : (k n : ℕ) → 10 ^ k ≤ n → n < 10 ^ suc k → length (digits n) ≡ suc k
-length-digits k n l h = omega (arith, length-at-least k n l, length-at-most k n h)
-
--- a number is below ten to the count of its digits
-pub below-pow : (n : ℕ) → n < 10 ^ length (digits n)
-below-pow = by-digits (λ n. n < 10 ^ length (digits n)) small more
-  where
-    small : (n : ℕ) → n < 10 → n < 10 ^ length (digits n)
-    small n h = rw (digits-small n h) h
-
-    more : (n : ℕ) → 10 ≤ n → n / 10 < 10 ^ length (digits (n / 10)) → n < 10 ^ length (digits n)
-    more n h ih =
-        rw (length-more n h, add-one, pow-succ' 10 (length (digits (n / 10))), mul-comm 10 (10 ^ length (digits (n / 10))))
-        (div-lt-iff-lt-mul {k = 10} (omega arith) .0 ih)
-
--- ---- the digits from the highest down
-
--- the k lowest places of n, from the highest down
-unfoldable pub places : ℕ → ℕ → List ℕ
-places zero n = []
-places (suc k) n = digit (n / 10 ^ k) ∷ places k (n % 10 ^ k)
-
--- dividing a remainder: n = a b q + r
-whole : (a b n : ℕ) → a * (b * (n / (a * b))) + n % (a * b) ≡ n
-whole a b n = rw (← mul-assoc a b (n / (a * b))) (div-add-mod n (a * b))
-
-mod-div : (a b n : ℕ) → 0 < a → 0 < b → n % (a * b) / a ≡ n / a % b
-mod-div a b n ha hb =
-    sym (mod-eq-of-lt small)
-    ∙ sym (mul-add-mod-self-left b (n / (a * b)) (n % (a * b) / a))
-    ∙ ap (λ x. x % b) (sym (mul-add-div ha (b * (n / (a * b))) (n % (a * b))) ∙ ap (λ x. x / a) (whole a b n))
-  where
-    small : n % (a * b) / a < b
-    small = div-lt-iff-lt-mul ha .1 (rw (mul-comm b a) (mod-lt n (mul-pos ha hb)))
-
-mod-mod-mul : (a b n : ℕ) → n % (a * b) % a ≡ n % a
-mod-mod-mul a b n = sym (mul-add-mod-self-left a (b * (n / (a * b))) (n % (a * b))) ∙ ap (λ x. x % a) (whole a b n)
-
--- one place more at the low end
-places-snoc : (k n : ℕ) → n < 10 ^ suc k → places (suc k) n ≡ places k (n / 10) ++ (digit (n % 10) ∷ [])
-unfolding places
-places-snoc zero n h = rw (div-one, mod-eq-of-lt h)
-places-snoc (suc k) n h =
-    rw (
-      places-snoc k (n % 10 ^ suc k) (mod-lt n (pow-pos (suc k))),
-      pow-succ' 10 k,
-      mod-div 10 (10 ^ k) n (omega arith) (pow-pos k),
-      mod-mod-mul 10 (10 ^ k) n,
-      ← div-div-eq-div-mul n 10 (10 ^ k),
-    )
-
--- the digits are the places
-pub digits-places : (n : ℕ) → digits n ≡ places (length (digits n)) n
-digits-places = by-digits (λ n. digits n ≡ places (length (digits n)) n) small more
-  where
-    small : (n : ℕ) → n < 10 → digits n ≡ places (length (digits n)) n
-    small n h = rw (digits-small n h) (unfold places in rw div-one)
-
-    more : (n : ℕ) → 10 ≤ n → digits (n / 10) ≡ places (length (digits (n / 10))) (n / 10) → digits n ≡ places (length (digits n)) n
-    more n h ih =
-        digits-more n h
-        ∙ ap (λ l. l ++ (digit (n % 10) ∷ [])) ih
-        ∙ sym (places-snoc (length (digits (n / 10))) n (rw (length-more n h, add-one) at (below-pow n)))
-        ∙ ap (λ k. places k n) (sym (length-more n h ∙ add-one (length (digits (n / 10)))))
+pub length-word : (n : ℕ) → n < 2 ^ 64 → length (digits n) ≤ mostDigits
+length-word n h = length-at-most 19 n (omega arith)

@@ -1,12 +1,10 @@
 -- Decimal notation, as bytes: the digits from the highest to the lowest, with no leading zero, and a minus before a
 -- number below 0. Assumes nothing.
-use mathlib.Core.Path.{_≡_}
-use Prim.Native.Nat.{ℕ, zero, suc, _+_, _-_, _*_, _/_, _%_, _^_, _≤_, _<_}
+use Prim.Native.Nat.{ℕ, zero, suc, _+_, _-_, _*_, _/_, _%_, _≤_}
 use mathlib.Core.Bool.{true, false, cond}
 use mathlib.Core.List.{List, [], _∷_, _++_}
 use lib.Dec.{eqb, ltb}
 use lib.IntN.{ℤ, pos, negsuc, negℤ}
-use lib.ListN.{length, getD}
 
 -- the byte of a digit d below ten; the digits stand in a row from `0`, 48, to `9`, 57
 abbrev pub digit : ℕ → ℕ
@@ -44,8 +42,3 @@ readFrom n (b ∷ bs) = readFrom (n * 10 + (b - 48)) bs
 unfoldable pub readDecimal : List ℕ → ℤ
 readDecimal [] = pos 0
 readDecimal (b ∷ bs) = cond (eqb b minus) (negℤ (pos (readFrom 0 bs))) (pos (readFrom 0 (b ∷ bs)))
-
--- the rule of the table of powers: entry k is 10^k, from 10^0 to 10^18
-pub record PowersOfTen (table : List ℕ) : Type 0 where
-  pub entries : length table ≡ 19
-  pub rule : (k : ℕ) → k < 19 → getD table k 0 ≡ 10 ^ k
