@@ -1,5 +1,5 @@
 /*
- * Rozhinal 2.0.0: an engine for quota ledgers.
+ * Rozhinal 2.0.1: an engine for quota ledgers.
  *
  * A sheet is a circuit of items. An entry is posted; a figure is worked out from earlier items, its
  * parents, by one of eight rules. The caller lends three slices of bytes to each call:
@@ -49,8 +49,8 @@ extern "C" {
 
 #define ROZHINAL_VERSION_MAJOR 2
 #define ROZHINAL_VERSION_MINOR 0
-#define ROZHINAL_VERSION_PATCH 0
-#define ROZHINAL_VERSION "2.0.0"
+#define ROZHINAL_VERSION_PATCH 1
+#define ROZHINAL_VERSION "2.0.1"
 
 /* ---- Limits ---------------------------------------------------------------------------------- */
 
