@@ -415,6 +415,22 @@ static void count_shares(void)
     count("ask, shares at the limit", call_of(ASK, sheet.top));
 }
 
+/* Numbers of each length in the range, of both signs. */
+static void count_lengths(void)
+{
+    enum { LENGTHS = 16 };
+    struct call prints[2 * LENGTHS];
+    int64_t number = 1;
+    for (size_t k = 0; k < LENGTHS; k++) {
+        prints[2 * k] = (struct call){ PRINT, 0, ROZHINAL_NUMBER, number };
+        prints[2 * k + 1] = (struct call){ PRINT, 0, ROZHINAL_NUMBER, -number };
+        prepare(prints[2 * k]);
+        prepare(prints[2 * k + 1]);
+        number = k + 2 < LENGTHS ? 10 * number + (int64_t)(k + 2) % 10 : ROZHINAL_LIMIT;
+    }
+    count_all("print, numbers of each length", prints, 2 * LENGTHS);
+}
+
 static void count_printer(void)
 {
     static const struct call prints[] = {
@@ -431,6 +447,7 @@ static void count_printer(void)
     for (size_t k = 0; k < PRINTS; k++)
         prepare(prints[k]);
     count_all("print, seven values", prints, PRINTS);
+    count_lengths();
 }
 
 int main(void)

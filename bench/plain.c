@@ -739,40 +739,20 @@ rozhinal_answer plain_board(const uint8_t *sheet, size_t sheet_len,
 
 /* ---- Printer --------------------------------------------------------------------------------- */
 
-static const uint64_t powers_of_ten[] = {
-    1,
-    10,
-    100,
-    1000,
-    10000,
-    100000,
-    1000000,
-    10000000,
-    100000000,
-    1000000000,
-    10000000000,
-    100000000000,
-    1000000000000,
-    10000000000000,
-    100000000000000,
-    1000000000000000,
-    10000000000000000, /* above every number */
-};
-
 /* Writes a number that is in the range, and gives the length. */
 static size_t put_number(int64_t number, uint8_t *scratch)
 {
-    size_t length = 0, digits = 1;
+    uint8_t text[ROZHINAL_PRINT_BYTES];
+    size_t at = sizeof text;
     uint64_t rest = (uint64_t)(number < 0 ? -number : number);
+    do {
+        text[--at] = (uint8_t)('0' + rest % 10);
+        rest /= 10;
+    } while (rest > 0);
     if (number < 0)
-        scratch[length++] = '-';
-    while (powers_of_ten[digits] <= rest)
-        digits++;
-    while (digits-- > 0) {
-        scratch[length++] = (uint8_t)('0' + rest / powers_of_ten[digits]);
-        rest %= powers_of_ten[digits];
-    }
-    return length;
+        text[--at] = '-';
+    memcpy(scratch, text + at, sizeof text - at);
+    return sizeof text - at;
 }
 
 int64_t plain_print(uint64_t kind, int64_t number, uint8_t *scratch, size_t scratch_len)

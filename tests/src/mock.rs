@@ -1,15 +1,15 @@
 //! A mock of the engine, to try the comparison itself: the model's reader with another
-//! machine, which fills cells from a whole solution and catches up in one ascending sweep.
-//! It can be made wrong in one respect.
+//! machine, which fills cells from a whole solution and catches up in one ascending sweep, and
+//! another printer. It can be made wrong in one respect.
 
 mod board;
 mod older;
+mod printer;
 
 use crate::engine::{DayProgram, Engine};
 use crate::guarded::Guarded;
 use crate::model::calls::{self, Call, Reply};
 use crate::model::day::run_day;
-use crate::model::printer;
 use crate::model::sheet::{read_sheet, Item, Spread};
 use crate::model::table::{decode, encode, to_pair, Cell, Mark};
 use crate::model::value::{apply, in_range, Value, WHOLE};
@@ -59,6 +59,20 @@ with_all! {
         WritesPastTheTable,
         PrinterClearsTheRest,
         PrinterSays15First,
+        PrinterDividesBy100,
+        PrinterDividesBelowZero,
+        PrinterCutsTo32Bits,
+        PrinterOneDigitTooFew,
+        PrinterOneDigitTooMany,
+        PrinterZeroHasNoDigit,
+        PrinterPadsWithZeros,
+        PrinterReversesDigits,
+        PrinterLeavesOutZeros,
+        PrinterLosesTheSign,
+        PrinterOnePlaceLate,
+        PrinterTouchesTheByteAfter,
+        PrinterWorksAtTheEnd,
+        RefusedPrinterWrites,
         EmptyBoardCatchesUp,
         BoardSays11Before17,
         BoardSays17BeforeTheTable,
@@ -348,18 +362,7 @@ impl Engine for Mock {
     }
 
     fn print(&mut self, kind: u64, number: i64, scratch: &mut Guarded) -> i64 {
-        let length = scratch.length();
-        if self.0 == Wrong::PrinterSays15First && length < printer::SCRATCH {
-            return -15;
-        }
-        if self.0 == Wrong::PrinterInOlderRange && older::beyond(number) {
-            return -10;
-        }
-        let written = printer::print(kind, number, scratch.bytes_mut());
-        if self.0 == Wrong::PrinterClearsTheRest && written > 0 {
-            scratch.bytes_mut()[written as usize..].fill(0);
-        }
-        written
+        self.give_print(kind, number, scratch)
     }
 }
 

@@ -158,7 +158,7 @@ impl<'a> Comparison<'a> {
         let written = printer::print(kind, number, &mut right);
         let mut lent = self.lend(scratch);
         let given = self.engine.print(kind, number, &mut lent);
-        self.tally.count_print(written.min(0).unsigned_abs());
+        self.tally.count_print(kind, written, &right);
         if given == written && lent.bytes() == right && lent.guards_hold() {
             return Ok(());
         }

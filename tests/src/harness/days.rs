@@ -73,7 +73,7 @@ pub fn compare_random_day(
     compare_day(program, (!no_sheet).then_some(&sheet), (!no_day).then_some(&day), tally)
 }
 
-/// The example day, each shorter one, and each byte of its log changed.
+/// The example day, each shorter one, each byte of its log changed, and faults far in a log.
 pub fn compare_fixed_days(program: &mut dyn DayProgram, tally: &mut Tally) -> Result<(), String> {
     let (sheet, log) = (EXAMPLE.to_vec(), example_log());
     for (log, output) in [(&log, EXAMPLE_OUTPUT), (&limits_log(), LIMITS_OUTPUT)] {
@@ -94,6 +94,9 @@ pub fn compare_fixed_days(program: &mut dyn DayProgram, tally: &mut Tally) -> Re
     for sheet in refused_sheets() {
         compare_day(program, Some(&sheet), Some(&log), tally)?;
     }
+    for log in faults_far_in() {
+        compare_day(program, Some(&sheet), Some(&log), tally)?;
+    }
     for at in 0..log.len() {
         for byte in [0, 1, 2, 3, 4, 12, 15, 16, 18, 20, 21, 255] {
             let mut changed = log.clone();
@@ -101,15 +104,22 @@ pub fn compare_fixed_days(program: &mut dyn DayProgram, tally: &mut Tally) -> Re
             compare_day(program, Some(&sheet), Some(&changed), tally)?;
         }
     }
-    // Logs that end at the limit of a file, with a whole field or within one.
+    for log in logs_at_the_limit(&log) {
+        compare_day(program, Some(&sheet), Some(&log), tally)?;
+    }
+    Ok(())
+}
+
+/// Logs that end at the limit of a file, with a whole field or within one.
+fn logs_at_the_limit(log: &[u8]) -> Vec<Vec<u8>> {
+    let mut logs = Vec::new();
     for more in 0..6 {
         let mut long = log[..14].repeat(4);
         long.extend([17, 2, 0, 4, 0].repeat((MOST - long.len()) / 5));
         long.extend(&log[..more]);
-        compare_day(program, Some(&sheet), Some(&long), tally)?;
-        compare_day(program, Some(&sheet), Some(&long[more..].to_vec()), tally)?;
+        logs.extend([long[more..].to_vec(), long]);
     }
-    Ok(())
+    logs
 }
 
 /// A sheet for each refusal from 1 to 7.
@@ -122,6 +132,20 @@ fn refused_sheets() -> Vec<Vec<u8>> {
     }
     sheets.push(gen::plain_chain(MAX_LEVEL as u16 + 1));
     sheets
+}
+
+/// Logs with a field at fault on both sides of each power of ten: after asks, and a post where they
+/// do not come out even.
+fn faults_far_in() -> Vec<Vec<u8>> {
+    let log_to = |offset: usize| {
+        let posts = (offset % 5 == 4) as usize;
+        let mut calls = vec![post(0, 1); posts];
+        calls.resize(posts + (offset - 14 * posts) / 5, ask(0));
+        let mut log = log_of(&calls);
+        log.extend([21, 0, 0]);
+        log
+    };
+    [10, 99, 100, 999, 1_000, 9_999, 10_000].map(log_to).to_vec()
 }
 
 fn log_of(calls: &[Call]) -> Vec<u8> {
@@ -234,5 +258,53 @@ mod tests {
         let numbers: Vec<u64> =
             refused_sheets().iter().map(|s| read_sheet(s).unwrap_err().number).collect();
         assert_eq!(numbers, [1, 2, 3, 4, 5, 6, 7]);
+    }
+
+    #[test]
+    fn faults_are_far_in() {
+        let printed: Vec<Vec<u8>> = faults_far_in().iter().map(|l| run_day(&EXAMPLE, l)).collect();
+        for (lines, offset) in printed.iter().zip([10, 99, 100, 999, 1_000, 9_999, 10_000]) {
+            assert!(lines.ends_with(format!("\nDAY 16 {offset}\n").as_bytes()), "{offset}");
+        }
+    }
+
+    /// A day program that writes each number of a line, but the values, in its own way.
+    struct Misprints(fn(&str) -> String);
+
+    impl DayProgram for Misprints {
+        fn run(&mut self, sheet: Option<&[u8]>, day: Option<&[u8]>) -> Result<Vec<u8>, String> {
+            let right = run_day(sheet.unwrap_or(&[]), day.unwrap_or(&[]));
+            let mut output = String::new();
+            for line in String::from_utf8(right).unwrap().lines() {
+                let mut words: Vec<String> = line.split(' ').map(str::to_string).collect();
+                let numbers = if words[0] == "ASK" { 1..2 } else { 1..words.len() };
+                words[numbers].iter_mut().for_each(|word| *word = (self.0)(word));
+                output += &(words.join(" ") + "\n");
+            }
+            Ok(output.into_bytes())
+        }
+    }
+
+    /// A day program is found that writes items, causes and offsets wrong, if only at powers of ten.
+    #[test]
+    fn misprints_are_found() {
+        let try_program = |write| {
+            compare_fixed_days(&mut Misprints(write), &mut Tally::default())
+                .err()
+                .unwrap_or_default()
+        };
+        assert_eq!(try_program(|word| word.to_string()), "");
+        let wrong: [fn(&str) -> String; 6] = [
+            |word| format!("{word:0>5}"),
+            |word| word.chars().rev().collect(),
+            |word| word.strip_prefix("100").map_or(word.to_string(), |rest| format!("00{rest}")),
+            |word| if word == "10000" { "0000".to_string() } else { word.to_string() },
+            |word| if word == "9999" { "09999".to_string() } else { word.to_string() },
+            |word| word.strip_prefix('0').unwrap_or(word).to_string(),
+        ];
+        for write in wrong {
+            let found = try_program(write);
+            assert!(found.starts_with("day\n"), "{found}");
+        }
     }
 }

@@ -6,16 +6,16 @@ use super::compare::{Act, Comparison, Lent};
 use super::fixed_boards::run_fixed_boards;
 use super::lists::{plain_call, Office};
 use super::older::older_example;
+use super::prints::run_prints;
 use super::shares::fixed_shares;
 use crate::gen::{self, plain_chain, spec_figure, write_sheet, Spec};
 use crate::model::board::Board;
 use crate::model::calls::Call;
-use crate::model::printer::SCRATCH;
 use crate::model::sheet::{index_of, read_sheet, EXAMPLE, MAX_ITEMS, MAX_LEVEL};
 use crate::model::value::LIMIT;
 
 pub fn run_fixed(c: &mut Comparison) -> Result<(), String> {
-    printer(c)?;
+    run_prints(c)?;
     sheet_bytes(c)?;
     index_and_table_bytes(c)?;
     lengths(c)?;
@@ -55,24 +55,6 @@ pub fn busy_example(c: &mut Comparison) -> Result<Lent, String> {
         c.act(&Act::Give(call), &mut lent)?;
     }
     Ok(lent)
-}
-
-fn printer(c: &mut Comparison) -> Result<(), String> {
-    let mut numbers = vec![0, LIMIT, LIMIT + 1, -LIMIT, -LIMIT - 1, i64::MAX, i64::MIN];
-    for exponent in 0..=18 {
-        let power = 10i64.pow(exponent);
-        for near in [power - 1, power, power + 1, 2 * power - 1] {
-            numbers.extend([near, -near]);
-        }
-    }
-    for number in numbers {
-        for kind in [0, 1, 2, 3, 4, 257, 259, u64::MAX] {
-            for length in [0, SCRATCH - 1, SCRATCH, SCRATCH + 1] {
-                c.print(kind, number, &vec![b'?'; length])?;
-            }
-        }
-    }
-    Ok(())
 }
 
 /// Each byte of the example sheet as each value, and each shorter sheet.

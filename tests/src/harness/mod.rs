@@ -8,5 +8,6 @@ pub mod fixed_boards;
 pub mod lists;
 pub mod offices;
 pub mod older;
+pub mod prints;
 pub mod shares;
 pub mod tally;

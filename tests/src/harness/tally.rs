@@ -1,6 +1,7 @@
 //! How much was compared.
 
 use super::compare::Act;
+use super::prints::MOST_DIGITS;
 use crate::model::board::{Board, ITEM, MOST_ITEMS, RESULT};
 use crate::model::calls::Call;
 use std::fmt;
@@ -33,6 +34,9 @@ pub const BOARDS: [&str; 8] = [
     "results a byte long",
 ];
 
+/// Printed numbers, not below 0 and below it, which must be met with each count of digits.
+const DIGITS: [&str; 2] = ["digits of numbers not below 0", "digits of numbers below 0"];
+
 /// What a share in the older range never had.
 const WIDE: &str = "a product beyond a signed 64-bit number";
 
@@ -44,6 +48,8 @@ pub const LINES: [(&str, &[usize]); 3] =
 pub struct Tally {
     /// How often each function gave each number; 0 is accepted.
     pub given: [[u64; 18]; FUNCTIONS.len()],
+    /// Printed numbers of each of `DIGITS` by how many digits they have.
+    pub digits: [[u64; MOST_DIGITS + 1]; 2],
     /// How often each of `BOARDS` was met.
     pub boards: [u64; BOARDS.len()],
     /// Accepted boards held against asks one after another.
@@ -105,8 +111,17 @@ impl Tally {
         self.boards.iter_mut().zip(met).for_each(|(times, met)| *times += met as u64);
     }
 
-    pub fn count_print(&mut self, number: u64) {
-        self.given[PRINT][number as usize] += 1;
+    /// Counts a print by what it gives, and by the digits at the front of the scratch.
+    pub fn count_print(&mut self, kind: u64, written: i64, scratch: &[u8]) {
+        self.given[PRINT][written.min(0).unsigned_abs() as usize] += 1;
+        if kind == 3 && written > 0 {
+            let below = scratch.starts_with(b"-") as usize;
+            self.digits[below][written as usize - below] += 1;
+        }
+    }
+
+    pub fn prints(&self) -> u64 {
+        self.given[PRINT].iter().sum()
     }
 
     /// Counts the parents of a share that was asked for.
@@ -131,9 +146,9 @@ impl Tally {
         self.given[..PRINT].iter().flatten().sum()
     }
 
-    /// The refusals that some function can give, or a day print, and the lists of boards, that were
-    /// never met; also products of shares beyond a signed 64-bit number, if they were fewer than
-    /// one in twenty.
+    /// The refusals that some function can give, or a day print, the lists of boards, and numbers
+    /// of each length in print, that were never met; also products of shares beyond a signed 64-bit
+    /// number, if they were fewer than one in twenty.
     pub fn never_met(&self) -> Vec<String> {
         let mut missing = Vec::new();
         for ((name, numbers), given) in FUNCTIONS.iter().zip(&self.given) {
@@ -143,6 +158,11 @@ impl Tally {
         }
         for (name, _) in BOARDS.iter().zip(&self.boards).filter(|(_, &times)| times == 0) {
             missing.push(format!("board, {name}"));
+        }
+        for (name, digits) in DIGITS.iter().zip(&self.digits) {
+            for length in (1..=MOST_DIGITS).filter(|&length| digits[length] == 0) {
+                missing.push(format!("{name} {length}"));
+            }
         }
         if 20 * self.wide_pairs < self.pairs {
             missing.push(format!("{WIDE} in one pair of twenty"));
@@ -156,17 +176,22 @@ impl Tally {
     }
 }
 
+/// Each number that was met, and how often.
+fn times(met: &[u64]) -> String {
+    let met = met.iter().enumerate().filter(|(_, &times)| times > 0);
+    met.map(|(number, times)| format!(" {number}:{times}")).collect()
+}
+
 impl fmt::Display for Tally {
     fn fmt(&self, f: &mut fmt::Formatter) -> fmt::Result {
         writeln!(f, "calls compared: {}", self.calls())?;
-        writeln!(f, "prints compared: {}", self.given[PRINT].iter().sum::<u64>())?;
+        writeln!(f, "prints compared: {}", self.prints())?;
+        for (name, digits) in DIGITS.iter().zip(&self.digits) {
+            writeln!(f, "{name}:{}", times(digits))?;
+        }
         writeln!(f, "numbers given:")?;
         for ((name, _), given) in FUNCTIONS.iter().zip(&self.given) {
-            write!(f, "  {name:9}")?;
-            for (number, times) in given.iter().enumerate().filter(|(_, &times)| times > 0) {
-                write!(f, " {number}:{times}")?;
-            }
-            writeln!(f)?;
+            writeln!(f, "  {name:9}{}", times(given))?;
         }
         let boards: Vec<String> = BOARDS
             .iter()
@@ -192,10 +217,7 @@ impl fmt::Display for Tally {
             self.days, self.random_days, self.damaged_days, self.day_lines
         )?;
         for ((word, _), printed) in LINES.iter().zip(&self.printed) {
-            write!(f, "\n  {word:9}")?;
-            for (number, times) in printed.iter().enumerate().filter(|(_, &times)| times > 0) {
-                write!(f, " {number}:{times}")?;
-            }
+            write!(f, "\n  {word:9}{}", times(printed))?;
         }
         Ok(())
     }
@@ -215,6 +237,7 @@ mod tests {
         for (word, numbers) in LINES {
             numbers.iter().for_each(|n| tally.count_line(&format!("{word} {n}")));
         }
+        tally.digits.iter_mut().for_each(|digits| digits[1..].fill(1));
         tally
     }
 
@@ -241,6 +264,26 @@ mod tests {
                 assert_eq!(tally.never_met(), [format!("{word} {number}")]);
             }
         }
+    }
+
+    /// Each count of digits is missed if it alone was never printed, of either sign.
+    #[test]
+    fn each_length_in_print_is_missed() {
+        for (below, name) in DIGITS.iter().enumerate() {
+            for length in 1..=MOST_DIGITS {
+                let mut tally = full();
+                tally.digits[below][length] = 0;
+                assert_eq!(tally.never_met(), [format!("{name} {length}")]);
+            }
+        }
+        let mut tally = Tally::default();
+        for (kind, written, front) in
+            [(3, 1, "0?"), (3, 3, "-10?"), (1, 1, "-?"), (2, 3, "OUT?"), (3, -10, "-?")]
+        {
+            tally.count_print(kind, written, front.as_bytes());
+        }
+        assert_eq!((tally.digits[0][1], tally.digits[1][2]), (1, 1));
+        assert_eq!((tally.digits.iter().flatten().sum::<u64>(), tally.prints()), (2, 5));
     }
 
     /// One pair in twenty must have a product beyond signed 64 bits.
