@@ -10,11 +10,9 @@ use native.Mathlib.Omega.{arith}
 use borrow.Author.Tests.{leb-true, leb-false}
 use lib.Dec.{leb, eqb}
 use lib.IntN.{ℤ}
-use lib.ListN.{length, take, drop, set, getD, length-set, length-append, length-take, take-append-drop}
-use lib.Seq.{sets, length-sets, set-out, take-suc, take-all, take-at, length-take-le}
+use lib.ListN.{length, take, drop, set, getD, length-set, length-append, take-append-drop}
+use lib.Seq.{sets, length-sets, set-out, take-suc, take-all, length-take-le}
 use Rattle.circuit.specs.Value.{Value}
-use Rattle.decimal.specs.Decimal.{digits}
-use Rattle.decimal.specs.Contract.{WithDigits}
 use Rattle.printer.specs.Printing.{textOf, partOf, leastScratch, scratchShort}
 use Rattle.value.specs.Meaning.{partsOf}
 use Rattle.circuit.specs.Calls.{test, firstCause, isNone}
@@ -102,19 +100,6 @@ appended-front {text} {out} p = p .bytes ∙ sets-front text out
 
 pub appended-count : {text out after : List ℕ} {next : ℕ} → Appended text out 0 next after → next ≡ writtenCount out text
 appended-count p = omega (arith, p .place)
-
--- ---- the digits of a number
-
--- the digits written at the front, as a part of the bytes
-pub digits-part : {m count : ℕ} {before after : List ℕ} → WithDigits m 0 before count after → take count after ≡ digits m
-digits-part {m} {count} {before} w =
-    ap (λ l. take count l) (w .bytes) ∙ take-at (digits m) (drop count before) count (omega (arith, w .place))
-
-pub digits-count : {m count : ℕ} {before after : List ℕ} → WithDigits m 0 before count after → count ≡ length (take count after)
-digits-count w = omega (arith, w .place, ap length (digits-part w))
-
-pub digits-within : {m count : ℕ} {before after : List ℕ} → WithDigits m 0 before count after → count ≤ length after
-digits-within {m} {count} {before} {after} w = omega (arith, digits-count w, length-take count after)
 
 -- what is appended, by another name
 pub appended-as : {xs ys before after : List ℕ} {at next : ℕ} → xs ≡ ys → Appended xs before at next after → Appended ys before at next after

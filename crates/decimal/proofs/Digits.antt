@@ -96,3 +96,8 @@ mostDigits = 20
 
 pub length-word : (n : ℕ) → n < 2 ^ 64 → length (digits n) ≤ mostDigits
 length-word n h = length-at-most 19 n (omega arith)
+
+-- and one has so many
+pub most-word : length (digits (2 ^ 64 - 1)) ≡ mostDigits
+unfolding digits digitsUpTo
+most-word = refl

@@ -1,10 +1,11 @@
--- The digits of m written from the place `at` on, the last one first, and what holds after each. Assumes nothing.
+-- The digits of m written from the place `at` on, the last one first, and what holds after each; the digits as a part of the
+-- bytes. Assumes nothing.
 use Prim.Native.Nat.{ℕ, suc, _+_, _-_, _/_, _%_, _≤_, _<_}
 use mathlib.Core.Path.{_≡_, refl, sym, ap, _∙_}
 use mathlib.Core.List.{List, [], _∷_, _++_, append-assoc}
 use native.Mathlib.Omega.{arith}
-use lib.ListN.{length, take, drop, set, length-set, take-append-drop}
-use lib.Seq.{take-set-le, drop-cons, drop-set-lt, getD-set-same}
+use lib.ListN.{length, take, drop, set, length-set, length-take, take-append-drop}
+use lib.Seq.{take-at, take-set-le, drop-cons, drop-set-lt, getD-set-same}
 use Rattle.decimal.specs.Decimal.{digit, digits}
 use Rattle.decimal.specs.Contract.{WithDigits}
 use Rattle.decimal.proofs.Digits.{digits-small, digits-more, length-more, length-pos}
@@ -37,7 +38,7 @@ stored s place b h =
 
 module _ {m at next rest place : ℕ} {s₀ s : List ℕ} (w : Writing m at next s₀ s rest place) where
   -- no digit is written before `at`
-  pub from-first : at ≤ place
+  from-first : at ≤ place
   from-first = omega (arith, w .last, length-pos rest)
 
   -- there is a place for a further digit
@@ -80,3 +81,15 @@ module _ {m at next rest place : ℕ} {s₀ s : List ℕ} (w : Writing m at next
           ∙ ap (λ f. f ++ drop at (set s place (digit rest))) (take-set-le at s place (digit rest) from-first ∙ w .front)
           ∙ ap (λ b. take at s₀ ++ b) from
           ∙ sym (append-assoc (take at s₀) (digits m) (drop next s₀))
+
+-- ---- the digits at the front, as a part of the bytes
+
+pub digits-part : {m count : ℕ} {before after : List ℕ} → WithDigits m 0 before count after → take count after ≡ digits m
+digits-part {m} {count} {before} w =
+    ap (λ l. take count l) (w .bytes) ∙ take-at (digits m) (drop count before) count (omega (arith, w .place))
+
+pub digits-count : {m count : ℕ} {before after : List ℕ} → WithDigits m 0 before count after → count ≡ length (take count after)
+digits-count w = omega (arith, w .place, ap length (digits-part w))
+
+pub digits-within : {m count : ℕ} {before after : List ℕ} → WithDigits m 0 before count after → count ≤ length after
+digits-within {m} {count} {before} {after} w = omega (arith, digits-count w, length-take count after)

@@ -5,7 +5,7 @@ ghost use lib.ListN.{length};
 ghost use Rattle.decimal.specs.Decimal.{digits};
 ghost use Rattle.decimal.specs.Contract.{WithDigits};
 
-// The most digits of a number of 64 bits.
+// The most digits of a number of 64 bits. What lends so many bytes is proved to have room.
 pub const MOST_DIGITS: usize = 20;
 
 // How many digits m has.

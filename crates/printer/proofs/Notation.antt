@@ -5,15 +5,15 @@ use mathlib.Core.Bool.{true}
 use mathlib.Core.List.{[], _∷_}
 use native.Mathlib.Omega.{arith}
 use borrow.Author.Tests.{leb-true}
-use lib.IntN.{ℤ, pos, negsuc, natAbs}
+use lib.IntN.{ℤ, pos, negsuc, negℤ, natAbs}
 use lib.ListN.{length, getD}
 use Rattle.circuit.specs.Value.{Value, null, out, num, limit, inRange, wellFormed}
-use Rattle.decimal.specs.Decimal.{minus, decimal}
+use Rattle.decimal.specs.Decimal.{minus, digitsUpTo, digits, decimal}
 use Rattle.decimal.proofs.Digits.{length-pos, length-at-most}
 use Rattle.decimal.proofs.Notation.{first-digit, decimal-injective}
 use Rattle.printer.specs.Printing.{printed}
 
--- the longest text of a value: a sign and the 16 digits of the limit
+-- no text of a value is longer: a sign and the 16 digits of the limit
 abbrev pub longest : ℕ
 longest = 17
 
@@ -29,6 +29,11 @@ printed-fits (num z) h = go z (omega (arith, leb-true (natAbs z) limit (unfold i
     go : (z : ℤ) → natAbs z < 10 ^ 16 → length (decimal z) ≤ longest
     go (pos n) h = unfold decimal in omega (arith, length-at-most 15 n h)
     go (negsuc n) h = unfold decimal in omega (arith, length-at-most 15 (suc n) h)
+
+-- and one is as long
+pub longest-printed : length (printed (num (negℤ (pos limit)))) ≡ longest
+unfolding limit decimal digits digitsUpTo
+longest-printed = refl
 
 -- no value is printed as nothing
 pub printed-some : (v : Value) → 1 ≤ length (printed v)

@@ -2,7 +2,8 @@
 use native.Mathlib.Omega.{arith}
 use borrow.Author.Needs.{needs}
 use Rattle.decimal.proofs.Digits.{length-word}
-use Rattle.day_meaning.proofs.Storing.{digits-part, digits-count, digits-within, appended-as}
+use Rattle.decimal.proofs.Writing.{digits-part, digits-count, digits-within}
+use Rattle.day_meaning.proofs.Storing.{appended-as}
 use Rattle.day_line.proofs.append_number.Statement.{statement}
 use Rattle.day_line.proofs.append_number.Tie as tie
 
