@@ -13,7 +13,8 @@ use Rattle.circuit.specs.Value.{Value, same}
 use Rattle.circuit.specs.Circuit.{Listed}
 use Rattle.circuit.specs.Sheet.{Sheet, Spread, defer, renew, forget, size, itemAt, parents, spreadOf, isChild, member}
 use Rattle.circuit.specs.Table.{Table, Cell, Mark, unmarked, refresh, notice, unk, held, upd, isMarked}
-use Rattle.circuit.specs.Machine.{workOut, tellChild, tellCell, tellStored, tellIf, tellBelow, tell, clearMark, stepItem, stepCell, renewed, orNext, lowestMarked, stepLowest, catchUpIn, catchUp}
+use Rattle.circuit.specs.Machine.{workOut, tellChild, tellCell, tellStored, tellIf, tellBelow, tell, clearMark, stepItem, stepCell, renewed}
+use Rattle.circuit.specs.Machine.{orNext, lowestMarked, stepLowest, catchUpIn, catchUp}
 
 -- a member of the list is listed
 pub member-listed : (i : ℕ) (ps : List ℕ) → member i ps ≡ true → Listed i ps

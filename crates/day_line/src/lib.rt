@@ -22,9 +22,6 @@ const SPACE: [u8; 1] = *b" ";
 
 const LINE_END: [u8; 1] = *b"\n";
 
-// The scratch bytes that the printer asks for.
-const SCRATCH: usize = 20;
-
 pub fn lesser(a: usize, b: usize) -> usize
     ensures { λ r. ⌜ r ≡ min a b ⌝ }
 {
@@ -59,7 +56,7 @@ fn append_value(out: &mut [u8], at: usize, kind: u64, number: i64) -> usize
     requires { ⌜ at ≤ length (now out) ⌝ }
     ensures { λ r. ⌜ Appended (textOf (partsOf kind number)) (now (out .entry)) at r (now (out .exit)) ⌝ }
 {
-    let mut scratch = [0u8; SCRATCH];
+    let mut scratch = [0u8; printer::LEAST_SCRATCH];
     let part = printer::print(kind, number, &mut scratch);
     append(out, at, part)
 }

@@ -22,7 +22,7 @@ fn write_value(v: Value) {
         write(b"NULL");
         return;
     }
-    let mut scratch = [0u8; 20];
+    let mut scratch = [0u8; printer::LEAST_SCRATCH];
     let part = printer::print(v.kind() as u64, v.number_or_zero(), &mut scratch);
     write(part);
 }

@@ -247,7 +247,8 @@ module _ (s : List ℕ) (kept : Office) (lent : AcceptedLent s kept) where
             (blank b (λ h. absurd (unk-unrefreshed b (sym (mark-of i low (unk b) e) ∙ h))) (λ n. sym (mark-of i low (unk b) e)))
         pick (held v m) e =
             subst (λ d. DropLeaves (size (sheetOf s)) t i (encodeTable (sheetOf s) (upd (decodeTable t) i d))) (sym (ap dropCell e))
-            (blank (droppedMark m) (λ h. dropped-refresh m (sym (mark-of i low (held v m) e) ∙ h)) (λ n. dropped-other m (λ h. n (mark-of i low (held v m) e ∙ h)) ∙ sym (mark-of i low (held v m) e)))
+            (blank (droppedMark m) (λ h. dropped-refresh m (sym (mark-of i low (held v m) e) ∙ h))
+            (λ n. dropped-other m (λ h. n (mark-of i low (held v m) e ∙ h)) ∙ sym (mark-of i low (held v m) e)))
 
     step-leaves : (i : ℕ) → callOn s kept (step i) .number ≡ 0 → StepLeaves (sheetOf s) t i (callOn s kept (step i) .after .table)
     unfolding effect stepItem
@@ -283,7 +284,8 @@ module _ (s : List ℕ) (kept : Office) (lent : AcceptedLent s kept) where
                   let alike : same v (workOut S T i .value) ≡ true = ap (same v) (q ∙ known) ∙ same-refl v in
                   stepped (held v refresh) e
                   ∙ ap (encodeTable S)
-                  (ap (λ b. upd (workOut S T i .table) i (cond b (held v unmarked) (held (workOut S T i .value) notice))) alike ∙ ap (λ w. upd (workOut S T i .table) i (held w unmarked)) (sym known));
+                  (ap (λ b. upd (workOut S T i .table) i (cond b (held v unmarked) (held (workOut S T i .value) notice))) alike
+                  ∙ ap (λ w. upd (workOut S T i .table) i (held w unmarked)) (sym known));
               different = λ h n.
                   let known : valueOf t i ≡ v = ap valueIn e in
                   let unlike : same v (workOut S T i .value) ≡ false = differs v (workOut S T i .value) (λ q. n (sym q ∙ sym known)) in

@@ -17,7 +17,7 @@ fn line(text: &[u8])
 
 // The part that the printer hands back.
 fn show(kind: u64, number: i64) {
-    let mut scratch = [b'.'; 20];
+    let mut scratch = [b'.'; printer::LEAST_SCRATCH];
     let part = printer::print(kind, number, &mut scratch);
     line(part);
 }
@@ -42,12 +42,12 @@ fn show_all(kind: u64, number: i64, scratch: &mut [u8])
 
 // In scratch that is long enough, and in scratch that is one byte too short.
 fn in_twenty(kind: u64, number: i64) {
-    let mut scratch = [b'.'; 20];
+    let mut scratch = [b'.'; printer::LEAST_SCRATCH];
     show_all(kind, number, &mut scratch);
 }
 
 fn in_nineteen(kind: u64, number: i64) {
-    let mut scratch = [b'.'; 19];
+    let mut scratch = [b'.'; printer::LEAST_SCRATCH - 1];
     show_all(kind, number, &mut scratch);
 }
 

@@ -1,11 +1,11 @@
--- Printing a value's kind and number prints the value; the answer is small, and so is its one number. Assumes nothing.
+-- The printer's answer: its number, its size, and its one number. Assumes nothing.
 use Prim.Native.Nat.{ℕ, zero, suc, _≤_}
 use mathlib.Core.Path.{_≡_, refl, sym, ap, _∙_}
 use mathlib.Core.Bool.{Bool, true, false, cond}
 use mathlib.Core.List.{List, [], _∷_}
 use mathlib.Core.Option.{Option, none, some}
 use native.Mathlib.Omega.{arith}
-use borrow.Author.Tests.{eqb-true, le-ltb}
+use borrow.Author.Tests.{eqb-true}
 use lib.Dec.{eqb}
 use lib.IntN.{ℤ, pos, negℤ, _-ℤ_, +ℤ-idl}
 use mir.Syntax.{w64}
@@ -13,22 +13,17 @@ use mir.Val.{SFits, toZ}
 use mir.ValLaws.{toZ-ofZ}
 use lib.ListN.{length}
 use Rattle.circuit.specs.Calls.{test, firstCause}
-use Rattle.circuit.specs.Value.{Value, wellFormed, kindOf, numberOf}
+use Rattle.circuit.specs.Value.{Value}
 use Rattle.value.specs.Meaning.{partsOf}
-use Rattle.circuit.proofs.Parts.{parts-own, parts-some}
+use Rattle.circuit.proofs.Parts.{parts-some}
 use Rattle.printer.specs.declared.Printed.{Printed}
 use Rattle.printer.specs.declared.Printed.the-variants.{Length, Refused}
 use Rattle.field.specs.Bytes.{over}
-use Rattle.printer.specs.Printing.{printed, textOf, noValue, scratchShort, printCause, partOf}
+use Rattle.printer.specs.Printing.{textOf, noValue, scratchShort, printCause, partOf}
 use Rattle.printer.specs.Contract.{answerOf, codeOf, Prints, PrintsCode}
 use Rattle.printer.proofs.Answers.{refusalOf, lengthOf}
 use Rattle.printer.proofs.Values.{part-length}
 use Rattle.printer.proofs.Notation.{longest, printed-fits}
-
--- the part that the printer hands back for a value, in scratch that is long enough, is what is printed of it
-pub part-of-value : (v : Value) (count : ℕ) → wellFormed v ≡ true → 20 ≤ count → partOf (kindOf v) (numberOf v) count ≡ printed v
-unfolding firstCause
-part-of-value v count h l = rw (parts-own v h, le-ltb count 20 l)
 
 -- the answer's number is the first cause that holds
 pub refusal-is : (kind : ℕ) (z : ℤ) (count : ℕ) → refusalOf (answerOf kind z count) ≡ printCause kind z count

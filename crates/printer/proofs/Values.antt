@@ -25,7 +25,7 @@ use Rattle.printer.specs.declared.Printed.the-variants.{Length, Refused}
 use Rattle.decimal.specs.Decimal.{digits, decimal, minus}
 use Rattle.decimal.specs.Contract.{WithDigits}
 use Rattle.decimal.proofs.Digits.{length-at-most}
-use Rattle.printer.specs.Printing.{printed, textOf, printCause, partOf}
+use Rattle.printer.specs.Printing.{printed, textOf, leastScratch, printCause, partOf}
 use Rattle.printer.specs.Contract.{answerOf, Front, Prints}
 use Rattle.printer.proofs.Answers.{lengthOf}
 
@@ -83,14 +83,14 @@ unfolding firstCause
 refused-value kind z s e = record { answers = rw e; bytes = rw e }
 
 module _ (kind : ℕ) (z : ℤ) (v : Value) (e : partsOf kind z ≡ some v) where
-  pub refused-scratch : (s : List ℕ) → length s < 20 → Prints kind z s (Refused 15) s
+  pub refused-scratch : (s : List ℕ) → length s < leastScratch → Prints kind z s (Refused 15) s
   unfolding firstCause
-  refused-scratch s h = record { answers = rw (e, lt-ltb (length s) 20 h); bytes = rw (e, lt-ltb (length s) 20 h) }
+  refused-scratch s h = record { answers = rw (e, lt-ltb (length s) leastScratch h); bytes = rw (e, lt-ltb (length s) leastScratch h) }
 
-  pub accepted : (s s′ : List ℕ) (n : ℕ) → 20 ≤ length s → Front (printed v) s n s′ → Prints kind z s (Length n) s′
+  pub accepted : (s s′ : List ℕ) (n : ℕ) → leastScratch ≤ length s → Front (printed v) s n s′ → Prints kind z s (Length n) s′
   unfolding firstCause
   accepted s s′ n h f =
-      record { answers = rw (e, le-ltb (length s) 20 h) (ap Length (f .size)); bytes = rw (e, le-ltb (length s) 20 h) (f .bytes) }
+      record { answers = rw (e, le-ltb (length s) leastScratch h) (ap Length (f .size)); bytes = rw (e, le-ltb (length s) leastScratch h) (f .bytes) }
 
 -- the part is as long as the answer says, and stands at the front
 length-answered : (kind : ℕ) (z : ℤ) (count : ℕ) → lengthOf (answerOf kind z count) ≡ length (partOf kind z count)

@@ -5,7 +5,7 @@ ghost use lib.ListN.{length};
 ghost use lib.IntN.{natAbs};
 ghost use Rattle.value.specs.Meaning.{meaning};
 ghost use Rattle.decimal.specs.Decimal.{decimal};
-ghost use Rattle.printer.specs.Printing.{printed, partOf};
+ghost use Rattle.printer.specs.Printing.{printed, leastScratch, partOf};
 ghost use Rattle.printer.specs.Contract.{Front, Prints, PrintsCode};
 use value::Amount;
 use value::Parts;
@@ -17,6 +17,9 @@ pub enum Printed {
     Refused(u64),
 }
 
+// The fewest bytes of scratch that the printer takes.
+pub const LEAST_SCRATCH: usize = 20;
+
 // The magnitude of z. Below 0 it is 1 more than -1 - z, which fits.
 fn magnitude(z: i64) -> u64
     ensures { λ r. ⌜ r ≡ natAbs z ⌝ }
@@ -26,7 +29,7 @@ fn magnitude(z: i64) -> u64
 
 // Writes a number at the front: at most a sign and 19 digits.
 fn put_number(z: i64, scratch: &mut [u8]) -> usize
-    requires { ⌜ 20 ≤ length (now scratch) ⌝ }
+    requires { ⌜ leastScratch ≤ length (now scratch) ⌝ }
     ensures { λ r. ⌜ Front (decimal z) (now (scratch .entry)) r (now (scratch .exit)) ⌝ }
 {
     let m = magnitude(z);
@@ -52,7 +55,7 @@ fn put_mark(mark: &[u8], scratch: &mut [u8]) -> usize
 
 // Writes a value.
 fn put_value(v: Value, scratch: &mut [u8]) -> usize
-    requires { ⌜ 20 ≤ length (now scratch) ⌝ }
+    requires { ⌜ leastScratch ≤ length (now scratch) ⌝ }
     ensures { λ r. ⌜ Front (printed (meaning v)) (now (scratch .entry)) r (now (scratch .exit)) ⌝ }
 {
     let a = v.amount;
@@ -70,7 +73,7 @@ pub fn print_into(kind: u64, number: i64, scratch: &mut [u8]) -> Printed
     match Value::from_parts(kind, number) {
         Parts::Unformed => Printed::Refused(10),
         Parts::Formed(v) => {
-            if scratch.len() < 20 {
+            if scratch.len() < LEAST_SCRATCH {
                 return Printed::Refused(15);
             }
             Printed::Length(put_value(v, scratch))

@@ -28,7 +28,8 @@ joined8 s at p q r t u v w z = rw (p, q, r, t, u, v, w, z) (le8 s at)
 
 -- eight stores, one after the other
 pub stored8 : (s : List ℕ) (at a b c d e f g h : ℕ)
-    → set (set (set (set (set (set (set (set s at a) (at + 1) b) (at + 2) c) (at + 3) d) (at + 4) e) (at + 5) f) (at + 6) g) (at + 7) h ≡ sets s at (a ∷ b ∷ c ∷ d ∷ e ∷ f ∷ g ∷ h ∷ [])
+    → set (set (set (set (set (set (set (set s at a) (at + 1) b) (at + 2) c) (at + 3) d) (at + 4) e) (at + 5) f) (at + 6) g) (at + 7) h
+    ≡ sets s at (a ∷ b ∷ c ∷ d ∷ e ∷ f ∷ g ∷ h ∷ [])
 stored8 s at a b c d e f g h = simp towards-suc
 
 pub stored64 : (s : List ℕ) (at x : ℕ) {a b c d e f g h : ℕ} → a ≡ x % 256 → b ≡ x / 256 % 256 → c ≡ x / 256 / 256 % 256

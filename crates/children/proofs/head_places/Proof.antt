@@ -45,9 +45,10 @@ mul-heads c =
 slice-write-heads : tie.Need-slice-write-heads Inv-loop μ-loop
 slice-write-heads c =
     let a = c .before .before .before .before .before .before in
-    let low = place-low (parentsOf (fieldItem (a .args .s .now) (a .args .at))) (a .pre .1 .0) (c .before .before .loop .k) _ _ (c .parent .ensures)
-    (c .before .before .before .parent-count .ensures .count-is) (c .before .loop-test .taken) in
-    let kept = ap length (c .before .before .loop .inv .1) ∙ heads-length (a .args .heads .now) (a .args .first) (parentsOf (fieldItem (a .args .s .now) (a .args .at))) (c .before .before .loop .k) in
+    let ps = parentsOf (fieldItem (a .args .s .now) (a .args .at)) in
+    let k = c .before .before .loop .k in
+    let low = place-low ps (a .pre .1 .0) k _ _ (c .parent .ensures) (c .before .before .before .parent-count .ensures .count-is) (c .before .loop-test .taken) in
+    let kept = ap length (c .before .before .loop .inv .1) ∙ heads-length (a .args .heads .now) (a .args .first) ps k in
     omega (arith, low, kept)
 
 add-k : tie.Need-add-k Inv-loop μ-loop

@@ -1,4 +1,4 @@
--- `day_line::append_value` meets its contract: in 20 bytes the printer prints the whole text. Assumes nothing.
+-- `day_line::append_value` meets its contract: in the least scratch the printer prints the whole text. Assumes nothing.
 use mathlib.Core.Path.{refl, _∙_}
 use mir.Syntax.{w64}
 use mir.ValLaws.{toZ-ofZ}

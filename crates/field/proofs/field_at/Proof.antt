@@ -130,7 +130,8 @@ module _ {M : Type 1} (𝓤 : URA M) (H : Heap 𝓤) (A : Atoms 𝓤) (W : Given
       suffices ! _ (ends-at 𝓤 H A field-at.ended stayed (field-at.clauses 𝓤 H A mem run) W (((κ, tt), (q, tt), tt, (s, (n, tt)), at), tt) u t (tt, (tt, tt)) (tt, (tt, tt))) $ says ! e $
       move ! (1 ∷ []) $ frame ! $ nothing ! $ owned ! usize (Is usize) (uint-makes 𝓤 H A W w64) n _ (refl, ok) $ fjoin ! $ move ! (2 ∷ 0 ∷ []) $ fjoin ! $ frame ! $ done !
 
-  module _ (C : Calls 𝓤 H) (Λ : Loops 𝓤 H) (fm : FmC 𝓤 H (W .laws) C) (known-new : Triple 𝓤 (C #field·new) (New 𝓤 H A mem run)) (known-field : Triple 𝓤 (C #field·field) (FieldOf 𝓤 H A mem run)) where
+  module _ (C : Calls 𝓤 H) (Λ : Loops 𝓤 H) (fm : FmC 𝓤 H (W .laws) C) (known-new : Triple 𝓤 (C #field·new) (New 𝓤 H A mem run))
+      (known-field : Triple 𝓤 (C #field·field) (FieldOf 𝓤 H A mem run)) where
     walk : Is (ShrSlice (named 0) κ u8) s (v ∷ [])
         → ent 𝓤 (onEntry 𝓤 H A field-at.signature (κ, tt) (q, tt) (s, (n, tt)) at) (WpFn 𝓤 H C Λ code.function (v ∷ vint w64 n ∷ []) Post)
     walk p =
@@ -146,7 +147,8 @@ module _ {M : Type 1} (𝓤 : URA M) (H : Heap 𝓤) (A : Atoms 𝓤) (W : Given
         move ! (8 ∷ []) $ use1 W (raw (New 𝓤 H A mem run .pre to-new) ⊛ ‵ Own) goes-new $ split ! $
         calls-at ! fm (New 𝓤 H A mem run) known-new to-new (and-then ! (load ! (from ! (stop !)) (look ! 6 refl)) (and-then ! (load ! (from ! (stop !)) (look ! 4 refl)) (no-more !))) (λ u.
         use1 W
-        (later (some (λ (r : Reader). ((‵ (flft κ q) ⊛ ‵ ftrue) ⊛ ‵ (B (κ, tt) .own r (u ∷ []))) ⊛ raw (ensured 𝓤 H A new.ended (new.clauses 𝓤 H A mem run) (κ, tt) (s, (n, tt)) tt r))))
+        (later (some (λ (r : Reader). ((‵ (flft κ q) ⊛ ‵ ftrue) ⊛ ‵ (B (κ, tt) .own r (u ∷ [])))
+        ⊛ raw (ensured 𝓤 H A new.ended (new.clauses 𝓤 H A mem run) (κ, tt) (s, (n, tt)) tt r))))
         (id⊢ 𝓤 _) $ await ! tt $ pick ! (λ r.
         split ! $ move ! (1 ∷ []) $ use1 W (raw (fact 𝓤 ((r .src ≡ s) × (r .at ≡ n)))) (new-said r) $ heard ! ((r .src ≡ s) × (r .at ≡ n)) (λ e. split ! $ move ! (1 ∷ []) $
         -- [what the struct owns; the token; what s owns; room for _3; …; _2; …; _1; …; room for _0; …]
@@ -155,7 +157,8 @@ module _ {M : Type 1} (𝓤 : URA M) (H : Heap 𝓤) (A : Atoms 𝓤) (W : Given
         use2 W (raw (FieldOf 𝓤 H A mem run .pre (to-field r u))) (goes-field r u) $
         calls-at ! fm (FieldOf 𝓤 H A mem run) known-field (to-field r u) (and-then ! (load ! (from ! (stop !)) (look ! 2 refl)) (no-more !)) (λ u′.
         use1 W
-        (later (some (λ (t : Cut). ((‵ (flft κ q) ⊛ ‵ ftrue) ⊛ ‵ (K.the-row .own t (u′ ∷ []))) ⊛ raw (ensured 𝓤 H A field.ended (field.clauses 𝓤 H A mem run) (κ, tt) (r, tt) tt t))))
+        (later (some (λ (t : Cut). ((‵ (flft κ q) ⊛ ‵ ftrue) ⊛ ‵ (K.the-row .own t (u′ ∷ [])))
+        ⊛ raw (ensured 𝓤 H A field.ended (field.clauses 𝓤 H A mem run) (κ, tt) (r, tt) tt t))))
         (id⊢ 𝓤 _) $ await ! tt $ pick ! (λ t.
         split ! $ move ! (1 ∷ []) $ use1 W (raw (fact 𝓤 (t ≡ cutAt (now (r .src)) (r .at)))) (field-said r t) $ heard ! (t ≡ cutAt (now (r .src)) (r .at))
         (λ e′. split ! $ move ! (1 ∷ []) $
