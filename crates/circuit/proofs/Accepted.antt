@@ -8,7 +8,7 @@ use lib.IntN.{ℤ}
 use borrow.Author.Tests.{leb-false, not-false}
 use Rattle.circuit.specs.Sheet.{Sheet, size, itemAt, isFigure}
 use Rattle.circuit.specs.Table.{Table, isMarked}
-use Rattle.circuit.specs.Call.{Call, post, keep, drop, step, ask, board}
+use Rattle.circuit.specs.Call.{Call, post, keep, drop, step, ask, board, close}
 use Rattle.circuit.specs.Board.{listed}
 use Rattle.circuit.specs.Calls.{Test, test, tests, firstCause, someNoItem, showItems, effect, effectUnless, perform}
 
@@ -40,6 +40,7 @@ effect-number S T (board items results) = go (listed items)
     go : (is : List ℕ) → showItems S T is .number ≡ 0
     go [] = refl
     go (i ∷ is) = refl
+effect-number S T close = refl
 
 -- a call that met no cause has its effect
 pub accepted-effect : (S : Sheet) (T : Table) (c : Call) → firstCause (tests S T c) ≡ 0 → perform S T c ≡ effect S T c

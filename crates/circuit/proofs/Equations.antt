@@ -3,19 +3,22 @@ use Prim.Native.Nat.{ℕ}
 use mathlib.Core.Path.{_≡_, refl, sym, ap, _∙_}
 use mathlib.Core.Bool.{Bool, true, false, cond}
 use mathlib.Core.Logic.{_⊎_, inl, inr}
+use mathlib.Core.List.{map}
 use mathlib.Core.Option.{some}
 use borrow.Author.Tests.{le-leb, lt-leb}
-use Rattle.circuit.specs.Sheet.{Sheet, defer, renew, size, itemAt, parents, spreadOf, member, Ordered, Entries}
-use Rattle.circuit.specs.Table.{Table, Mark, unmarked, refresh, notice, held, upd, isNotice}
+use Rattle.circuit.specs.Sheet.{Sheet, defer, renew, size, itemAt, isFigure, parents, parentsOf, spreadOf, member, evaluate, Ordered, Entries}
+use Rattle.circuit.specs.Table.{Table, Mark, unmarked, refresh, notice, held, upd, valueIn, isNotice}
 use Rattle.circuit.specs.Value.{Value, same}
 use Rattle.circuit.specs.Circuit.{Listed}
-use Rattle.circuit.specs.Machine.{gather, workOutBy, lookCell, lookUp, workOut, refreshCleared, renewChild, deferChild, tellStored, tellCell, tellChild, tellIf, tellBelow, tell, lowestMarked}
+use Rattle.circuit.specs.Machine.{looked, gather, workOutBy, lookCell, lookUp, workOut, refreshCleared, renewChild, deferChild, tellStored, tellCell, tellChild, tellIf, tellBelow, tell, lowestMarked}
+use Rattle.circuit.specs.Closing.{closedValue, closeItem, closeBelow, closeAll}
 use Rattle.circuit.specs.Fresh.{give, freshAsk, giveItem}
 use Rattle.circuit.specs.Words.{CaughtUp, still, stepped}
-use Rattle.circuit.specs.Equations.{LookingUp, TellingChild, Telling, FreshGives, MarkedFirst, LowestFound, Equations}
+use Rattle.circuit.specs.Equations.{LookingUp, TellingChild, Telling, Closing, FreshGives, MarkedFirst, LowestFound, Equations}
 use Rattle.circuit.proofs.View.{never}
 use Rattle.circuit.proofs.Fill.{lookUp-is}
-use Rattle.circuit.proofs.Solution.{give-equation}
+use Rattle.circuit.proofs.Solution.{give-equation, figure-below}
+use Rattle.circuit.proofs.Closing.{close-works}
 use Rattle.circuit.proofs.Closure.{lowest-marked, member-listed}
 use Rattle.circuit.proofs.Tell.{listed-member}
 use Rattle.circuit.proofs.RuleLaws.{same-true, same-refl}
@@ -94,6 +97,22 @@ telling S i T =
     unlisted true k n e = absurd (n (member-listed i (parents S k) e))
     unlisted false k n e = refl
 
+closing-run : (S : Sheet) → Ordered S → (T : Table) → Closing S T
+unfolding closeAll closeBelow closeItem closedValue
+closing-run S ordered T =
+    record {
+      all = refl;
+      none-closed = refl;
+      entry-closed = λ k it. let U : Table = closeBelow S T k in ap (λ x. upd U k (held (evaluate x (valueIn (U k)) (map (λ p. valueIn (U p)) (parentsOf x))) unmarked)) it;
+      figure-closed = λ k op keep spread ps it.
+          let U : Table = closeBelow S T k in
+          let value = ap (λ x. evaluate x (valueIn (U k)) (map (λ p. valueIn (U p)) (parentsOf x))) it in
+          (
+            ap (λ v. upd U k (held v unmarked)) value,
+            close-works S ordered T k (figure-below S k (ap isFigure it)) (ap isFigure it) ∙ ap (λ v. looked U v false) value,
+          );
+    }
+
 fresh-gives : (S : Sheet) → Ordered S → (E : Entries) → FreshGives S E
 unfolding freshAsk
 fresh-gives S ordered E =
@@ -129,6 +148,7 @@ equations =
       looking = looking-up;
       telling-child = telling-child;
       telling = telling;
+      closing = closing-run;
       fresh = fresh-gives;
       lowest = lowest-item;
       catching = λ S ordered T.

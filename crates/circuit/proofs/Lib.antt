@@ -15,7 +15,9 @@ pub mod CatchUp
 pub mod Equations
 pub mod Memo
 pub mod Reading
+pub mod Closing
 pub mod Sound
+pub mod KeepEvery
 pub mod Board
 pub mod Offices
 pub mod Steps

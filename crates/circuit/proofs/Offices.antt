@@ -12,7 +12,7 @@ use Rattle.circuit.specs.Circuit.{IsSolution}
 use Rattle.circuit.specs.Sheet.{Sheet, size, itemAt, beyond, isFigure, Ordered, Entries, circuitOf}
 use Rattle.circuit.specs.Table.{Table, opened}
 use Rattle.circuit.specs.Machine.{lookUp, catchUp}
-use Rattle.circuit.specs.Call.{Call, post, keep, drop, step, ask, board, Posting, Opening, bare, full}
+use Rattle.circuit.specs.Call.{Call, post, keep, drop, step, ask, board, close, Posting, Opening, bare, full}
 use Rattle.circuit.specs.Board.{listed, listsWrong}
 use Rattle.circuit.specs.Calls.{Outcome, tests, firstCause, isNone, someNoItem, postedValue, showItems, effect, effectUnless, perform, run, postingOf, ifAccepted, postingsMade, postings}
 use Rattle.circuit.specs.Fresh.{called, blank, setEntry, hear, hearAll, give, freshAsk, valuesWith, freshAsks, freshRun}
@@ -79,6 +79,7 @@ hear-made S E T (drop i) = rw (none-made (perform S T (drop i) .number))
 hear-made S E T (step i) = rw (none-made (perform S T (step i) .number))
 hear-made S E T (ask i) = rw (none-made (perform S T (ask i) .number))
 hear-made S E T (board items results) = rw (none-made (perform S T (board items results) .number))
+hear-made S E T close = refl
 
 -- so the postings decide what it holds
 pub fresh-entered : (S : Sheet) (cs : List Call) (E : Entries) (T : Table) → freshRun S E cs ≡ entered E (postings S T cs)

@@ -16,17 +16,20 @@ use Rattle.circuit.specs.Circuit.{IsSolution, Listed, LeadsTo, direct, f
 use Rattle.circuit.specs.Sheet.{Sheet, Item, entry, figure, itemAt, isFigure, size, parents, Ordered, Entries, circuitOf, evaluate}
 use Rattle.circuit.specs.Table.{Table, Cell, unmarked, refresh, notice, unk, held, isStored, valueIn, isMarked, cellForm}
 use Rattle.circuit.specs.Machine.{workOut, keepFigure, dropFigure, dropCell, stepItem, catchUp, storePosting, postCell}
-use Rattle.circuit.specs.Call.{Call, post, keep, drop, step, ask, board}
+use Rattle.circuit.specs.Call.{Call, post, keep, drop, step, ask, board, close}
 use Rattle.circuit.specs.Board.{listed}
 use Rattle.circuit.specs.Calls.{postedValue, postIt, postingOf, tests, firstCause, showItems, effect, effectUnless, perform, run, postingsMade, postingBy, ifAccepted, postings, drops}
+use Rattle.circuit.specs.Closing.{closeAll}
+use Rattle.circuit.specs.Fresh.{give}
 use Rattle.circuit.specs.Words.{Formed, Quiet, Holds, droppedIn}
 use Rattle.circuit.proofs.RuleLaws.{or-false}
 use Rattle.circuit.proofs.View.{seen, anyFlag, view, result, strong, any-none, view-at}
 use Rattle.circuit.proofs.Fill.{Filling, stays, fills, Fill, upd-cases, upd-other, look-right, looks-right, work-right, keep-fill}
-use Rattle.circuit.proofs.Solution.{map-listed, solution, solution-solves, sheet-acyclic, entry-value, figure-value}
+use Rattle.circuit.proofs.Solution.{map-listed, solution, solution-solves, sheet-acyclic, entry-value, figure-value, give-solves}
 use Rattle.circuit.proofs.Invariant.{Invariant}
 use Rattle.circuit.proofs.Reading.{quiet-exact, exact-solution}
 use Rattle.circuit.proofs.Closure.{Closed, step-closed, catchUp-closed}
+use Rattle.circuit.proofs.Closing.{close-at}
 use Rattle.circuit.proofs.Accepted.{effect-number, keep-passed, drop-passed, step-passed}
 
 -- k is neither e nor led to by e
@@ -236,6 +239,26 @@ module _ (S : Sheet) (ordered : Ordered S) (e : ℕ) (E : Entries) (m : ℕ → 
   show-further T [] confined = λ k low outside. same
   show-further T (i ∷ is) confined = caught-further T _ confined (looks-right S ordered (catchUp S T) (i ∷ is) .fill)
 
+  -- The season-close run writes every cell. Outside it writes the solution's values: the entries outside hold theirs, so the solution
+  -- under the entries that the table holds is the same there.
+  close-further : (T : Table) → Confined T → Further T (closeAll S T)
+  close-further T confined k low outside = subst (Onward (m k) (T k)) (sym closed) (onward (confined k low outside))
+    where
+      D : Entries
+      D = λ i. valueIn (T i)
+
+      value : m k ≡ give S D k
+      value =
+          outside-agree S ordered e E D m (give S D) solves (give-solves S ordered D)
+          (λ i l f o. sym (entry-value S E solves i l f) ∙ sym (calm-entry (confined i l o) f)) k low outside
+
+      closed : closeAll S T k ≡ held (m k) unmarked
+      closed = close-at S ordered D T (λ i l f. refl) k low ∙ ap (λ v. held v unmarked) (sym value)
+
+      onward : {c : Cell} → Calm (itemAt S k) (m k) c → Onward (m k) c (held (m k) unmarked)
+      onward (away f) = filled
+      onward there = same
+
   -- an accepted call that makes no posting
   accepted-left : (T : Table) (c : Call) → Confined T → firstCause (tests S T c) ≡ 0 → postingBy c ≡ [] → Left (drops c) T (effect S T c .table)
   unfolding effect
@@ -252,6 +275,7 @@ module _ (S : Sheet) (ordered : Ordered S) (e : ℕ) (E : Entries) (m : ℕ → 
       left-further (drops (ask i)) T _ confined (caught-further T _ confined (look-right S ordered (catchUp S T) i .fill))
   accepted-left T (board items results) confined h none′ =
       left-further (drops (board items results)) T _ confined (show-further T (listed items) confined)
+  accepted-left T close confined h none′ = left-further (drops close) T (closeAll S T) confined (close-further T confined)
 
   -- a call that makes no posting
   perform-left : (T : Table) (c : Call) → postingsMade S T c ≡ [] → Confined T → Left (drops c) T (perform S T c .table)
@@ -289,6 +313,7 @@ drop-words c k = (is-drop c, λ e. subst (λ d. drops d k ≡ true) (sym e) (eq-
     is-drop (step i) h = cc
     is-drop (ask i) h = cc
     is-drop (board items results) h = cc
+    is-drop close h = cc
 
 stored-entry : (it : Item) (c : Cell) → cellForm it c ≡ true → isFigure it ≡ false → isStored c ≡ true
 stored-entry entry (unk f) h g = let bad : _≡_ {A = ℕ} 0 1 = cc in absurd (omega arith)

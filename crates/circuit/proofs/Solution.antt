@@ -7,7 +7,9 @@ use mathlib.Core.Logic.{inl, inr}
 use mathlib.Core.List.{List, [], _∷_, map}
 use native.Mathlib.Omega.{arith}
 use native.Mathlib.Decide.{ℕ-discrete}
-use lib.ListN.{length}
+use lib.Dec.{ltb}
+use lib.ListN.{length, List·getD-eq-default}
+use borrow.Author.Tests.{ltb-true, ltb-false}
 use Rattle.circuit.specs.Value.{Value, null}
 use Rattle.circuit.specs.Circuit.{Circuit, Listed, LeadsTo, direct, further, FiniteAcyclic, IsSolution}
 use Rattle.circuit.specs.Sheet.{Sheet, Item, entry, figure, size, itemAt, isFigure, parents, parentsOf, Ordered, Entries, evaluate, numbersBelow, circuitOf}
@@ -132,6 +134,17 @@ sheet-acyclic S ordered =
     root : (it : Item) → not (isFigure it) ≡ true → parentsOf it ≡ []
     root entry e = refl
     root (figure op keep spread ps) e = let bad : _≡_ {A = ℕ} 0 1 = cc in absurd (omega arith)
+
+-- a figure is an item of the sheet
+pub figure-below : (S : Sheet) (k : ℕ) → isFigure (itemAt S k) ≡ true → k < size S
+figure-below S k f = go (ltb k (size S)) refl
+  where
+    go : (b : Bool) → ltb k (size S) ≡ b → k < size S
+    go true e = ltb-true k (size S) e
+    go false e =
+        let d : itemAt S k ≡ entry = List·getD-eq-default S entry {n = k} (ltb-false k (size S) e) in
+        let z : _≡_ {A = Bool} false true = rw d at f in
+        let bad : _≡_ {A = ℕ} 0 1 = cc in absurd (omega arith)
 
 -- a solution of the sheet's circuit: an entry's value and a figure's
 module _ (S : Sheet) (E : Entries) {m : ℕ → Value} (solves : IsSolution (circuitOf S) E m) (i : ℕ) (low : i < size S) where

@@ -13,9 +13,10 @@ use Rattle.circuit.specs.Circuit.{Listed}
 use Rattle.circuit.specs.Sheet.{Sheet, Item, entry, figure, size, itemAt, beyond, isFigure, parentsOf, Ordered, Entries}
 use Rattle.circuit.specs.Table.{Table, Cell, unmarked, refresh, notice, unk, held, upd, valueIn, entryForm, cellForm, bareCell, openBare, openFull}
 use Rattle.circuit.specs.Machine.{lookUp, workOut, postCell, storePosting, keepFigure, dropFigure, tell, clearCell, clearMark, stepCell, stepItem, catchUp}
-use Rattle.circuit.specs.Call.{Call, post, keep, drop, step, ask, board}
+use Rattle.circuit.specs.Call.{Call, post, keep, drop, step, ask, board, close}
 use Rattle.circuit.specs.Board.{listed}
 use Rattle.circuit.specs.Calls.{tests, firstCause, isNone, postedValue, showItems, effect, effectUnless, perform, run}
+use Rattle.circuit.specs.Closing.{closeAll}
 use Rattle.circuit.specs.Fresh.{called, blank, setEntry, hear, hearAll, freshRun}
 use Rattle.circuit.specs.Words.{Formed, Holds}
 use Rattle.circuit.proofs.RuleLaws.{same-true}
@@ -26,6 +27,7 @@ use Rattle.circuit.proofs.Invariant.{Invariant, changes-kept, fill-chan
 use Rattle.circuit.proofs.Tell.{step-kept}
 use Rattle.circuit.proofs.Closure.{tell-closed, catchUp-closed}
 use Rattle.circuit.proofs.Accepted.{keep-passed, drop-passed}
+use Rattle.circuit.proofs.Closing.{close-invariant, close-formed, close-holds}
 
 -- what every call keeps
 pub record Sound (S : Sheet) (E : Entries) (T : Table) : Type 0 where
@@ -191,6 +193,11 @@ module _ (S : Sheet) (ordered : Ordered S) (E : Entries) where
   show-sound T [] sound = sound
   show-sound T (i ∷ is) sound = fill-sound (catchUp S T) _ (looks-right S ordered (catchUp S T) (i ∷ is) .fill) (catchUp-sound T sound)
 
+  -- whatever the table was, the season-close run leaves a sound one, with the entries that the table held
+  pub close-sound : (T : Table) → Holds S T E → Sound S E (closeAll S T)
+  close-sound T holds =
+      record { invariant = close-invariant S ordered E T holds; formed = close-formed S ordered E T holds; holds = close-holds S ordered E T holds }
+
   -- a post, refused or not
   post-heard : (T : Table) (i kind : ℕ) (z : ℤ) → Sound S E T
       → Sound S (hear S E (called (post i kind z))) (perform S T (post i kind z) .table)
@@ -226,6 +233,7 @@ module _ (S : Sheet) (ordered : Ordered S) (E : Entries) where
       heard T (ask i) sound
       (λ e. fill-sound (catchUp S T) (lookUp S (catchUp S T) i .table) (look-right S ordered (catchUp S T) i .fill) (catchUp-sound T sound))
   perform-sound T (board items results) sound = heard T (board items results) sound (λ e. show-sound T (listed items) sound)
+  perform-sound T close sound = heard T close sound (λ e. close-sound T (sound .holds))
 
 -- and so does every list of calls
 pub run-sound : (S : Sheet) → Ordered S → (cs : List Call) (E : Entries) (T : Table) → Sound S E T

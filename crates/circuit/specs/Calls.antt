@@ -9,8 +9,9 @@ use lib.IntN.{ℤ}
 use Rattle.circuit.specs.Value.{Value, partsOf}
 use Rattle.circuit.specs.Sheet.{Sheet, itemAt, isFigure, beyond}
 use Rattle.circuit.specs.Table.{Table, isMarked}
-use Rattle.circuit.specs.Call.{Call, post, keep, drop, step, ask, board, Posting}
+use Rattle.circuit.specs.Call.{Call, post, keep, drop, step, ask, board, close, Posting}
 use Rattle.circuit.specs.Board.{listed, listsWrong}
+use Rattle.circuit.specs.Closing.{closeAll}
 use Rattle.circuit.specs.Machine.{Looked, Gathered, gather, storePosting, keepFigure, dropFigure, stepItem, catchUp, lookUp}
 
 -- The value of a posted kind and number, in form, and not OUT, which cannot be posted; none is refused (13).
@@ -63,6 +64,7 @@ tests S T (drop i) = test 11 (noItem S i) ∷ test 12 (notFigure S i) ∷ []
 tests S T (step i) = test 11 (noItem S i) ∷ test 14 (noMark T i) ∷ []
 tests S T (ask i) = test 11 (noItem S i) ∷ []
 tests S T (board items results) = test 17 (listsWrong items results) ∷ test 11 (someNoItem S (listed items)) ∷ []
+tests S T close = []
 
 -- what a call gives: its number, the value of an accepted ask, the values of an accepted board, and the table afterwards
 pub record Outcome : Type 0 where
@@ -98,6 +100,7 @@ effect S T (drop i) = outcome 0 none (dropFigure T i)
 effect S T (step i) = outcome 0 none (stepItem S T i)
 effect S T (ask i) = readingOf (lookUp S (catchUp S T) i)
 effect S T (board items results) = showItems S T (listed items)
+effect S T close = outcome 0 none (closeAll S T)
 
 abbrev pub effectUnless : ℕ → Sheet → Table → Call → Outcome
 effectUnless zero S T c = effect S T c
@@ -124,6 +127,7 @@ postingBy (drop i) = []
 postingBy (step i) = []
 postingBy (ask i) = []
 postingBy (board items results) = []
+postingBy close = []
 
 abbrev pub ifAccepted : ℕ → List Posting → List Posting
 ifAccepted zero ps = ps
@@ -146,3 +150,4 @@ drops (drop i) k = eqb k i
 drops (step i) k = false
 drops (ask i) k = false
 drops (board items results) k = false
+drops close k = false

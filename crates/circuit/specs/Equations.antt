@@ -1,6 +1,6 @@
 -- Looking up, working out, catching up and the fresh office recurse with a bound on the depth or on the number of steps,
--- which 01 does not have. Here are their equations without a bound, and those of telling, in 01's words, for every sheet whose parents have
--- lower numbers, every table and every item. Proved in proofs/Equations. Assumes nothing.
+-- which 01 does not have. Here are their equations without a bound, and those of telling and of the season-close run, in the papers'
+-- words, for every sheet whose parents have lower numbers, every table and every item. Proved in proofs/Equations. Assumes nothing.
 use Prim.Native.Nat.{ℕ, suc, _<_, _≤_}
 use mathlib.Core.Path.{_≡_}
 use mathlib.Core.Logic.{_⊎_, _↔_}
@@ -10,8 +10,9 @@ use mathlib.Core.Option.{none, some}
 use Rattle.circuit.specs.Value.{Value}
 use Rattle.circuit.specs.Rules.{Operation, apply}
 use Rattle.circuit.specs.Sheet.{Sheet, Spread, defer, renew, forget, entry, figure, size, itemAt, parents, spreadOf, Ordered, Entries}
-use Rattle.circuit.specs.Table.{Table, Mark, refresh, notice, unk, held, upd, isNotice, noticeIf, isMarked}
+use Rattle.circuit.specs.Table.{Table, Mark, unmarked, refresh, notice, unk, held, upd, valueIn, isNotice, noticeIf, isMarked}
 use Rattle.circuit.specs.Machine.{Looked, looked, Gathered, gathered, gather, lookUp, workOut, refreshCleared, tellChild, tellBelow, tell, lowestMarked, catchUp}
+use Rattle.circuit.specs.Closing.{closeBelow, closeAll}
 use Rattle.circuit.specs.Circuit.{Listed}
 use Rattle.circuit.specs.Fresh.{give, freshAsk}
 use Rattle.circuit.specs.Words.{Quiet, CaughtUp}
@@ -69,6 +70,18 @@ pub record Telling (S : Sheet) (i : ℕ) (T : Table) : Type 0 where
   pub child-told : (k : ℕ) → Listed i (parents S k) → tellBelow S i T (suc k) ≡ tellChild S (tellBelow S i T k) k
   pub passed-over : (k : ℕ) → ¬ Listed i (parents S k) → tellBelow S i T (suc k) ≡ tellBelow S i T k
 
+-- 02's season-close run goes over the items once, lowest first: the items below k, and then item k, which is stored without a mark.
+-- An entry keeps its value. A figure is worked out, in 01's sense, from the table as the run has left it so far; its parents' cells are
+-- written already, so looking them up stores nothing and flags nothing, and the result is the rule's on the values in them.
+pub record Closing (S : Sheet) (T : Table) : Type 0 where
+  pub all : closeAll S T ≡ closeBelow S T (size S)
+  pub none-closed : closeBelow S T 0 ≡ T
+  pub entry-closed : (k : ℕ) → itemAt S k ≡ entry → closeBelow S T (suc k) ≡ upd (closeBelow S T k) k (held (valueIn (closeBelow S T k k)) unmarked)
+  pub figure-closed : (k : ℕ) (op : Operation) (keep : Bool) (spread : Spread) (ps : List ℕ) → itemAt S k ≡ figure op keep spread ps
+      → let U : Table = closeBelow S T k in
+      let value : Value = apply op (map (λ p. valueIn (U p)) ps) in
+      (closeBelow S T (suc k) ≡ upd U k (held value unmarked)) × (workOut S U k ≡ looked U value false)
+
 -- What the fresh office gives, with the entries E as its state.
 pub record FreshGives (S : Sheet) (E : Entries) : Type 0 where
   -- asked for an item of the sheet it gives a value
@@ -103,6 +116,7 @@ pub record Equations : Type 0 where
   pub looking : (S : Sheet) → Ordered S → (T : Table) → LookingUp S T
   pub telling-child : (S : Sheet) (T : Table) (c : ℕ) → TellingChild S T c
   pub telling : (S : Sheet) (i : ℕ) (T : Table) → Telling S i T
+  pub closing : (S : Sheet) → Ordered S → (T : Table) → Closing S T
   pub fresh : (S : Sheet) → Ordered S → (E : Entries) → FreshGives S E
   pub lowest : (T : Table) (n : ℕ) → LowestFound T n
   pub catching : (S : Sheet) → Ordered S → (T : Table) → CatchingUp S T

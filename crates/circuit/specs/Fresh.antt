@@ -10,7 +10,7 @@ use lib.IntN.{ℤ, natAbs}
 use Rattle.circuit.specs.Value.{Value, null, num, limit}
 use Rattle.circuit.specs.Rules.{apply}
 use Rattle.circuit.specs.Sheet.{Sheet, Item, entry, figure, itemAt, isFigure, beyond, Entries}
-use Rattle.circuit.specs.Call.{Call, post, keep, drop, step, ask, board, Posting}
+use Rattle.circuit.specs.Call.{Call, post, keep, drop, step, ask, board, close, Posting}
 
 -- what it is fed besides the sheet: a call's arguments, or a posting that a later request's call makes (no call makes one yet)
 pub data Event : Type 0 where
@@ -36,8 +36,8 @@ postedAs kind z = cond (eqb kind 1) null (num z)
 unfoldable pub hasCause : Sheet → ℕ → ℕ → ℤ → Bool
 hasCause S i kind z = beyond S i || (isFigure (itemAt S i) || not (postable kind z))
 
--- A post with a cause changes nothing; any other sets its entry to what was posted. Keep, drop, step, ask and board change
--- nothing, refused or not. A posting that a later request's call makes sets its entry, whatever the value or the entry.
+-- A post with a cause changes nothing; any other sets its entry to what was posted. Keep, drop, step, ask, board and close
+-- change nothing, refused or not. A posting that a later request's call makes sets its entry, whatever the value or the entry.
 unfoldable pub hear : Sheet → Entries → Event → Entries
 hear S E (called (post i kind z)) = cond (hasCause S i kind z) E (setEntry E i (postedAs kind z))
 hear S E (called (keep i)) = E
@@ -45,6 +45,7 @@ hear S E (called (drop i)) = E
 hear S E (called (step i)) = E
 hear S E (called (ask i)) = E
 hear S E (called (board items results)) = E
+hear S E (called close) = E
 hear S E (posted p) = setEntry E (p .entry) (p .value)
 
 unfoldable pub hearAll : Sheet → Entries → List Event → Entries

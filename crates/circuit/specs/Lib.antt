@@ -7,6 +7,7 @@ pub mod Board
 pub mod Table
 pub mod Machine
 pub mod Ascending
+pub mod Closing
 pub mod Calls
 pub mod Fresh
 pub mod Words

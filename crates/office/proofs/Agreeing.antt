@@ -13,11 +13,12 @@ use Rattle.circuit.specs.Value.{Value, null, out, num, kindOf, numberOf}
 use Rattle.circuit.specs.Circuit.{LeadsTo}
 use Rattle.circuit.specs.Sheet.{Sheet, Ordered, Entries, size, itemAt, isFigure, circuitOf}
 use Rattle.circuit.specs.Table.{Table, Cell, Mark, unmarked, refresh, notice, unk, held, isStored, isMark, markOf, valueIn, opened}
-use Rattle.circuit.specs.Call.{Call, post, keep, drop, step, ask, board, Posting, Opening, bare, full}
+use Rattle.circuit.specs.Call.{Call, post, keep, drop, step, ask, board, close, Posting, Opening, bare, full}
 use Rattle.circuit.specs.Calls.{Outcome, firstCause, perform, run, postingsMade, postingBy, postings, postingOf, postedValue, ifAccepted as ifMade}
 use Rattle.circuit.specs.Board.{listed, listsWrong}
 use Rattle.circuit.specs.Fresh.{blank, freshAsk, freshAsks, freshRun}
 use Rattle.circuit.specs.Words.{Quiet}
+use Rattle.circuit.proofs.Solution.{figure-below}
 use Rattle.circuit.proofs.Offices.{Agree, Answers, Shows, two-offices, opened-sound}
 use Rattle.circuit.proofs.Retention.{Retained, retention}
 use Rattle.circuit.proofs.View.{result-below}
@@ -133,16 +134,6 @@ cut-holdable : (S : Sheet) (T : Table) → Holdable S T → Holdable S (cut S T)
 cut-holdable S T h i low = rw (cut-below S T i low) (h i low)
 
 -- a table that is equal below n is sound too
-pub figure-below : (S : Sheet) (k : ℕ) → isFigure (itemAt S k) ≡ true → k < size S
-figure-below S k f = go (ltb k (size S)) refl
-  where
-    go : (b : Bool) → ltb k (size S) ≡ b → k < size S
-    go true e = borrow.Author.Tests.ltb-true k (size S) e
-    go false e =
-        let d : itemAt S k ≡ Rattle.circuit.specs.Sheet.entry = lib.ListN.List·getD-eq-default S Rattle.circuit.specs.Sheet.entry {n = k} (borrow.Author.Tests.ltb-false k (size S) e) in
-        let z : _≡_ {A = Bool} false true = rw d at f in
-        let bad : _≡_ {A = ℕ} 0 1 = cc in absurd (omega arith)
-
 cut-sound : (S : Sheet) → Ordered S → (E : Entries) (T : Table) → Sound S E T → Sound S E (cut S T)
 cut-sound S ordered E T sound =
     record {
@@ -186,6 +177,7 @@ post-made zero (drop i) = refl
 post-made zero (step i) = refl
 post-made zero (ask i) = refl
 post-made zero (board items results) = refl
+post-made zero close = refl
 post-made (suc k) c = refl
 
 -- a record's parts, of the encoding of a table

@@ -14,11 +14,13 @@ use Rattle.circuit.specs.Value.{Value}
 use Rattle.circuit.specs.Sheet.{Sheet, entry, size, itemAt, Ordered}
 use Rattle.circuit.specs.Table.{Table, Cell, unk, upd}
 use Rattle.circuit.specs.Machine.{storePosting, dropFigure, stepItem, catchUp}
-use Rattle.circuit.specs.Call.{Call, post, keep, drop, step, ask, board}
+use Rattle.circuit.specs.Call.{Call, post, keep, drop, step, ask, board, close}
 use Rattle.circuit.specs.Board.{listed}
+use Rattle.circuit.specs.Closing.{closeAll}
 use Rattle.circuit.specs.Calls.{Test, test, firstCause, tests, Outcome, showItems, effect, perform, effectUnless, run, postIt, postedValue}
 use Rattle.circuit.proofs.Fill.{Fill, Filling, stays, fills, upd-cases, look-right, looks-right, work-right, keep-fill}
 use Rattle.circuit.proofs.Closure.{Closed, step-closed, catchUp-closed}
+use Rattle.circuit.proofs.Closing.{close-above}
 use Rattle.circuit.proofs.Accepted.{effect-number, accepted-effect, refused-table, keep-passed, drop-passed, step-passed, post-passed}
 use Rattle.layout.specs.Read.{Placed, opens, readSheet}
 use Rattle.layout.specs.Opened.{sheetRead}
@@ -62,7 +64,7 @@ module _ (S : Sheet) (ordered : Ordered S) where
 
   -- a call leaves nothing beyond the sheet
   pub perform-within : (T : Table) (c : Call) → Within S T → Within S (perform S T c .table)
-  unfolding effect storePosting dropFigure
+  unfolding effect storePosting dropFigure closeAll
   perform-within T c h = go (firstCause (tests S T c)) refl
     where
       steps : (U : Table) (i : ℕ) → i < size S → Within S U → Within S (stepItem S U i)
@@ -96,6 +98,7 @@ module _ (S : Sheet) (ordered : Ordered S) where
       done (step i) e = steps T i (step-passed S T i e .0) h
       done (ask i) e = fill-within S (catchUp S T) _ (look-right S ordered (catchUp S T) i .fill) caught
       done (board items results) e = shows (listed items)
+      done close e = λ j out. close-above S T (size S) j out ∙ h j out
 
       go : (k : ℕ) → firstCause (tests S T c) ≡ k → Within S (perform S T c .table)
       go zero e = rw (accepted-effect S T c e) (done c e)

@@ -1,8 +1,8 @@
 -- The cells that a table in form can be are kept by every call: values stay within the range, and entries stay stored, not
 -- OUT, without refresh. Assumes that the sheet is ordered, where it says so.
-use Prim.Native.Nat.{ℕ, zero, suc, _<_}
+use Prim.Native.Nat.{ℕ, zero, suc, _<_, _≤_}
 use native.Mathlib.Omega.{arith}
-use mathlib.Core.Path.{_≡_, refl, ap}
+use mathlib.Core.Path.{_≡_, refl, sym, ap, subst}
 use mathlib.Core.Bool.{Bool, true, false, cond, not, _&&_}
 use mathlib.Core.List.{List, [], _∷_, map}
 use mathlib.Core.Logic.{inl, inr}
@@ -12,11 +12,12 @@ use Rattle.circuit.specs.Value.{Value, null, isOut, same, wellFormed}
 use Rattle.circuit.specs.WellFormed.{allWellFormed}
 use Rattle.circuit.specs.Circuit.{Listed}
 use Rattle.circuit.specs.Sheet.{Sheet, Item, entry, figure, Spread, defer, renew, forget, size, itemAt, isFigure, parentsOf, parents, spreadOf, isChild, evaluate, Ordered}
-use Rattle.circuit.specs.Table.{Table, Cell, Mark, unmarked, refresh, notice, unk, held, upd, entryForm}
+use Rattle.circuit.specs.Table.{Table, Cell, Mark, unmarked, refresh, notice, unk, held, upd, valueIn, entryForm}
 use Rattle.circuit.specs.Machine.{gather, lookUp, workOut, storePosting, postCell, keepFigure, dropFigure, dropCell, renewed, tellChild, tellCell, tellStored, tellIf, tellBelow, tell}
 use Rattle.circuit.specs.Machine.{clearMark, clearCell, stepItem, stepCell, catchUp}
-use Rattle.circuit.specs.Call.{Call, post, keep, drop, step, ask, board}
+use Rattle.circuit.specs.Call.{Call, post, keep, drop, step, ask, board, close}
 use Rattle.circuit.specs.Board.{listed}
+use Rattle.circuit.specs.Closing.{closedValue, closeItem, closeBelow, closeAll}
 use Rattle.circuit.specs.Calls.{postedValue, showItems, effect, perform, tests, firstCause, run, postIt}
 use Rattle.circuit.proofs.Parts.{posted-some}
 use Rattle.circuit.proofs.RuleLaws.{apply-wellFormed, and-true, and-left, and-right}
@@ -122,6 +123,41 @@ module _ (S : Sheet) (ordered : Ordered S) where
       go (unk f) = figure-unk _ _ k
       go (held v m) = figure-unk _ _ k
 
+  -- the season-close run stores a well-formed value
+  pub closed-formed : (T : Table) (i : ℕ) → i < size S → Holdable S T → wellFormed (closedValue S T i) ≡ true
+  unfolding closedValue
+  closed-formed T i low h = go (itemAt S i) refl
+    where
+      formed : (j : ℕ) → j < size S → wellFormed (valueIn (T j)) ≡ true
+      formed j l = holds-wellFormed (isFigure (itemAt S j)) (T j) (h j l)
+
+      go : (it : Item) → itemAt S i ≡ it → wellFormed (evaluate it (valueIn (T i)) (map (λ p. valueIn (T p)) (parentsOf it))) ≡ true
+      go entry e = formed i low
+      go (figure op k spread ps) e =
+          apply-wellFormed op _
+          (all-formed (λ p. valueIn (T p)) ps (λ p l. formed p (omega (arith, ordered i p (subst (λ it. Listed p (parentsOf it)) (sym e) l)))))
+
+  -- an item may hold it
+  pub closed-allowed : (T : Table) (i : ℕ) → i < size S → Holdable S T → mayHold (isFigure (itemAt S i)) (held (closedValue S T i) unmarked) ≡ true
+  unfolding closedValue
+  closed-allowed T i low h = go (itemAt S i) refl (closed-formed T i low h)
+    where
+      entered : (c : Cell) → mayHold false c ≡ true → mayHold false (held (valueIn c) unmarked) ≡ true
+      entered (unk b) m = refl
+      entered (held v x) m = remark false v x unmarked refl m
+
+      go : (it : Item) → itemAt S i ≡ it → wellFormed (closedValue S T i) ≡ true
+          → mayHold (isFigure it) (held (evaluate it (valueIn (T i)) (map (λ p. valueIn (T p)) (parentsOf it))) unmarked) ≡ true
+      go entry e w = entered (T i) (rw e at (h i low))
+      go (figure op k spread ps) e w = rw e at w
+
+  close-holdable : (T : Table) (k : ℕ) → k ≤ size S → Holdable S T → Holdable S (closeBelow S T k)
+  unfolding closeBelow closeItem
+  close-holdable T zero bound h = h
+  close-holdable T (suc k) bound h =
+      let before : Holdable S (closeBelow S T k) = close-holdable T k (omega arith) h in
+      upd-holdable (closeBelow S T k) k _ (λ low. closed-allowed (closeBelow S T k) k low before) before
+
   -- a figure is worked out anew
   pub renewed-holdable : (T : Table) (i : ℕ) (v : Value) (m n : Mark) → isFigure (itemAt S i) ≡ true → T i ≡ held v m → Holdable S T → Holdable S (renewed i v n (workOut S T i))
   renewed-holdable T i v m n k e h =
@@ -225,7 +261,7 @@ post-holdable S T i v w o h = upd-cases (Allowed S) T i (postCell (T i) v) (λ l
 
 -- every call keeps the cells allowed
 pub perform-holdable : (S : Sheet) → Ordered S → (T : Table) (c : Call) → Holdable S T → Holdable S (perform S T c .table)
-unfolding effect
+unfolding effect closeAll
 perform-holdable S ordered T c h = go (firstCause (tests S T c)) refl
   where
     posted : (i : ℕ) (o : Option Value) (kind : ℕ) (z : ℤ) → postedValue kind z ≡ o → Holdable S (postIt T i o)
@@ -244,6 +280,7 @@ perform-holdable S ordered T c h = go (firstCause (tests S T c)) refl
     done (step i) e = step-holdable S ordered T i (step-passed S T i e .0) h
     done (ask i) e = look-holdable S ordered (catchUp S T) i (catchUp-holdable S ordered T h)
     done (board items results) e = show-holdable (listed items)
+    done close e = close-holdable S ordered T (size S) (omega arith) h
 
     go : (k : ℕ) → firstCause (tests S T c) ≡ k → Holdable S (perform S T c .table)
     go zero e = rw (accepted-effect S T c e) (done c e)

@@ -19,7 +19,7 @@ use Rattle.circuit.specs.Call.{Call, keep, ask, board, Opening, bare, full}
 use Rattle.circuit.specs.Board.{listed}
 use Rattle.circuit.specs.Calls.{someNoItem, effect}
 use Rattle.circuit.specs.Words.{Bare}
-use Rattle.circuit.proofs.Solution.{solution, solution-solves, solution-unique, sheet-acyclic, below-listed}
+use Rattle.circuit.proofs.Solution.{solution, solution-solves, solution-unique, sheet-acyclic, below-listed, figure-below}
 use Rattle.circuit.proofs.View.{view, view-at}
 use Rattle.circuit.proofs.Fill.{Fill, Filling, stays, fills, fill-refl, look-right, looks-right, keep-fill, upd-same}
 use Rattle.circuit.proofs.Accepted.{board-passed}
@@ -47,7 +47,7 @@ use Rattle.office.specs.Office.{Office, keeping, resultsOf, accepted, ef
 use Rattle.office.specs.Demand1Words.{opening, calling, LengthsWrong, NoneHolds, ownCauses, AcceptedLent}
 use Rattle.office.specs.Demand2Words.{answerOf, FollowsLayout, openedRecord, Writes, NoneStored, entriesIn, reading, OnlySolution, Stores, StoredRight, Gives}
 use Rattle.office.proofs.Holdable.{look-formed}
-use Rattle.office.proofs.Agreeing.{Opens, opening-opens, figure-below}
+use Rattle.office.proofs.Agreeing.{Opens, opening-opens}
 use Rattle.office.proofs.Accepted.{office-accepted}
 use Rattle.office.proofs.Lent.{ordered, holdable as lent-holdable}
 use Rattle.office.proofs.Leaves.{stored-record}

@@ -11,7 +11,7 @@ use lib.ListN.{length, length-map}
 use borrow.Author.Tests.{not-false}
 use Rattle.circuit.specs.Value.{Value, kindOf, numberOf}
 use Rattle.circuit.specs.Sheet.{Sheet, size, itemAt, isFigure}
-use Rattle.circuit.specs.Call.{Call, post, keep, drop, step, ask, board}
+use Rattle.circuit.specs.Call.{Call, post, keep, drop, step, ask, board, close}
 use Rattle.circuit.specs.Calls.{Test, firstCause, tests, postedValue, effect, isNone}
 use Rattle.circuit.proofs.Parts.{posted-some}
 use Rattle.layout.specs.Read.{Placed, SheetRead, opens, refused, readSheet, layoutOf}
@@ -98,6 +98,7 @@ own-tested S t (step i) form =
     (refl, omega arith, tells-beyond S i, λ low. (refl, omega arith, tells-mark (isFigure (itemAt S i)) (row width t i) (λ b. form (i, omega arith, b)), λ n. tt))
 own-tested S t (ask i) form = (refl, omega arith, tells-beyond S i, λ low. tt)
 own-tested S t (board items results) form = (refl, omega arith, tells-lists items results, λ n. (refl, omega arith, tells-listed S items, λ m. tt))
+own-tested S t close form = tt
 
 tested : (S : Sheet) (ps : List Placed) → size S ≡ length ps → (kept : Office) (r : Invocation) → Tested (causesIn S ps kept r) (testsIn S ps kept r)
 unfolding testsIn
@@ -149,6 +150,7 @@ own-rising S t (drop i) b = (omega arith, (omega arith, tt))
 own-rising S t (step i) b = (omega arith, (omega arith, tt))
 own-rising S t (ask i) b = (omega arith, tt)
 own-rising S t (board items results) b = absurd b
+own-rising S t close b = tt
 
 causes-rising : (S : Sheet) (ps : List Placed) (kept : Office) (r : Invocation) → InBase r → Rising 7 (causesIn S ps kept r)
 causes-rising S ps kept (opening o) b = (omega arith, tt)
@@ -366,6 +368,7 @@ lent-numbers s kept lent c = go (tells-eq (callOn s kept c .number) 0)
     own (board items results) k (inl f) = omega (arith, f .0)
     own (board items results) k (inr (n, inl f)) = omega (arith, f .0)
     own (board items results) k (inr (n, inr f)) = absurd (f .1)
+    own close k f = absurd f
 
     past : (k : ℕ) → First (causesOf s kept (calling c)) k → 11 ≤ k
     past k (inl f) = absurd (lent .lent .0 (f .1))

@@ -11,7 +11,7 @@ use mir.Syntax.{w64}
 use mir.Val.{SFits}
 use Rattle.circuit.specs.Value.{limit}
 use Rattle.circuit.specs.Sheet.{Sheet, Ordered, size, itemAt, isFigure}
-use Rattle.circuit.specs.Call.{Call, post, keep, drop, step, ask, board, Opening}
+use Rattle.circuit.specs.Call.{Call, post, keep, drop, step, ask, board, close, Opening}
 use Rattle.circuit.specs.Board.{listedWidth, resultWidth, mostListed}
 use Rattle.field.specs.Field.{Bytes, le16At}
 use Rattle.layout.specs.Read.{Placed}
@@ -139,6 +139,7 @@ ownCauses S t (drop i) = cause 11 (NoSuchItem S i) ∷ cause 12 (OfEntry S i) �
 ownCauses S t (step i) = cause 11 (NoSuchItem S i) ∷ cause 14 (NoMark t i) ∷ []
 ownCauses S t (ask i) = cause 11 (NoSuchItem S i) ∷ []
 ownCauses S t (board items results) = cause 17 (ListsWrong items results) ∷ cause 11 (SomeNoItem S items) ∷ []
+ownCauses S t close = []
 
 -- The causes of an invocation in the order in which they count, after the sheet has been read. Openings use 8 alone. 01's calls have
 -- theirs by rising numbers; a board has 17 before 11. (A later request's call may have a number twice.)
@@ -173,6 +174,7 @@ InBase (calling (drop i)) = Unit {0}
 InBase (calling (step i)) = Unit {0}
 InBase (calling (ask i)) = Unit {0}
 InBase (calling (board items results)) = ⊥
+InBase (calling close) = Unit {0}
 
 -- k is the lowest number whose cause holds
 pub record Lowest (rs : List Row) (k : ℕ) : Type 0 where
@@ -199,6 +201,7 @@ FitsArguments (calling (drop i)) = i < 2 ^ 64
 FitsArguments (calling (step i)) = i < 2 ^ 64
 FitsArguments (calling (ask i)) = i < 2 ^ 64
 FitsArguments (calling (board items results)) = Bytes items × Bytes results
+FitsArguments (calling close) = Unit {0}
 
 pub record Lendable (r : Invocation) (s : List ℕ) (o : Office) : Type 0 where
   pub sheet : Bytes s

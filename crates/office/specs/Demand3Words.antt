@@ -11,7 +11,7 @@ use lib.IntN.{ℤ}
 use Rattle.circuit.specs.Value.{Value}
 use Rattle.circuit.specs.Circuit.{LeadsTo}
 use Rattle.circuit.specs.Sheet.{size, itemAt, isFigure, circuitOf}
-use Rattle.circuit.specs.Call.{Call, post, keep, drop, step, ask, board}
+use Rattle.circuit.specs.Call.{Call, post, keep, drop, step, ask, board, close}
 use Rattle.circuit.specs.Board.{listed, listsWrong}
 use Rattle.circuit.specs.Fresh.{blank, freshRun, freshAsk, freshAsks}
 use Rattle.circuit.specs.Words.{droppedIn}
@@ -35,6 +35,7 @@ postOf (drop i) = []
 postOf (step i) = []
 postOf (ask i) = []
 postOf (board items results) = []
+postOf close = []
 
 -- 01's "accepted": the call gives number 0
 abbrev pub ifAccepted : ℕ → List Posted → List Posted
