@@ -3,30 +3,28 @@ use Prim.Native.Nat.{ℕ, zero, suc, _+_, _<_, _≤_}
 use mathlib.Core.Path.{_≡_, refl, sym, ap, subst, _∙_}
 use mathlib.Core.Bool.{Bool, true, false, _||_, or-assoc}
 use mathlib.Core.List.{List, [], _∷_, _++_}
-use mathlib.Core.Option.{some}
 use native.Mathlib.Omega.{arith}
 use native.Mathlib.Numerals.{add-one}
 use lib.IntN.{ℤ}
 use lib.ListN.{length, getD, set, take, length-set}
 use lib.Seq.{take-suc, take-length}
-use Rattle.circuit.specs.Value.{Value, null, kindOf, numberOf}
+use Rattle.circuit.specs.Value.{null, kindOf, numberOf}
 use Rattle.circuit.specs.WellFormed.{allWellFormed}
-use Rattle.circuit.specs.Rules.{apply, maxParents}
-use Rattle.circuit.specs.Sheet.{Item, entry, figure, size, itemAt, isFigure, parents, parentsOf, evaluate}
+use Rattle.circuit.specs.Rules.{maxParents}
+use Rattle.circuit.specs.Sheet.{size, itemAt, isFigure, parents, parentsOf, evaluate}
 use Rattle.circuit.specs.Table.{Table}
 use Rattle.circuit.specs.Machine.{Looked, Gathered, gathered, gather, andThen, workOutBy, lookUp, workOut}
 use Rattle.circuit.proofs.RuleLaws.{allWellFormed-snoc, and-true}
 use Rattle.layout.specs.Opened.{sheetOf}
-use Rattle.item.specs.Item.{itemOperation, OperationRead, CountRead, ItemField, fieldItem}
-use Rattle.item.proofs.Located.{sheet-ordered, located-field, located-item}
-use Rattle.children.proofs.Linking.{place-below}
+use Rattle.item.specs.Item.{OperationRead, CountRead, fieldItem}
 use Rattle.table.specs.Bytes.{decodeTable, tableForm}
 use Rattle.value.specs.Meaning.{meaning, firstValues}
 use Rattle.rules.specs.declared.Operation.{Operation}
-use Rattle.rules.specs.Operations.{operationMeaning, allows, applied, Applied}
+use Rattle.rules.specs.Operations.{Applied}
 use Rattle.value.proofs.Parents.{firstValues-store}
 use Rattle.memo.specs.Memo.{Found, found, Memo, NoneFrom}
 use Rattle.looking.specs.Pass.{Lent, Leaves}
+use Rattle.looking.proofs.FigureAt.{FigureAt, figure-at, figure-parents, parent-below, operation-gives}
 
 -- the first k of the items ps looked up, one after the other, in the order of the code's loop
 abbrev pub behind : Gathered → Looked → Gathered
@@ -45,11 +43,7 @@ soFar s i t₀ k = gatherTo (lookUp (sheetOf s)) (decodeTable t₀) (parents (sh
 pub record Going (s offsets t₀ tags₀ : List ℕ) (numbers₀ : List ℤ) (generation i at count k : ℕ) (t tags : List ℕ) (numbers : List ℤ)
     (kinds : List ℕ) (amounts : List ℤ) (flag : Bool) : Type 0 where
   pub lent : Lent s offsets t₀
-  pub low : i < size (sheetOf s)
-  pub figured : isFigure (itemAt (sheetOf s) i) ≡ true
-  pub at-is : at ≡ getD offsets i 0
-  pub count-is : count ≡ length (parents (sheetOf s) i)
-  pub count-most : count ≤ maxParents
+  pub field : FigureAt s offsets i at count
   pub within : k ≤ count
   pub length-is : length t ≡ length t₀
   pub tags-length : length tags ≡ length tags₀
@@ -101,14 +95,10 @@ pub going-start : {s offsets t tags : List ℕ} {numbers : List ℤ} {generation
     → (kinds : List ℕ) (amounts : List ℤ) → length kinds ≡ maxParents → length amounts ≡ maxParents
     → Going s offsets t tags numbers generation i (getD offsets i 0) count 0 t tags numbers kinds amounts false
 unfolding gatherTo firstValues allWellFormed
-going-start {s} {offsets} {i = i} lent memo low figured count read kinds amounts a b =
+going-start lent memo low figured count read kinds amounts a b =
     record {
       lent = lent;
-      low = low;
-      figured = figured;
-      at-is = refl;
-      count-is = read .count-is ∙ ap (λ it. length (parentsOf it)) (located-item s offsets (lent .located) i low);
-      count-most = read .at-most;
+      field = figure-at (lent .located) low figured count read;
       within = omega arith;
       length-is = refl;
       tags-length = refl;
@@ -124,37 +114,9 @@ going-start {s} {offsets} {i = i} lent memo low figured count read kinds amounts
       amounts-length = b;
     }
 
--- a figure's value by its operation
-evaluated : (it : Item) (op : Operation) (vs : List Value) (r : Value) → operationMeaning op ≡ itemOperation it → isFigure it ≡ true
-    → some r ≡ applied (operationMeaning op) vs → r ≡ evaluate it null vs
-evaluated entry op vs r e f a = let bad : _≡_ {A = ℕ} 0 1 = cc in absurd (omega arith)
-evaluated (figure o k sp ps) op vs r e f a =
-    let b : some r ≡ some (apply o vs) = a ∙ ap (λ x. applied x vs) e in
-    cc
-
 module _ {s offsets t₀ tags₀ : List ℕ} {numbers₀ : List ℤ} {generation i at count k : ℕ} {t tags : List ℕ} {numbers : List ℤ}
     {kinds : List ℕ} {amounts : List ℤ} {flag : Bool}
     (inv : Going s offsets t₀ tags₀ numbers₀ generation i at count k t tags numbers kinds amounts flag) where
-  pub going-field : ItemField s at
-  going-field = rw (inv .at-is) (located-field s offsets (inv .lent .located) i (inv .low))
-
-  going-item : fieldItem s at ≡ itemAt (sheetOf s) i
-  going-item = ap (fieldItem s) (inv .at-is) ∙ located-item s offsets (inv .lent .located) i (inv .low)
-
-  going-parents : parentsOf (fieldItem s at) ≡ parents (sheetOf s) i
-  going-parents = ap parentsOf going-item
-
-  pub going-more : k < count → k < length (parentsOf (fieldItem s at))
-  going-more more = rw going-parents (omega (arith, inv .count-is))
-
-  pub going-figure : isFigure (fieldItem s at) ≡ true
-  going-figure = ap isFigure going-item ∙ inv .figured
-
-  -- a parent is below the item
-  pub going-below : (p : ℕ) → p ≡ getD (parentsOf (fieldItem s at)) k 0 → k < count → p < i
-  going-below p e more =
-      rw (e ∙ ap (λ ps. getD ps k 0) going-parents) (place-below (sheetOf s) (sheet-ordered s) i k (omega (arith, inv .count-is)))
-
   -- the table is lent on
   pub going-lent : Lent s offsets t
   going-lent =
@@ -180,11 +142,7 @@ module _ {s offsets t₀ tags₀ : List ℕ} {numbers₀ : List ℤ} {generation
   going-next p e more f t′ tags′ numbers′ len tags-len numbers-len looks flag′ flags kinds′ amounts′ ks ns =
       record {
         lent = inv .lent;
-        low = inv .low;
-        figured = inv .figured;
-        at-is = inv .at-is;
-        count-is = inv .count-is;
-        count-most = inv .count-most;
+        field = inv .field;
         within = omega arith;
         length-is = len ∙ inv .length-is;
         tags-length = tags-len ∙ inv .tags-length;
@@ -207,7 +165,7 @@ module _ {s offsets t₀ tags₀ : List ℕ} {numbers₀ : List ℤ} {generation
       }
     where
       below : p < i
-      below = going-below p e more
+      below = parent-below (inv .field) k p e more
 
       here : Leaves s t tags generation i (lookUp (sheetOf s) (decodeTable t) p) f t′ tags′ numbers′
       here = looks i below
@@ -215,7 +173,7 @@ module _ {s offsets t₀ tags₀ : List ℕ} {numbers₀ : List ℤ} {generation
       is : lookUp (sheetOf s) (decodeTable t) p ≡ lookUp (sheetOf s) (soFar s i t₀ k .table) (getD (parents (sheetOf s) i) k 0)
       is =
           ap (λ X. lookUp (sheetOf s) X p) (inv .table-is)
-          ∙ ap (lookUp (sheetOf s) (soFar s i t₀ k .table)) (e ∙ ap (λ ps. getD ps k 0) going-parents)
+          ∙ ap (lookUp (sheetOf s) (soFar s i t₀ k .table)) (e ∙ ap (λ ps. getD ps k 0) (figure-parents (inv .field)))
 
       step : soFar s i t₀ (suc k) ≡ soFar s i t₀ (k + 1)
       step = ap (soFar s i t₀) (sym (add-one k))
@@ -224,14 +182,11 @@ module _ {s offsets t₀ tags₀ : List ℕ} {numbers₀ : List ℤ} {generation
       stored =
           rw (ks, ns)
           (firstValues-store kinds amounts k (f .value)
-          (omega (arith, inv .kinds-length, inv .count-most)) (omega (arith, inv .amounts-length, inv .count-most)))
+          (omega (arith, inv .kinds-length, inv .field .count-most)) (omega (arith, inv .amounts-length, inv .field .count-most)))
 
   -- no parent is left
   going-all : count ≤ k → k ≡ count
   going-all h = omega (arith, inv .within)
-
-  pub going-takes : (op : Operation) → OperationRead (fieldItem s at) op → allows (operationMeaning op) count ≡ true
-  going-takes op read = ap (allows (operationMeaning op)) (inv .count-is ∙ ap length (sym going-parents)) ∙ read .takes
 
   pub going-formed : count ≤ k → allWellFormed (firstValues kinds amounts count) ≡ true
   going-formed h = ap (λ n. allWellFormed (firstValues kinds amounts n)) (sym (going-all h)) ∙ inv .values-formed
@@ -243,7 +198,10 @@ module _ {s offsets t₀ tags₀ : List ℕ} {numbers₀ : List ℤ} {generation
   unfolding workOut workOutBy
   going-done h op read r applies b over =
       record {
-        value-is = value ∙ ap (evaluate (itemAt (sheetOf s) i) null) (inv .values-are ∙ ap (λ x. x .values) is);
+        value-is =
+            operation-gives (inv .field) op read (firstValues kinds amounts count) r applies
+            ∙ ap (evaluate (itemAt (sheetOf s) i) null)
+            (ap (firstValues kinds amounts) (sym (going-all h)) ∙ inv .values-are ∙ ap (λ x. x .values) is);
         flag-is = inv .flag-is ∙ ap (λ x. x .flag) is;
         value-formed = applies .formed;
         table-is = inv .table-is ∙ ap (λ x. x .table) is;
@@ -253,9 +211,4 @@ module _ {s offsets t₀ tags₀ : List ℕ} {numbers₀ : List ℤ} {generation
       }
     where
       is : soFar s i t₀ k ≡ gather (lookUp (sheetOf s)) (decodeTable t₀) (parents (sheetOf s) i)
-      is = ap (soFar s i t₀) (going-all h ∙ inv .count-is) ∙ gather-all (lookUp (sheetOf s)) (decodeTable t₀) (parents (sheetOf s) i)
-
-      value : meaning r ≡ evaluate (itemAt (sheetOf s) i) null (firstValues kinds amounts k)
-      value =
-          evaluated (itemAt (sheetOf s) i) op (firstValues kinds amounts k) (meaning r) (read .operation-is ∙ ap itemOperation going-item)
-          (inv .figured) (applies .result ∙ ap (λ n. applied (operationMeaning op) (firstValues kinds amounts n)) (sym (going-all h)))
+      is = ap (soFar s i t₀) (going-all h ∙ inv .field .count-is) ∙ gather-all (lookUp (sheetOf s)) (decodeTable t₀) (parents (sheetOf s) i)

@@ -1,3 +1,4 @@
+pub mod FigureAt
 pub mod Gathering
 pub mod Looking
 pub mod Settling

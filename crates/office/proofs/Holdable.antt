@@ -33,7 +33,7 @@ abbrev Allowed : Sheet → ℕ → Cell → Type 0
 Allowed S j c = j < size S → mayHold (isFigure (itemAt S j)) c ≡ true
 
 -- every value of a list that a view gives is well formed, if that of each item is
-all-formed : (w : ℕ → Value) (ps : List ℕ) → ((p : ℕ) → Listed p ps → wellFormed (w p) ≡ true) → allWellFormed (map w ps) ≡ true
+pub all-formed : (w : ℕ → Value) (ps : List ℕ) → ((p : ℕ) → Listed p ps → wellFormed (w p) ≡ true) → allWellFormed (map w ps) ≡ true
 unfolding allWellFormed
 all-formed w [] h = refl
 all-formed w (p ∷ ps) h = and-true _ _ (h p (inl refl)) (all-formed w ps (λ q l. h q (inr l)))

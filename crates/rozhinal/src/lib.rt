@@ -1,4 +1,4 @@
-// The functions that a C program calls: the openings, the six calls and the printer, with numbers and byte slices. A slice is a
+// The functions that a C program calls: the openings, the seven calls and the printer, with numbers and byte slices. A slice is a
 // pointer and a length in C; include/rozhinal.h declares them. Each is one call of the function that does the work.
 ghost use Rattle.circuit.specs.Call as call;
 ghost use Rattle.circuit.specs.Call.{bare, full};
@@ -78,6 +78,13 @@ pub extern "C" fn rozhinal_board(
     ensures { λ r. ⌜ BoardShown (callOn (now (sheet .entry)) (keeping (now (index .entry)) (now (table .entry))) (call.board (now (items .entry)) (now (results .entry)))) r (now (results .exit)) (now (table .exit)) ⌝ }
 {
     call_board::board(sheet, index, table, items, results)
+}
+
+#[no_mangle]
+pub extern "C" fn rozhinal_close(sheet: &[u8], index: &[u8], table: &mut [u8]) -> Answer
+    ensures { λ r. ⌜ Answered (callOn (now (sheet .entry)) (keeping (now (index .entry)) (now (table .entry))) call.close) r (now (table .exit)) ⌝ }
+{
+    call_close::close(sheet, index, table)
 }
 
 #[no_mangle]

@@ -8,8 +8,8 @@ use Rattle.circuit.specs.Rules.{maxParents}
 use Rattle.item.proofs.Located.{size-most, located-field}
 use Rattle.memo.specs.Memo.{seenMeaning}
 use Rattle.looking.proofs.Looking.{lent-fits, known-returns, unknown-unstored, worked-figure, worked-returns}
-use Rattle.looking.proofs.Gathering.{Going, going-start, going-field, going-more, going-below, going-lent, going-memo, going-figure, going-next}
-use Rattle.looking.proofs.Gathering.{going-takes, going-formed, going-done}
+use Rattle.looking.proofs.FigureAt.{figure-field, figure-is, parent-there, parent-below, operation-takes}
+use Rattle.looking.proofs.Gathering.{Going, going-start, going-lent, going-memo, going-next, going-formed, going-done}
 use borrow.Fn.Kinds.{In}
 use borrow.Fn.PlainCycle.{Measures, is, falls, and}
 use Rattle.looking.proofs.look_unstored.Reads as look-unstored
@@ -238,7 +238,7 @@ work-out-loop-holds t c =
 work-out-parent-requires : (t : ℕ) → work-out-lts.Need-parent-requires (work-out-claims t) (work-out-at t) work-out.Post work-out-Inv-loop work-out-μ-loop
 work-out-parent-requires t c κs =
     let inv = c .before .loop .inv in
-    (going-field inv, going-more inv (c .loop-test .taken))
+    (figure-field (inv .field), parent-there (inv .field) _ (c .loop-test .taken))
 
 work-out-look-up-requires : (t : ℕ) → work-out-lts.Need-look-up-requires (work-out-claims t) (work-out-at t) work-out.Post work-out-Inv-loop work-out-μ-loop
 work-out-look-up-requires t c κs =
@@ -246,13 +246,13 @@ work-out-look-up-requires t c κs =
     let l = p .before .before in
     let e = l .before .before .before .before .before .before .before in
     let inv = l .loop .inv in
-    let low = going-below inv (p .parent .result) (p .parent .ensures) (p .before .loop-test .taken) in
-    (omega (arith, low, e .pre .0), (going-lent inv, (going-memo inv, omega (arith, low, inv .low))))
+    let low = parent-below (inv .field) _ (p .parent .result) (p .parent .ensures) (p .before .loop-test .taken) in
+    (omega (arith, low, e .pre .0), (going-lent inv, (going-memo inv, omega (arith, low, inv .field .low))))
 
 work-out-gather-requires : (t : ℕ) → work-out-lts.Need-gather-requires (work-out-claims t) (work-out-at t) work-out.Post work-out-Inv-loop work-out-μ-loop
 work-out-gather-requires t c κs =
     let x = c .before .before .before .before .before .before .before .before .before .before .before .before in
-    omega (arith, x .before .loop .inv .count-most, x .loop-test .taken)
+    omega (arith, x .before .loop .inv .field .count-most, x .loop-test .taken)
 
 work-out-add-k : (t : ℕ) → work-out-lts.Need-add-k (work-out-claims t) (work-out-at t) work-out.Post work-out-Inv-loop work-out-μ-loop
 work-out-add-k t c = search needs
@@ -274,14 +274,14 @@ work-out-loop-again t c =
 work-out-operation-requires : (t : ℕ) → work-out-lts.Need-operation-requires (work-out-claims t) (work-out-at t) work-out.Post work-out-Inv-loop work-out-μ-loop
 work-out-operation-requires t c κs =
     let inv = c .before .loop .inv in
-    (going-field inv, going-figure inv)
+    (figure-field (inv .field), figure-is (inv .field))
 
 work-out-apply-requires : (t : ℕ) → work-out-lts.Need-apply-requires (work-out-claims t) (work-out-at t) work-out.Post work-out-Inv-loop work-out-μ-loop
 work-out-apply-requires t c κs =
     let o = c .before .before in
     let x = o .before in
     let inv = x .before .loop .inv in
-    (going-takes inv _ (o .operation .ensures), going-formed inv (x .loop-test .left))
+    (operation-takes (inv .field) _ (o .operation .ensures), going-formed inv (x .loop-test .left))
 
 work-out-same-length : (t : ℕ) → work-out-lts.Need-same-length (work-out-claims t) (work-out-at t) work-out.Post work-out-Inv-loop work-out-μ-loop
 work-out-same-length t c = search needs
