@@ -315,7 +315,7 @@ drop-words c k = (is-drop c, λ e. subst (λ d. drops d k ≡ true) (sym e) (eq-
     is-drop (board items results) h = cc
     is-drop close h = cc
 
-stored-entry : (it : Item) (c : Cell) → cellForm it c ≡ true → isFigure it ≡ false → isStored c ≡ true
+pub stored-entry : (it : Item) (c : Cell) → cellForm it c ≡ true → isFigure it ≡ false → isStored c ≡ true
 stored-entry entry (unk f) h g = let bad : _≡_ {A = ℕ} 0 1 = cc in absurd (omega arith)
 stored-entry (figure op kept spread ps) (unk f) h g = let bad : _≡_ {A = ℕ} 0 1 = cc in absurd (omega arith)
 stored-entry it (held v m) h g = refl

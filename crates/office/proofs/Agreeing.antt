@@ -9,10 +9,10 @@ use lib.Dec.{eqb, ltb}
 use lib.IntN.{ℤ}
 use lib.ListN.{length, length-map}
 use borrow.Author.Tests.{lt-ltb, le-ltb}
-use Rattle.circuit.specs.Value.{Value, null, out, num, kindOf, numberOf}
+use Rattle.circuit.specs.Value.{Value}
 use Rattle.circuit.specs.Circuit.{LeadsTo}
 use Rattle.circuit.specs.Sheet.{Sheet, Ordered, Entries, size, itemAt, isFigure, circuitOf}
-use Rattle.circuit.specs.Table.{Table, Cell, Mark, unmarked, refresh, notice, unk, held, isStored, isMark, markOf, valueIn, opened}
+use Rattle.circuit.specs.Table.{Table, Mark, unk, isStored, markOf, valueIn, opened}
 use Rattle.circuit.specs.Call.{Call, post, keep, drop, step, ask, board, close, Posting, Opening, bare, full}
 use Rattle.circuit.specs.Calls.{Outcome, firstCause, perform, run, postingsMade, postingBy, postings, postingOf, postedValue, ifAccepted as ifMade}
 use Rattle.circuit.specs.Board.{listed, listsWrong}
@@ -35,18 +35,15 @@ use Rattle.layout.proofs.IndexLaws.{index-length}
 use Rattle.field.specs.Field.{cutAt}
 use Rattle.field.specs.declared.Cut.{Cut}
 use Rattle.field.specs.declared.Cut.the-variants.{Field, Short, Absent}
-use Rattle.word.specs.Word.{le64At, bytes64}
-use Rattle.word.proofs.Bytes.{leAt-drop}
-use mir.Syntax.{w64}
-use mir.Val.{toZ}
 use Rattle.table.specs.Rows.{row}
-use Rattle.table.specs.Record.{width, kindIn, markIn, numberIn, recordOf, markCode, encodeCell}
+use Rattle.table.specs.Record.{width, kindIn, markIn, numberIn, markCode}
 use Rattle.table.specs.Bytes.{encodeTable, Holdable}
 use Rattle.table.proofs.Tables.{encoded-record, encodeTable-ext, bare-holdable, full-holdable}
 use Rattle.office.specs.Office.{Office, keeping, Given, resultsLent, accepted, openingTests, unlessRefused, callOn, openRead, openOn, runOn, kindRead, numberRead}
 use Rattle.office.specs.Demand2Words.{answerOf}
 use Rattle.office.specs.Demand3Words.{Posted, postOf, ifAccepted, acceptedPosts, freshAnswer, SameReading, Shown, shown, boardAfter, freshShown, freshBoard, SameBoard, SameAnswers}
 use Rattle.office.specs.Demand3Words.{storedIn, StaysStored, Retains}
+use Rattle.office.proofs.Cells.{kind-cell, parts-same, mark-cell, code-unmarked}
 use Rattle.office.proofs.Holdable.{run-holdable, perform-holdable}
 use Rattle.office.proofs.Bridge.{Within, perform-within, resultsBy, givenBy, call-performs, run-runs}
 
@@ -154,7 +151,7 @@ opened-holdable bare S = bare-holdable S
 opened-holdable full S = full-holdable S
 
 -- the postings of posts by their arguments
-postingsOf : List Posted → List Posting
+unfoldable pub postingsOf : List Posted → List Posting
 postingsOf [] = []
 postingsOf (p ∷ ps) = postingOf (p .item) (postedValue (p .kind) (p .number)) ++ postingsOf ps
 
@@ -179,44 +176,6 @@ post-made zero (ask i) = refl
 post-made zero (board items results) = refl
 post-made zero close = refl
 post-made (suc k) c = refl
-
--- a record's parts, of the encoding of a table
-kind-cell : (c : Cell) → not (eqb (kindIn (encodeCell c)) 0) ≡ isStored c
-unfolding encodeCell
-kind-cell (unk b) = refl
-kind-cell (held null m) = refl
-kind-cell (held out m) = refl
-kind-cell (held (num z) m) = refl
-
--- a record's number stands in its own bytes
-number-alone : (k m : ℕ) (z : ℤ) → numberIn (recordOf k m z) ≡ le64At (bytes64 z) 0
-number-alone k m z = ap (λ (x : ℕ). toZ w64 x) (leAt-drop 8 (recordOf k m z) 2 0)
-
--- cells that hold the same value have the same kind and number
-parts-same : (c d : Cell) → isStored c ≡ true → isStored d ≡ true → valueIn d ≡ valueIn c
-    → (kindIn (encodeCell d) ≡ kindIn (encodeCell c)) × (numberIn (encodeCell d) ≡ numberIn (encodeCell c))
-unfolding encodeCell
-parts-same (unk b) d e f q = let bad : _≡_ {A = ℕ} 0 1 = cc in absurd (omega arith)
-parts-same (held v m) (unk b) e f q = let bad : _≡_ {A = ℕ} 0 1 = cc in absurd (omega arith)
-parts-same (held v m) (held w l) e f q = (
-  ap kindOf q,
-  number-alone (kindOf w) (markCode l) (numberOf w) ∙ ap (λ u. le64At (bytes64 (numberOf u)) 0) q ∙ sym (number-alone (kindOf v) (markCode m) (numberOf v)),
-)
-
-pub mark-cell : (c : Cell) → markIn (encodeCell c) ≡ markCode (markOf c)
-unfolding encodeCell
-mark-cell (unk b) = refl
-mark-cell (held v m) = refl
-
-code-unmarked : (m : Mark) → markCode m ≡ 0 → isMark m ≡ false
-code-unmarked unmarked e = refl
-code-unmarked refresh e = absurd (omega arith)
-code-unmarked notice e = absurd (omega arith)
-
-pub unmarked-code : (m : Mark) → isMark m ≡ false → markCode m ≡ 0
-unmarked-code unmarked e = refl
-unmarked-code refresh e = let bad : _≡_ {A = ℕ} 0 1 = cc in absurd (omega arith)
-unmarked-code notice e = let bad : _≡_ {A = ℕ} 0 1 = cc in absurd (omega arith)
 
 answer-same : (S : Sheet) (x : List ℕ) (o : Outcome) (k : ℕ) (v : Option Value) → o .number ≡ k → o .reading ≡ v
     → answerOf (givenBy S x [] o) ≡ record { number = k; offset = 0; kind = kindRead v; value = numberRead v }
@@ -245,7 +204,7 @@ module _ (s : List ℕ) (edition : ℕ) (ps : List Placed) (reads : readSheet s 
   abbrev pub at : Table → Office
   at T = keeping (indexBytes ps) (encodeTable (sheetRead edition ps) T)
 
-  ordered : Ordered (sheetRead edition ps)
+  pub ordered : Ordered (sheetRead edition ps)
   ordered = opened-ordered s edition ps reads
 
   pub sized : size (sheetRead edition ps) ≡ length ps
@@ -266,7 +225,7 @@ module _ (s : List ℕ) (edition : ℕ) (ps : List Placed) (reads : readSheet s 
   unfolding start
   start-within o = cut-within (sheetRead edition ps) (opened o (sheetRead edition ps))
 
-  start-sound : (o : Opening) → Sound (sheetRead edition ps) blank (start o)
+  pub start-sound : (o : Opening) → Sound (sheetRead edition ps) blank (start o)
   unfolding start
   start-sound o = cut-sound (sheetRead edition ps) ordered blank _ (opened-sound (sheetRead edition ps) ordered o)
 
@@ -279,12 +238,12 @@ module _ (s : List ℕ) (edition : ℕ) (ps : List Placed) (reads : readSheet s 
   run-within [] T w = w
   run-within (c ∷ cs) T w = run-within cs (perform (sheetRead edition ps) T c .table) (perform-within (sheetRead edition ps) ordered T c w)
 
-  performs : (T : Table) (c : Call) → Holdable (sheetRead edition ps) T → Within (sheetRead edition ps) T
+  pub performs : (T : Table) (c : Call) → Holdable (sheetRead edition ps) T → Within (sheetRead edition ps) T
       → callOn s (at T) c ≡ givenBy (sheetRead edition ps) (indexBytes ps) (resultsLent c) (perform (sheetRead edition ps) T c)
   performs = call-performs s edition ps reads (index-length ps) sized ordered
 
   -- the accepted posts of a list are the postings that it makes
-  posts-made : (cs : List Call) (T : Table) → Holdable (sheetRead edition ps) T → Within (sheetRead edition ps) T
+  pub posts-made : (cs : List Call) (T : Table) → Holdable (sheetRead edition ps) T → Within (sheetRead edition ps) T
       → postingsOf (acceptedPosts s (at T) cs) ≡ postings (sheetRead edition ps) T cs
   unfolding acceptedPosts postings postingsMade postingsOf
   posts-made [] T h w = refl
@@ -403,10 +362,10 @@ module _ (s : List ℕ) (edition : ℕ) (ps : List Placed) (reads : readSheet s 
   stored-is : (T : Table) (k : ℕ) → k < size (sheetRead edition ps) → not (eqb (kindIn (row width (encodeTable (sheetRead edition ps) T) k)) 0) ≡ isStored (T k)
   stored-is T k low = ap (λ r. not (eqb (kindIn r) 0)) (encoded-record (sheetRead edition ps) T k low) ∙ kind-cell (T k)
 
-  mark-is : (T : Table) (k : ℕ) → k < size (sheetRead edition ps) → markIn (row width (encodeTable (sheetRead edition ps) T) k) ≡ markCode (markOf (T k))
+  pub mark-is : (T : Table) (k : ℕ) → k < size (sheetRead edition ps) → markIn (row width (encodeTable (sheetRead edition ps) T) k) ≡ markCode (markOf (T k))
   mark-is T k low = ap markIn (encoded-record (sheetRead edition ps) T k low) ∙ mark-cell (T k)
 
-  quiet-is : (T : Table) → ((k : ℕ) → k < size (sheetRead edition ps) → markIn (row width (encodeTable (sheetRead edition ps) T) k) ≡ 0) → Quiet (sheetRead edition ps) T
+  pub quiet-is : (T : Table) → ((k : ℕ) → k < size (sheetRead edition ps) → markIn (row width (encodeTable (sheetRead edition ps) T) k) ≡ 0) → Quiet (sheetRead edition ps) T
   quiet-is T h k low = code-unmarked (markOf (T k)) (sym (mark-is T k low) ∙ h k low)
 
   -- kind and number of a stored record, by the value that its cell holds

@@ -4,13 +4,14 @@ use Rattle.circuit.proofs.Equations.{equations}
 use Rattle.circuit.proofs.Retention.{drop-words}
 use Rattle.circuit.proofs.Board.{listed-count, listed-at}
 use Rattle.office.specs.Demands.{Refuses, Means, Agrees, Demands}
-use Rattle.office.proofs.Refusals.{turned-back, board-refuses, accepted-lent}
+use Rattle.office.proofs.Refusals.{turned-back, board-refuses, close-refuses, accepted-lent}
 use Rattle.office.proofs.Examples.{each-given}
 use Rattle.office.proofs.Older.{lower-accepted}
 use Rattle.office.proofs.Words.{sheet-words}
 use Rattle.office.proofs.Meaning.{opens-exactly, opening-writes, fits-sheet, one-layout, accepted-opened, bare-unstored, gives-solution}
 use Rattle.office.proofs.Leaves.{leaves}
 use Rattle.office.proofs.Boards.{result-words, board-counts}
+use Rattle.office.proofs.Closes.{office-closes}
 use Rattle.office.proofs.Accepted.{office-accepted}
 use Rattle.office.proofs.Agreeing.{offices-agree, offices-retain}
 
@@ -25,6 +26,7 @@ refuses =
       no-value = λ r s o. turned-back r s o .no-value;
       lowest = λ r b s o. turned-back r s o .lowest b;
       boards = board-refuses;
+      closes = close-refuses;
       older = lower-accepted;
       each = each-given;
       words = sheet-words;
@@ -55,6 +57,7 @@ agrees =
       retained = λ s o how e. offices-retain s o how e;
       dropped = drop-words;
       counts = λ s o bytes items results e cs. board-counts s o (accepted-lent s o (board items results) e) bytes items results e cs;
+      closes = λ s o how e cs. office-closes s o how e cs;
       never-refused = λ s o how e cs. office-accepted s o how e cs;
     }
 

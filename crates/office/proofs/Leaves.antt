@@ -25,7 +25,7 @@ use Rattle.word.specs.Word.{Bytes}
 use Rattle.table.specs.Rows.{row}
 use Rattle.table.specs.Record.{width, kindIn, markIn, numberIn, markCode, encodeCell}
 use Rattle.table.specs.Bytes.{encodeTable, decodeTable, Holdable}
-use Rattle.table.proofs.Records.{number-fits, number-again, bytes-encodeCell}
+use Rattle.table.proofs.Records.{bytes-encodeCell}
 use Rattle.table.proofs.Rows.{bytes-rows}
 use Rattle.table.proofs.Tables.{length-encodeTable, encoded-record, encodeTable-ext, encoded-tableForm, holdable-wellFormed}
 use Rattle.office.specs.Office.{Office, keeping, effectOn, callOn}
@@ -34,7 +34,8 @@ use Rattle.office.specs.Demand2Words.{valueOf, Stores, PostLeaves, KeepL
 use Rattle.office.proofs.Holdable.{perform-holdable}
 use Rattle.office.proofs.Lent.{ordered as lent-ordered, holdable as lent-holdable, encoded}
 use Rattle.office.proofs.Boards.{board-leaves, board-asks}
-use Rattle.office.proofs.Agreeing.{mark-cell, unmarked-code}
+use Rattle.office.proofs.Closes.{close-leaves}
+use Rattle.office.proofs.Cells.{held-kind, held-number, unk-kind, unk-number, mark-cell, unmarked-code}
 use Rattle.office.proofs.Refusals.{turned-back, form-unbroken, call-accepted, own-passed, Postable, postable}
 
 value-same : (w v : Value) → kindOf w ≡ kindOf v → numberOf w ≡ numberOf v → w ≡ v
@@ -47,23 +48,6 @@ value-same out (num y) k n = absurd (omega arith)
 value-same (num x) null k n = absurd (omega arith)
 value-same (num x) out k n = absurd (omega arith)
 value-same (num x) (num y) k n = ap num n
-
--- the parts of a stored record
-held-kind : (v : Value) (m : Mark) → kindIn (encodeCell (held v m)) ≡ kindOf v
-unfolding encodeCell
-held-kind v m = refl
-
-held-number : (v : Value) (m : Mark) → wellFormed v ≡ true → numberIn (encodeCell (held v m)) ≡ numberOf v
-unfolding encodeCell
-held-number v m w = number-again _ _ _ (number-fits v w)
-
-unk-kind : (f : Bool) → kindIn (encodeCell (unk f)) ≡ 0
-unfolding encodeCell
-unk-kind f = refl
-
-unk-number : (f : Bool) → numberIn (encodeCell (unk f)) ≡ pos 0
-unfolding encodeCell
-unk-number f = number-again _ _ _ (number-fits null refl)
 
 -- an UNK cell is not to be refreshed
 unk-unrefreshed : (b : Bool) → markCode (noticeIf b) ≡ 1 → ⊥
@@ -451,4 +435,5 @@ module _ (s : List ℕ) (kept : Office) (lent : AcceptedLent s kept) where
           boards = λ items results z. board-leaves s kept lent bytes items results z;
           board-asks = λ items results z. board-asks s kept lent bytes items results z;
           board-quiet = board-quiets;
+          closes = λ z. close-leaves s kept lent bytes;
         }

@@ -3,6 +3,8 @@ pub mod Agreeing
 pub mod Boards
 pub mod Bridge
 pub mod Causes
+pub mod Cells
+pub mod Closes
 pub mod Demands
 pub mod Examples
 pub mod Holdable

@@ -24,7 +24,7 @@ use Rattle.table.specs.Record.{width}
 use Rattle.table.specs.Bytes.{decodeTable, tableForm}
 use Rattle.office.specs.Office.{Office, Given, resultsLent, refusal, accepted, openingTests, callTests, unlessRefused, effectOn, callRead, callOn, openRead, openOn}
 use Rattle.office.specs.Demand1Words.{Invocation, opening, calling, serve, resultsLentTo, TableBroken, NotPostable, Row, cause, ownCauses, causesIn, causesOf, First, NoneHolds}
-use Rattle.office.specs.Demand1Words.{HoldsAt, InBase, Lowest, Refused, bySheet, byLent, NoCause, ListsWrong, SomeNoItem, AcceptedLent, BoardRefuses}
+use Rattle.office.specs.Demand1Words.{HoldsAt, InBase, Lowest, Refused, bySheet, byLent, NoCause, ListsWrong, SomeNoItem, AcceptedLent, BoardRefuses, CloseRefuses}
 use Rattle.office.proofs.Causes.{tells-is, tells-is-not, tells-lengths, tells-index, tells-table, tells-beyond, tells-lists, tells-listed, tells-posted, tells-mark}
 
 -- ---- the first cause
@@ -384,6 +384,28 @@ lent-numbers s kept lent c = go (tells-eq (callOn s kept c .number) 0)
     go (holds e) = inl e
     go (fails n) =
         inr (refuse _ _ (turned-back (calling c) s kept .given (callOn s kept c .number) (callOn s kept c .offset) n .0 (refl, refl)))
+
+-- The refusals of a season-close run are those of what is lent.
+pub close-refuses : (s : List ℕ) (kept : Office) → CloseRefuses s kept
+close-refuses s kept =
+    record {
+      accepted = (accepted-lent s kept close, λ lent. turned-back (calling close) s kept .accepted .1 (record { sheet = lent .sheet; lent = lent .lent }));
+      numbers = go (tells-eq (callOn s kept close .number) 0);
+    }
+  where
+    lent-cause : (k : ℕ) → First (causesOf s kept (calling close)) k → k ≤ 10
+    lent-cause k (inl f) = omega (arith, f .0)
+    lent-cause k (inr (n, inl f)) = omega (arith, f .0)
+    lent-cause k (inr (n, inr (m, inl f))) = omega (arith, f .0)
+    lent-cause k (inr (n, inr (m, inr (o, f)))) = absurd f
+
+    refuse : (k offset : ℕ) → Refused s kept (calling close) k offset → k ≤ 10
+    refuse k offset (bySheet f) = omega (arith, refused-number s k offset (refused-exactly s k offset .1 f))
+    refuse k offset (byLent f h z) = lent-cause k h
+
+    go : {b : Bool} → Tells (callOn s kept close .number ≡ 0) b → callOn s kept close .number ≤ 10
+    go (holds e) = omega (arith, e)
+    go (fails n) = refuse _ _ (turned-back (calling close) s kept .given (callOn s kept close .number) (callOn s kept close .offset) n .0 (refl, refl))
 
 -- A board's own refusals, in their order.
 pub board-refuses : (s : List ℕ) (kept : Office) (items results : List ℕ) → BoardRefuses s kept items results

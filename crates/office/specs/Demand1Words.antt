@@ -142,7 +142,7 @@ ownCauses S t (board items results) = cause 17 (ListsWrong items results) ∷ ca
 ownCauses S t close = []
 
 -- The causes of an invocation in the order in which they count, after the sheet has been read. Openings use 8 alone. 01's calls have
--- theirs by rising numbers; a board has 17 before 11. (A later request's call may have a number twice.)
+-- theirs by rising numbers; a board has 17 before 11; a season-close run has those of what is lent alone. (A later request's call may have a number twice.)
 abbrev pub causesIn : Sheet → List Placed → Office → Invocation → List Row
 causesIn S ps o (opening how) = cause 8 (LengthsWrong (size S) o) ∷ []
 causesIn S ps o (calling c) = lentCauses S ps o ++ ownCauses S (o .table) c
@@ -165,7 +165,7 @@ abbrev pub HoldsAt : List Row → ℕ → Type 0
 HoldsAt [] k = ⊥
 HoldsAt (r ∷ rs) k = ((k ≡ r .number) × r .cause) ⊎ HoldsAt rs k
 
--- the openings and 01's five calls
+-- the openings, 01's five calls, and the season-close run, which has no cause of its own
 abbrev pub InBase : Invocation → Type 0
 InBase (opening how) = Unit {0}
 InBase (calling (post i kind z)) = Unit {0}
@@ -233,6 +233,11 @@ pub record BoardRefuses (s : List ℕ) (o : Office) (items results : List ℕ) :
   pub lists-17 : (callOn s o (board items results) .number ≡ 17) ↔ AcceptedLent s o × ListsWrong items results
   pub item-11 : (callOn s o (board items results) .number ≡ 11) ↔ AcceptedLent s o × (¬ ListsWrong items results) × SomeNoItem (sheetOf s) items
   pub results-left : ¬ (callOn s o (board items results) .number ≡ 0) → callOn s o (board items results) .results ≡ results
+
+-- The refusals of a season-close run: it is accepted exactly if sheet, index and table are; and its numbers are 1 to 10, and no others.
+pub record CloseRefuses (s : List ℕ) (o : Office) : Type 0 where
+  pub accepted : (callOn s o close .number ≡ 0) ↔ AcceptedLent s o
+  pub numbers : callOn s o close .number ≤ 10
 
 -- What the words above come to on the bytes of a sheet without a fault: n by the first field, parents below their items, figures
 -- by their tags, and the offsets in the index.

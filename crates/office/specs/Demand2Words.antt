@@ -3,16 +3,17 @@
 -- without a bound, in circuit, Equations. Assumes nothing.
 use Prim.Native.Nat.{ℕ, _*_, _/_, _<_}
 use mathlib.Core.Path.{_≡_}
-use mathlib.Core.Bool.{true}
+use mathlib.Core.Bool.{Bool, true, false}
 use mathlib.Core.List.{List, [], _∷_, _++_, map}
 use lib.IntN.{ℤ, pos}
 use lib.ListN.{length, getD}
 use Rattle.circuit.specs.Value.{Value, kindOf, numberOf}
+use Rattle.circuit.specs.Rules.{Operation, apply}
 use Rattle.circuit.specs.Circuit.{IsSolution}
-use Rattle.circuit.specs.Sheet.{Sheet, Ordered, Entries, size, itemAt, isFigure, circuitOf}
+use Rattle.circuit.specs.Sheet.{Sheet, Spread, figure, Ordered, Entries, size, itemAt, isFigure, circuitOf}
 use Rattle.circuit.specs.Table.{Table, unmarked, notice, held, upd, noticeIf, valueIn}
 use Rattle.circuit.specs.Machine.{Looked, Gathered, gather, lookUp, workOut, tell, clearMark}
-use Rattle.circuit.specs.Call.{Call, post, keep, drop, step, ask, board, Opening, bare, full}
+use Rattle.circuit.specs.Call.{Call, post, keep, drop, step, ask, board, close, Opening, bare, full}
 use Rattle.circuit.specs.Board.{listedWidth, resultWidth, listed}
 use Rattle.circuit.specs.Words.{CaughtUp}
 use Rattle.field.specs.Field.{Bytes, le16At}
@@ -192,6 +193,24 @@ pub data Asks (s : List ℕ) : Office → List ℕ → List ℕ → Office → T
 abbrev pub NoMarkStands : Sheet → List ℕ → Type 0
 NoMarkStands S t = (k : ℕ) → k < size S → markIn (row width t k) ≡ 0
 
+-- the answer of an ask whose value is that in the record of item i
+abbrev pub readingIn : List ℕ → ℕ → Answer
+readingIn t i = record { number = 0; offset = 0; kind = kindIn (row width t i); value = numberIn (row width t i) }
+
+-- 02's season-close run, from the table t to what the office then keeps, o: "entry values as they were, every figure worked out anew from
+-- its parents and stored, no marks". The parents' values are those that the run leaves: it goes lowest first (circuit, Equations).
+pub record CloseLeaves (s : List ℕ) (t : List ℕ) (o : Office) : Type 0 where
+  pub entries : (i : ℕ) → i < size (sheetOf s) → isFigure (itemAt (sheetOf s) i) ≡ false
+      → (kindIn (row width (o .table) i) ≡ kindIn (row width t i)) × (numberIn (row width (o .table) i) ≡ numberIn (row width t i))
+  pub figures : (i : ℕ) (op : Operation) (kept : Bool) (spread : Spread) (ps : List ℕ) → i < size (sheetOf s)
+      → itemAt (sheetOf s) i ≡ figure op kept spread ps → Stores (o .table) i (apply op (map (valueOf (o .table)) ps))
+  pub no-marks : NoMarkStands (sheetOf s) (o .table)
+  -- so each item holds the solution under the entries that the table held
+  pub solves : (values : ℕ → Value) × OnlySolution (sheetOf s) (entriesIn t) values × ((i : ℕ) → i < size (sheetOf s) → Stores (o .table) i (values i))
+  -- from then on an ask gives what the item's record holds, and changes nothing; nor does another run
+  pub asked : (i : ℕ) → i < size (sheetOf s) → let g : Given = callOn s o (ask i) in (answerOf g ≡ readingIn (o .table) i) × (g .after ≡ o)
+  pub again : callOn s o close .after ≡ o
+
 -- What the calls leave of what an office keeps, where it is accepted: the index as it was, an accepted table, and of an accepted
 -- call the table of its sentence, in bytes.
 pub record CallsLeave (s : List ℕ) (o : Office) : Type 0 where
@@ -212,3 +231,4 @@ pub record CallsLeave (s : List ℕ) (o : Office) : Type 0 where
       g .number ≡ 0 → Asks s o (listed items) (g .results) (g .after)
   pub board-quiet : (items results : List ℕ) → let g : Given = callOn s o (board items results) in
       g .number ≡ 0 → ¬ (items ≡ []) → NoMarkStands (sheetOf s) (g .after .table)
+  pub closes : let g : Given = callOn s o close in g .number ≡ 0 → CloseLeaves s (o .table) (g .after)

@@ -10,9 +10,10 @@ use lib.Dec.{eqb}
 use lib.IntN.{ℤ}
 use Rattle.circuit.specs.Value.{Value}
 use Rattle.circuit.specs.Circuit.{LeadsTo}
-use Rattle.circuit.specs.Sheet.{size, itemAt, isFigure, circuitOf}
+use Rattle.circuit.specs.Sheet.{Sheet, size, itemAt, isFigure, circuitOf}
 use Rattle.circuit.specs.Call.{Call, post, keep, drop, step, ask, board, close}
 use Rattle.circuit.specs.Board.{listed, listsWrong}
+use Rattle.circuit.specs.Closing.{keepEvery}
 use Rattle.circuit.specs.Fresh.{blank, freshRun, freshAsk, freshAsks}
 use Rattle.circuit.specs.Words.{droppedIn}
 use Rattle.layout.specs.Opened.{sheetOf}
@@ -20,7 +21,7 @@ use Rattle.table.specs.Rows.{row}
 use Rattle.table.specs.Record.{width, kindIn, numberIn}
 use Rattle.office.specs.Office.{Office, Given, callOn, runOn, kindRead, numberRead, resultsOf}
 use Rattle.office.specs.Demand1Words.{AcceptedLent}
-use Rattle.office.specs.Demand2Words.{Answer, answerOf, NoMarkStands}
+use Rattle.office.specs.Demand2Words.{Answer, answerOf, NoMarkStands, readingIn}
 
 -- a post's arguments
 pub record Posted : Type 0 where
@@ -131,6 +132,19 @@ Retains s o =
 pub record CountsAsAsks (s : List ℕ) (o : Office) (items results : List ℕ) (cs : List Call) : Type 0 where
   pub posts : acceptedPosts s o (board items results ∷ cs) ≡ acceptedPosts s o (map ask (listed items) ++ cs)
   pub keeps : runOn s o (board items results ∷ cs) ≡ runOn s o (map ask (listed items) ++ cs)
+
+-- A season-close run at an office that keeps p, on a sheet with the items S.
+pub record ClosesRight (S : Sheet) (s : List ℕ) (p : Office) : Type 0 where
+  pub accepted : callOn s p close .number ≡ 0
+  -- 02's "It agrees with an ask for each item", made before the run and after it
+  pub before : (i : ℕ) → i < size S → answerOf (callOn s p (ask i)) ≡ readingIn (callOn s p close .after .table) i
+  pub after : (i : ℕ) → i < size S → answerOf (callOn s (callOn s p close .after) (ask i)) ≡ readingIn (callOn s p close .after .table) i
+  -- It leaves what catching up and then keeping every figure, lowest first, leaves. Here any list catches up in which no post is
+  -- accepted and after which no mark stands.
+  pub keeps : (ds : List Call) → acceptedPosts s p ds ≡ [] → NoMarkStands S (runOn s p ds .table)
+      → runOn s (runOn s p ds) (keepEvery S) ≡ callOn s p close .after
+  -- Some steps catch up.
+  pub catches : (is : List ℕ) × NoMarkStands S (runOn s p (map step is) .table)
 
 -- At an office, whatever was called before, index and table are accepted, and a call is given 0, or 11 or more.
 pub record OfficeAccepted (s : List ℕ) (o : Office) (cs : List Call) : Type 0 where

@@ -1,4 +1,4 @@
--- The three demands of document 01, with 02's board and older tables, a record for each, in its order. They are demands on `openOn` and `callOn`
+-- The three demands of document 01, with 02's board, older tables and season-close run, a record for each, in its order. They are demands on `openOn` and `callOn`
 -- (Office), which the contracts of the exported functions cite: a function gives and leaves exactly what these say, for all lent bytes.
 -- That every call ends and touches only what it was lent is proved of each function by the language. Assumes nothing.
 use Prim.Native.Nat.{ℕ, _≤_}
@@ -15,10 +15,10 @@ use Rattle.field.specs.Field.{Bytes}
 use Rattle.layout.specs.Layout.{machineSheet}
 use Rattle.layout.specs.Opened.{sheetOf}
 use Rattle.layout.specs.Causes.{Faultless}
-use Rattle.office.specs.Office.{Office, resultOf, callOn, openOn}
-use Rattle.office.specs.Demand1Words.{Invocation, serve, resultsLentTo, causesOf, First, InBase, Lowest, Refused, NoCause, Gets, AcceptedUnder, AcceptedLent, BoardRefuses, SheetWords}
+use Rattle.office.specs.Office.{Office, resultOf, callOn, openOn, runOn}
+use Rattle.office.specs.Demand1Words.{Invocation, serve, resultsLentTo, causesOf, First, InBase, Lowest, Refused, NoCause, Gets, AcceptedUnder, AcceptedLent, BoardRefuses, CloseRefuses, SheetWords}
 use Rattle.office.specs.Demand2Words.{FollowsLayout, Writes, NoneStored, OnlySolution, entriesIn, Gives, ListWords, ResultWords, CallsLeave}
-use Rattle.office.specs.Demand3Words.{acceptedPosts, SameAnswers, Retains, CountsAsAsks, OfficeAccepted}
+use Rattle.office.specs.Demand3Words.{acceptedPosts, SameAnswers, Retains, CountsAsAsks, ClosesRight, OfficeAccepted}
 
 -- Demand 1. Each fault is refused by its number and nothing else is, and a refused call changes no lent byte.
 pub record Refuses : Type 0 where
@@ -33,10 +33,12 @@ pub record Refuses : Type 0 where
       → (serve r s o .after ≡ o) × (serve r s o .results ≡ resultsLentTo r)
   pub no-value : (r : Invocation) (s : List ℕ) (o : Office) → ¬ (serve r s o .number ≡ 0)
       → (serve r s o .kind ≡ 0) × (serve r s o .value ≡ pos 0)
-  -- of the openings and 01's five calls: after the sheet the lowest number wins
+  -- of the openings, 01's five calls and the season-close run: after the sheet the lowest number wins
   pub lowest : (r : Invocation) → InBase r → (s : List ℕ) (o : Office) (k : ℕ) → First (causesOf s o r) k ↔ Lowest (causesOf s o r) k
   -- of a board: 17 comes after 10 and before 11
   pub boards : (s : List ℕ) (o : Office) (items results : List ℕ) → BoardRefuses s o items results
+  -- of a season-close run: 1 to 10, and no others
+  pub closes : (s : List ℕ) (o : Office) → CloseRefuses s o
   -- 02's "older tables are accepted": what is accepted under a range with a lower limit, every other cause the same, is accepted
   pub older : (most : ℕ) → most ≤ limit → (s : List ℕ) (o : Office) → AcceptedUnder most s o → AcceptedLent s o
   -- each number has its cause (15 is the printer's, printer/specs/Causes, and 16 the day program's, day_meaning/specs/Causes)
@@ -45,7 +47,8 @@ pub record Refuses : Type 0 where
   pub words : (s : List ℕ) → Faultless s → SheetWords s
 
 -- Demand 2. A sheet opens exactly if it follows the layout; a figure worked out with nothing stored is the circuit's solution;
--- every call leaves exactly the table that 01 describes, and a board the table and the results that 02 describes.
+-- every call leaves exactly the table that 01 describes, a board the table and the results, and a season-close run the table, that 02
+-- describes.
 pub record Means : Type 0 where
   -- a sheet that is lent with an index and a table of 4 and 10 bytes an item
   pub opens : (how : Opening) (s : List ℕ) (o : Office) → Bytes s → (openOn how s o .number ≡ 0) ↔ FollowsLayout s o
@@ -83,6 +86,9 @@ pub record Agrees : Type 0 where
   -- In a list of calls an accepted board counts as the asks for its items.
   pub counts : (s : List ℕ) (o : Office) → Bytes (o .table) → (items results : List ℕ) → callOn s o (board items results) .number ≡ 0
       → (cs : List Call) → CountsAsAsks s o items results cs
+  -- On any table that the engine alone has written since opening, a season-close run agrees with an ask for each item.
+  pub closes : (s : List ℕ) (o : Office) (how : Opening) → openOn how s o .number ≡ 0
+      → (cs : List Call) → ClosesRight (sheetOf s) s (runOn s (openOn how s o .after) cs)
   -- no list leads to a refusal of index or table
   pub never-refused : (s : List ℕ) (o : Office) (how : Opening) → openOn how s o .number ≡ 0
       → (cs : List Call) → OfficeAccepted s (openOn how s o .after) cs

@@ -1,0 +1,70 @@
+-- The record of a cell: its kind, its number and its mark. Assumes nothing.
+use Prim.Native.Nat.{ℕ}
+use mathlib.Core.Path.{_≡_, refl, sym, ap, _∙_}
+use mathlib.Core.Bool.{Bool, true, false, not}
+use native.Mathlib.Omega.{arith}
+use lib.Dec.{eqb}
+use lib.IntN.{ℤ, pos}
+use mir.Syntax.{w64}
+use mir.Val.{toZ}
+use Rattle.circuit.specs.Value.{Value, null, out, num, kindOf, numberOf, wellFormed}
+use Rattle.circuit.specs.Table.{Cell, Mark, unmarked, refresh, notice, unk, held, isStored, isMark, markOf, valueIn}
+use Rattle.word.specs.Word.{bytes64, le64At}
+use Rattle.word.proofs.Bytes.{leAt-drop}
+use Rattle.table.specs.Record.{recordOf, kindIn, markIn, numberIn, markCode, encodeCell}
+use Rattle.table.proofs.Records.{number-fits, number-again}
+
+-- the parts of a stored record
+pub held-kind : (v : Value) (m : Mark) → kindIn (encodeCell (held v m)) ≡ kindOf v
+unfolding encodeCell
+held-kind v m = refl
+
+pub held-number : (v : Value) (m : Mark) → wellFormed v ≡ true → numberIn (encodeCell (held v m)) ≡ numberOf v
+unfolding encodeCell
+held-number v m w = number-again _ _ _ (number-fits v w)
+
+pub unk-kind : (f : Bool) → kindIn (encodeCell (unk f)) ≡ 0
+unfolding encodeCell
+unk-kind f = refl
+
+pub unk-number : (f : Bool) → numberIn (encodeCell (unk f)) ≡ pos 0
+unfolding encodeCell
+unk-number f = number-again _ _ _ (number-fits null refl)
+
+-- whether a record is stored
+pub kind-cell : (c : Cell) → not (eqb (kindIn (encodeCell c)) 0) ≡ isStored c
+unfolding encodeCell
+kind-cell (unk b) = refl
+kind-cell (held null m) = refl
+kind-cell (held out m) = refl
+kind-cell (held (num z) m) = refl
+
+-- a record's number stands in its own bytes
+number-alone : (k m : ℕ) (z : ℤ) → numberIn (recordOf k m z) ≡ le64At (bytes64 z) 0
+number-alone k m z = ap (λ (x : ℕ). toZ w64 x) (leAt-drop 8 (recordOf k m z) 2 0)
+
+-- cells that hold the same value have the same kind and number
+pub parts-same : (c d : Cell) → isStored c ≡ true → isStored d ≡ true → valueIn d ≡ valueIn c
+    → (kindIn (encodeCell d) ≡ kindIn (encodeCell c)) × (numberIn (encodeCell d) ≡ numberIn (encodeCell c))
+unfolding encodeCell
+parts-same (unk b) d e f q = let bad : _≡_ {A = ℕ} 0 1 = cc in absurd (omega arith)
+parts-same (held v m) (unk b) e f q = let bad : _≡_ {A = ℕ} 0 1 = cc in absurd (omega arith)
+parts-same (held v m) (held w l) e f q = (
+  ap kindOf q,
+  number-alone (kindOf w) (markCode l) (numberOf w) ∙ ap (λ u. le64At (bytes64 (numberOf u)) 0) q ∙ sym (number-alone (kindOf v) (markCode m) (numberOf v)),
+)
+
+pub mark-cell : (c : Cell) → markIn (encodeCell c) ≡ markCode (markOf c)
+unfolding encodeCell
+mark-cell (unk b) = refl
+mark-cell (held v m) = refl
+
+pub code-unmarked : (m : Mark) → markCode m ≡ 0 → isMark m ≡ false
+code-unmarked unmarked e = refl
+code-unmarked refresh e = absurd (omega arith)
+code-unmarked notice e = absurd (omega arith)
+
+pub unmarked-code : (m : Mark) → isMark m ≡ false → markCode m ≡ 0
+unmarked-code unmarked e = refl
+unmarked-code refresh e = let bad : _≡_ {A = ℕ} 0 1 = cc in absurd (omega arith)
+unmarked-code notice e = let bad : _≡_ {A = ℕ} 0 1 = cc in absurd (omega arith)

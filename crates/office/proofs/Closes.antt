@@ -1,0 +1,335 @@
+-- A season-close run on lent bytes: what it leaves of any accepted table (`close-leaves`), and that on a table that the engine alone has
+-- written it agrees with the asks and with keeping every figure (`office-closes`). Assumes that the table is bytes, where it says so.
+use Prim.Native.Nat.{ℕ, _<_}
+use native.Mathlib.Omega.{arith}
+use mathlib.Core.Path.{_≡_, refl, sym, ap, _∙_, subst}
+use mathlib.Core.Bool.{Bool, true, false}
+use mathlib.Core.List.{List, [], _∷_, map}
+use mathlib.Core.Option.{none, some}
+use borrow.Author.Tests.{lt-leb}
+use Rattle.circuit.specs.Value.{Value, kindOf, numberOf, wellFormed}
+use Rattle.circuit.specs.Rules.{Operation, apply}
+use Rattle.circuit.specs.Sheet.{Sheet, Spread, figure, Ordered, Entries, size, itemAt, isFigure, parentsOf}
+use Rattle.circuit.specs.Circuit.{Listed}
+use Rattle.circuit.specs.Table.{Table, unmarked, held, isStored, isMarked, valueIn, markOf}
+use Rattle.circuit.specs.Machine.{looked, lookCell, lookUp, catchUp}
+use Rattle.circuit.specs.Call.{Call, step, ask, close, Opening}
+use Rattle.circuit.specs.Calls.{Outcome, outcome, tests, firstCause, readingOf, effect, perform, run, postings}
+use Rattle.circuit.specs.Closing.{closeAll, keepEvery}
+use Rattle.circuit.specs.Fresh.{blank, give, giveItem, freshRun}
+use Rattle.circuit.specs.Words.{Quiet, Holds}
+use Rattle.circuit.proofs.Solution.{map-listed, give-equation, give-solves, solution-given, entry-value}
+use Rattle.circuit.proofs.Fill.{lookUp-is}
+use Rattle.circuit.proofs.CatchUp.{catchUp-still}
+use Rattle.circuit.proofs.Accepted.{accepted-effect}
+use Rattle.circuit.proofs.Closing.{close-at, close-quiet, close-holds}
+use Rattle.circuit.proofs.Sound.{Sound, run-sound}
+use Rattle.circuit.proofs.KeepEvery.{keeps-at, steps-quiet}
+use Rattle.circuit.proofs.Offices.{entered, caught-value}
+use Rattle.circuit.proofs.Demand.{run-entered}
+use Rattle.circuit.proofs.Retention.{stored-entry}
+use Rattle.layout.specs.Read.{Placed, opens, readSheet}
+use Rattle.layout.specs.Opened.{sheetRead, sheetOf}
+use Rattle.layout.specs.Index.{indexBytes}
+use Rattle.word.specs.Word.{Bytes}
+use Rattle.table.specs.Rows.{row}
+use Rattle.table.specs.Record.{width, kindIn, markIn, numberIn, encodeCell}
+use Rattle.table.specs.Bytes.{encodeTable, decodeTable, Holdable}
+use Rattle.table.proofs.Tables.{encoded-record, encodeTable-ext, holdable-wellFormed, holdable-formed}
+use Rattle.office.specs.Office.{Office, keeping, Given, resultsLent, callOn, openOn, runOn}
+use Rattle.office.specs.Demand1Words.{AcceptedLent}
+use Rattle.office.specs.Demand2Words.{answerOf, reading, valueOf, entriesIn, OnlySolution, Stores, NoMarkStands, readingIn, CloseLeaves}
+use Rattle.office.specs.Demand3Words.{acceptedPosts, ClosesRight}
+use Rattle.office.proofs.Cells.{held-kind, held-number, parts-same, mark-cell, unmarked-code}
+use Rattle.office.proofs.Holdable.{perform-holdable, run-holdable}
+use Rattle.office.proofs.Bridge.{Within, perform-within, decode-within, givenBy}
+use Rattle.office.proofs.Agreeing as opened
+use Rattle.office.proofs.Agreeing.{Opens, opening-opens}
+use Rattle.office.proofs.Lent.{ordered, holdable, within, encoded, performs}
+
+-- An office that keeps the index x and the encoding of the table T, whose entries hold E: calls on its bytes are the machine's.
+record Keeps (s x : List ℕ) (S : Sheet) (E : Entries) (T : Table) : Type 0 where
+  ordered : Ordered S
+  performs : (X : Table) (c : Call) → Holdable S X → Within S X → callOn s (keeping x (encodeTable S X)) c ≡ givenBy S x (resultsLent c) (perform S X c)
+  holdable : Holdable S T
+  within : Within S T
+  holds : Holds S T E
+
+module _ {s x : List ℕ} {S : Sheet} {E : Entries} {T : Table} (keep : Keeps s x S E T) where
+  abbrev office : Table → Office
+  office X = keeping x (encodeTable S X)
+
+  abbrev U : Table
+  U = closeAll S T
+
+  -- the run has no cause of its own
+  closed : callOn s (office T) close ≡ givenBy S x [] (outcome 0 none U)
+  unfolding perform tests firstCause effect
+  closed = keep .performs T close (keep .holdable) (keep .within)
+
+  closed-holdable : Holdable S U
+  unfolding perform tests firstCause effect
+  closed-holdable = perform-holdable S (keep .ordered) T close (keep .holdable)
+
+  closed-within : Within S U
+  unfolding perform tests firstCause effect
+  closed-within = perform-within S (keep .ordered) T close (keep .within)
+
+  closed-record : (i : ℕ) → i < size S → row width (encodeTable S U) i ≡ encodeCell (held (give S E i) unmarked)
+  closed-record i low = encoded-record S U i low ∙ ap encodeCell (close-at S (keep .ordered) E T (keep .holds) i low)
+
+  -- each record holds the fresh office's value
+  closed-stores : (i : ℕ) → i < size S → Stores (encodeTable S U) i (give S E i)
+  closed-stores i low = (
+    ap kindIn (closed-record i low) ∙ held-kind (give S E i) unmarked,
+    ap numberIn (closed-record i low) ∙ held-number (give S E i) unmarked formed,
+  )
+    where
+      formed : wellFormed (give S E i) ≡ true
+      formed = subst (λ c. wellFormed (valueIn c) ≡ true) (close-at S (keep .ordered) E T (keep .holds) i low) (holdable-wellFormed S U closed-holdable i low)
+
+  closed-reading : (i : ℕ) → i < size S → reading (give S E i) ≡ readingIn (encodeTable S U) i
+  closed-reading i low =
+      let stores = closed-stores i low in
+      λ j. record { number = 0; offset = 0; kind = sym (stores .0) j; value = sym (stores .1) j }
+
+  closed-unmarked : NoMarkStands S (encodeTable S U)
+  closed-unmarked i low =
+      ap markIn (encoded-record S U i low) ∙ mark-cell (U i) ∙ unmarked-code (markOf (U i)) (close-quiet S (keep .ordered) E T (keep .holds) i low)
+
+  -- an ask then looks up a stored item, and catches up nothing
+  closed-asked : (i : ℕ) → i < size S → callOn s (office U) (ask i) ≡ givenBy S x [] (outcome 0 (some (give S E i)) U)
+  unfolding tests firstCause effect
+  closed-asked i low =
+      keep .performs U (ask i) closed-holdable closed-within
+      ∙ ap (givenBy S x []) (accepted-effect S U (ask i) (rw (lt-leb (size S) i low)) ∙ ap readingOf (ap (λ X. lookUp S X i) still ∙ stored))
+    where
+      still : catchUp S U ≡ U
+      still = catchUp-still S (keep .ordered) U (close-quiet S (keep .ordered) E T (keep .holds))
+
+      stored : lookUp S U i ≡ looked U (give S E i) false
+      stored = lookUp-is S (keep .ordered) U i ∙ ap (lookCell (lookUp S) S U i) (close-at S (keep .ordered) E T (keep .holds) i low)
+
+  closed-again : callOn s (office U) close .after ≡ office U
+  unfolding perform tests firstCause effect
+  closed-again =
+      ap (λ g. g .after) (keep .performs U close closed-holdable closed-within)
+      ∙ ap (keeping x) (encodeTable-ext S (closeAll S U) U
+      (λ i low. close-at S (keep .ordered) E U (close-holds S (keep .ordered) E T (keep .holds)) i low ∙ sym (close-at S (keep .ordered) E T (keep .holds) i low)))
+
+-- What the run leaves of an accepted table.
+module _ (s : List ℕ) (kept : Office) (lent : AcceptedLent s kept) (bytes : Bytes (kept .table)) where
+  abbrev S : Sheet
+  S = sheetOf s
+
+  abbrev t : List ℕ
+  t = kept .table
+
+  abbrev x : List ℕ
+  x = kept .index
+
+  abbrev T : Table
+  T = decodeTable (kept .table)
+
+  abbrev E : Entries
+  E = entriesIn (kept .table)
+
+  lower : Ordered S
+  lower = ordered s kept lent
+
+  keep : Keeps s x S E T
+  keep = record { ordered = lower; performs = performs s kept lent; holdable = holdable s kept lent; within = within s kept lent; holds = λ i low e. refl }
+
+  again : encodeTable S T ≡ t
+  again = encoded s kept lent bytes
+
+  after : callOn s kept close .after ≡ keeping x (encodeTable S (closeAll S T))
+  after = ap (λ u. callOn s (keeping x u) close .after) (sym again) ∙ ap (λ g. g .after) (closed keep)
+
+  pub close-leaves : CloseLeaves s t (callOn s kept close .after)
+  close-leaves = subst (CloseLeaves s t) (sym after) left
+    where
+      U : Table
+      U = closeAll S T
+
+      u : List ℕ
+      u = encodeTable S U
+
+      values : ℕ → Value
+      values = give S E
+
+      at : (i : ℕ) → i < size S → U i ≡ held (values i) unmarked
+      at = close-at S lower E T (λ i l e. refl)
+
+      stores : (i : ℕ) → i < size S → Stores u i (values i)
+      stores = closed-stores keep
+
+      entry-kept : (i : ℕ) → i < size S → isFigure (itemAt S i) ≡ false
+          → (kindIn (row width u i) ≡ kindIn (row width t i)) × (numberIn (row width u i) ≡ numberIn (row width t i))
+      entry-kept i low e =
+          let was = ap (λ b. row width b i) (sym again) ∙ encoded-record S T i low in
+          let same = parts-same (T i) (U i) (stored-entry (itemAt S i) (T i) (holdable-formed S T (holdable s kept lent) i low) e) (ap isStored (at i low))
+              (ap valueIn (at i low) ∙ entry-value S E (give-solves S lower E) i low e) in
+          (ap kindIn (encoded-record S U i low) ∙ same .0 ∙ ap kindIn (sym was), ap numberIn (encoded-record S U i low) ∙ same .1 ∙ ap numberIn (sym was))
+
+      -- the value in a record that the run left
+      value-left : (p : ℕ) → p < size S → valueOf u p ≡ values p
+      value-left p low =
+          ap (λ X. valueIn (X p)) (decode-within S U (closed-holdable keep) (closed-within keep))
+          ∙ ap valueIn (at p low)
+
+      figure-left : (i : ℕ) (op : Operation) (k : Bool) (spread : Spread) (ps : List ℕ) → i < size S → itemAt S i ≡ figure op k spread ps
+          → Stores u i (apply op (map (valueOf u) ps))
+      figure-left i op k spread ps low it = subst (Stores u i) (value ∙ ap (apply op) (sym parents-left)) (stores i low)
+        where
+          value : values i ≡ apply op (map values ps)
+          value = give-equation S lower E i ∙ ap (λ y. giveItem values y (E i)) it
+
+          parents-left : map (valueOf u) ps ≡ map values ps
+          parents-left =
+              map-listed ps (λ p l. value-left p (omega (arith, lower i p (subst (λ y. Listed p (parentsOf y)) (sym it) l), low)))
+
+      left : CloseLeaves s t (keeping x u)
+      left =
+          record {
+            entries = entry-kept;
+            figures = figure-left;
+            no-marks = closed-unmarked keep;
+            solves = (
+              values,
+              record { ordered = lower; solves = give-solves S lower E; only = λ other solves i low. solution-given S lower E solves i low },
+              stores,
+            );
+            asked = λ i low.
+                let g = closed-asked keep i low in
+                (ap answerOf g ∙ closed-reading keep i low, ap (λ r. r .after) g);
+            again = closed-again keep;
+          }
+
+-- An opened sheet's office, after a list of calls.
+module _ (s : List ℕ) (edition : ℕ) (ps : List Placed) (reads : readSheet s ≡ opens edition ps) (o : Opening) (cs : List Call) where
+  abbrev X : Sheet
+  X = sheetRead edition ps
+
+  abbrev begin : Table
+  begin = opened.start s edition ps reads o
+
+  abbrev T₁ : Table
+  T₁ = run X begin cs
+
+  abbrev E₁ : Entries
+  E₁ = freshRun X blank cs
+
+  rising : Ordered X
+  rising = opened.ordered s edition ps reads
+
+  sound : Sound X E₁ T₁
+  sound = run-sound X rising cs blank begin (opened.start-sound s edition ps reads o)
+
+  h₁ : Holdable X T₁
+  h₁ = run-holdable X rising cs begin (opened.start-holdable s edition ps reads o)
+
+  w₁ : Within X T₁
+  w₁ = opened.run-within s edition ps reads cs begin (opened.start-within s edition ps reads o)
+
+  abbrev here : Table → Office
+  here = opened.at s edition ps reads
+
+  keep₁ : Keeps s (indexBytes ps) X E₁ T₁
+  keep₁ = record { ordered = rising; performs = opened.performs s edition ps reads; holdable = h₁; within = w₁; holds = sound .holds }
+
+  closed₁ : callOn s (here T₁) close .after ≡ here (closeAll X T₁)
+  closed₁ = ap (λ g. g .after) (closed keep₁)
+
+  -- an ask before the run
+  before : (i : ℕ) → i < size X → answerOf (callOn s (here T₁) (ask i)) ≡ reading (give X E₁ i)
+  unfolding tests firstCause effect
+  before i low =
+      ap answerOf (keep₁ .performs T₁ (ask i) h₁ w₁ ∙ ap (givenBy X (indexBytes ps) []) (accepted-effect X T₁ (ask i) (rw (lt-leb (size X) i low))))
+      ∙ ap reading (caught-value X rising E₁ (give X E₁) (give-solves X rising E₁) T₁ sound i low)
+
+  -- a list without an accepted post after which no mark stands, and then a keep of every figure
+  keeps : (ds : List Call) → acceptedPosts s (here T₁) ds ≡ [] → NoMarkStands X (runOn s (here T₁) ds .table)
+      → runOn s (runOn s (here T₁) ds) (keepEvery X) ≡ here (closeAll X T₁)
+  unfolding opened.postingsOf entered
+  keeps ds none-made quiet =
+      ap (λ p. runOn s p (keepEvery X)) ran
+      ∙ opened.runs s edition ps reads (keepEvery X) W (run-holdable X rising ds T₁ h₁) (opened.run-within s edition ps reads ds T₁ w₁)
+      ∙ ap (keeping (indexBytes ps)) (encodeTable-ext X _ _ same)
+    where
+      W : Table
+      W = run X T₁ ds
+
+      ran : runOn s (here T₁) ds ≡ here W
+      ran = opened.runs s edition ps reads ds T₁ h₁ w₁
+
+      no-postings : postings X T₁ ds ≡ []
+      no-postings = sym (opened.posts-made s edition ps reads ds T₁ h₁ w₁) ∙ ap opened.postingsOf none-made
+
+      caught : Sound X E₁ W
+      caught =
+          let later = run-sound X rising ds E₁ T₁ sound in
+          record {
+            invariant = later .invariant;
+            formed = later .formed;
+            holds = subst (λ qs. Holds X W (entered E₁ qs)) no-postings (run-entered X rising E₁ T₁ ds sound);
+          }
+
+      still : Quiet X W
+      still = opened.quiet-is s edition ps reads W (λ i low. ap (λ p. markIn (row width (p .table) i)) (sym ran) ∙ quiet i low)
+
+      same : (i : ℕ) → i < size X → run X W (keepEvery X) i ≡ closeAll X T₁ i
+      same i low = keeps-at X rising E₁ W caught still i low ∙ sym (close-at X rising E₁ T₁ (sound .holds) i low)
+
+  -- the steps of catching up
+  catches : (is : List ℕ) × NoMarkStands X (runOn s (here T₁) (map step is) .table)
+  catches = let steps = steps-quiet X rising T₁ in (steps .0, λ i low. unmarked-after (steps .0) i low (steps .1 i low))
+    where
+      unmarked-after : (is : List ℕ) (i : ℕ) → i < size X → let W : Table = run X T₁ (map step is) in isMarked (W i) ≡ false
+          → markIn (row width (runOn s (here T₁) (map step is) .table) i) ≡ 0
+      unmarked-after is i low quiet =
+          ap (λ p. markIn (row width (p .table) i)) (opened.runs s edition ps reads (map step is) T₁ h₁ w₁)
+          ∙ opened.mark-is s edition ps reads (run X T₁ (map step is)) i low ∙ unmarked-code (markOf (run X T₁ (map step is) i)) quiet
+
+  closes-at : ClosesRight X s (here T₁)
+  closes-at =
+      record {
+        accepted = ap (λ g. g .number) (closed keep₁);
+        before = λ i low. before i low ∙ read i low ∙ ap (λ p. readingIn (p .table) i) (sym closed₁);
+        after = λ i low.
+            ap (λ p. answerOf (callOn s p (ask i))) closed₁
+            ∙ ap answerOf (closed-asked keep₁ i low)
+            ∙ read i low ∙ ap (λ p. readingIn (p .table) i) (sym closed₁);
+        keeps = λ ds none-made quiet. keeps ds none-made quiet ∙ sym closed₁;
+        catches = catches;
+      }
+    where
+      read : (i : ℕ) → i < size X → reading (give X E₁ i) ≡ readingIn (encodeTable X (closeAll X T₁)) i
+      read = closed-reading keep₁
+
+-- On a table that the engine alone has written since opening, the run agrees with the asks and with keeping every figure.
+pub office-closes : (s : List ℕ) (kept : Office) (o : Opening) → openOn o s kept .number ≡ 0 → (cs : List Call)
+    → ClosesRight (sheetOf s) s (runOn s (openOn o s kept .after) cs)
+unfolding opened.office
+office-closes s kept o e cs =
+    subst (λ S. ClosesRight S s (runOn s (openOn o s kept .after) cs)) (sym (opened.sheet-is s edition ps reads))
+    (subst (λ g. ClosesRight (sheetRead edition ps) s (runOn s (g .after) cs)) (sym (opened.opening-gives s edition ps reads kept o e))
+    (subst (ClosesRight (sheetRead edition ps) s) (sym ran) (closes-at s edition ps reads o cs)))
+  where
+    first : Opens s kept o
+    first = opening-opens s kept o e
+
+    edition : ℕ
+    edition = first .edition
+
+    ps : List Placed
+    ps = first .placed
+
+    reads : readSheet s ≡ opens edition ps
+    reads = first .reads
+
+    begin : Table
+    begin = opened.start s edition ps reads o
+
+    ran : runOn s (opened.at s edition ps reads begin) cs ≡ opened.at s edition ps reads (run (sheetRead edition ps) begin cs)
+    ran = opened.runs s edition ps reads cs begin (opened.start-holdable s edition ps reads o) (opened.start-within s edition ps reads o)
