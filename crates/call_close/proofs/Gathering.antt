@@ -114,8 +114,8 @@ module _ {s offsets t : List ℕ} {i at count k : ℕ} {kinds : List ℕ} {amoun
       ap allWellFormed (gathered h)
       ∙ all-formed (valueAt t) ps
       (λ p l.
-        holdable-wellFormed (sheetOf s) (decodeTable t) (decoded-holdable (sheetOf s) t (inv .lent .formed)) p
-        (omega (arith, sheet-ordered s i p l, inv .field .low)))
+      holdable-wellFormed (sheetOf s) (decodeTable t) (decoded-holdable (sheetOf s) t (inv .lent .formed)) p
+      (omega (arith, sheet-ordered s i p l, inv .field .low)))
 
   -- the figure is worked out
   pub gathering-done : count ≤ k → (op : Operation) → OperationRead (fieldItem s at) op → (r : Rattle.value.specs.declared.Value.Value)

@@ -106,8 +106,7 @@ closing-run S ordered T =
       entry-closed = λ k it. let U : Table = closeBelow S T k in ap (λ x. upd U k (held (evaluate x (valueIn (U k)) (map (λ p. valueIn (U p)) (parentsOf x))) unmarked)) it;
       figure-closed = λ k op keep spread ps it.
           let U : Table = closeBelow S T k in
-          let value = ap (λ x. evaluate x (valueIn (U k)) (map (λ p. valueIn (U p)) (parentsOf x))) it in
-          (
+          let value = ap (λ x. evaluate x (valueIn (U k)) (map (λ p. valueIn (U p)) (parentsOf x))) it in (
             ap (λ v. upd U k (held v unmarked)) value,
             close-works S ordered T k (figure-below S k (ap isFigure it)) (ap isFigure it) ∙ ap (λ v. looked U v false) value,
           );

@@ -1,4 +1,4 @@
--- Worked cases, computed by the definitions: a chain of two figures that is caught up in part; a figure that its own
+-- Worked cases, computed by the definitions: a chain of two figures that is caught up in part, and closed; a figure that its own
 -- telling stores; a stored NULL; the example day.
 -- Assumes nothing.
 use Prim.Native.Nat.{ℕ}
@@ -13,7 +13,8 @@ use Rattle.circuit.specs.Sheet.{Sheet, entry, figure, defer, renew, memb
 use Rattle.circuit.specs.Table.{Table, held, unmarked, notice, openBare, openFull}
 use Rattle.circuit.specs.Machine.{Looked, gather, workOutBy, lookFor, lookUp, workOut, storePosting, keepFigure, dropFigure, tellChild, tellBelow, tell, clearMark, stepItem, lowestMarked}
 use Rattle.circuit.specs.Machine.{catchUpIn, catchUp}
-use Rattle.circuit.specs.Call.{Call, post, keep, drop, step, ask}
+use Rattle.circuit.specs.Call.{Call, post, keep, drop, step, ask, close}
+use Rattle.circuit.specs.Closing.{closedValue, closeItem, closeBelow, closeAll}
 use Rattle.circuit.specs.Calls.{Outcome, perform, run, tests, firstCause, effect, postedValue}
 
 -- to unfold these is to unfold all that looking up computes with, and all that the calls do
@@ -22,7 +23,7 @@ unfolding lookUp lookFor workOut workOutBy gather apply numbers total anyOut inR
 looking S T i = lookUp S T i
 
 unfoldable pub machine : Sheet → Table → Call → Outcome
-unfolding looking perform tests firstCause effect postedValue partsOf keepFigure dropFigure storePosting stepItem tell tellBelow tellChild clearMark catchUp catchUpIn lowestMarked
+unfolding looking perform tests firstCause effect postedValue partsOf keepFigure dropFigure storePosting stepItem tell tellBelow tellChild clearMark catchUp catchUpIn lowestMarked closeAll closeBelow closeItem closedValue
 machine S T c = perform S T c
 
 -- an entry, a figure that sums it, and a figure that sums the first; neither is kept, both defer
@@ -43,6 +44,12 @@ chain-kept = refl
 pub chain-read : perform chain chainTable (ask 2) .reading ≡ some (num (pos 6))
 unfolding machine chain chainCalls chainTable run
 chain-read = refl
+
+-- A season-close run stores 6 in both figures, the stale one too, and no mark is left.
+pub chain-closed : (perform chain chainTable close .table 0 ≡ held (num (pos 6)) unmarked)
+    × (perform chain chainTable close .table 1 ≡ held (num (pos 6)) unmarked) × (perform chain chainTable close .table 2 ≡ held (num (pos 6)) unmarked)
+unfolding machine chain chainCalls chainTable run
+chain-closed = (refl, refl, refl)
 
 -- entry 0, figure 1 = sum of item 0, kept; figure 2 = sum of item 1, which renews
 unfoldable pub keptChain : Sheet

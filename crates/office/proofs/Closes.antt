@@ -169,7 +169,7 @@ module _ (s : List ℕ) (kept : Office) (lent : AcceptedLent s kept) (bytes : By
       entry-kept i low e =
           let was = ap (λ b. row width b i) (sym again) ∙ encoded-record S T i low in
           let same = parts-same (T i) (U i) (stored-entry (itemAt S i) (T i) (holdable-formed S T (holdable s kept lent) i low) e) (ap isStored (at i low))
-              (ap valueIn (at i low) ∙ entry-value S E (give-solves S lower E) i low e) in
+          (ap valueIn (at i low) ∙ entry-value S E (give-solves S lower E) i low e) in
           (ap kindIn (encoded-record S U i low) ∙ same .0 ∙ ap kindIn (sym was), ap numberIn (encoded-record S U i low) ∙ same .1 ∙ ap numberIn (sym was))
 
       -- the value in a record that the run left

@@ -14,7 +14,7 @@ use lib.IntN.{ℤ, pos, negsuc}
 use lib.ListN.{replicate}
 use Rattle.word.specs.Word.{leAt, leBytes, bytes64}
 use Rattle.circuit.specs.Value.{limit, inRange, partsOf}
-use Rattle.circuit.specs.Call.{Call, post, keep, drop, step, ask, board, bare, full}
+use Rattle.circuit.specs.Call.{Call, post, keep, drop, step, ask, board, close, bare, full}
 use Rattle.circuit.specs.Board.{listed, listsOff}
 use Rattle.circuit.specs.Calls.{firstCause, tests, someNoItem, postedValue, effect}
 use Rattle.circuit.specs.Sheet.{Sheet}
@@ -166,6 +166,9 @@ examples =
     ∷ lendTable (board (replicate 128 9) (replicate 576 0)) bareTable 11
     ∷ lendTable (board (replicate 128 0) (replicate 576 0)) bareTable 0
     ∷ lendTable (board [] []) bareTable 0
+    ∷ lend (calling close) unkRecord (firstIs unkRecord) 8
+    ∷ lendTable close (lastIs (0 ∷ 1 ∷ zeros8)) 10
+    ∷ lendTable close (lastIs (3 ∷ 1 ∷ atLimit)) 0
     ∷ lend (opening bare) exampleIndex bareTable 0
     ∷ lendTable (post 2 1 (pos 0)) bareTable 0
     ∷ lendTable (post 2 3 (pos limit)) bareTable 0
@@ -257,3 +260,12 @@ pub example-board : callOn exampleBytes (runOn exampleBytes (keeping exampleInde
     ≡ (3 ∷ 188 ∷ 2 ∷ 0 ∷ 0 ∷ 0 ∷ 0 ∷ 0 ∷ 0 ∷ 3 ∷ 232 ∷ 3 ∷ 0 ∷ 0 ∷ 0 ∷ 0 ∷ 0 ∷ 0 ∷ 3 ∷ 188 ∷ 2 ∷ 0 ∷ 0 ∷ 0 ∷ 0 ∷ 0 ∷ 0 ∷ [])
 unfolding calls machine runOn exampleBytes exampleIndex bareTable
 example-board = refl
+
+-- A season-close run on a table in form that the engine has not written: an entry with a notice, a figure whose number is stale and that
+-- is to be refreshed, and a figure with a notice and nothing stored. Afterwards A is 1000, L is 300, S is NULL, T is 1000 and B is 700.
+pub example-close : callOn exampleBytes
+    (keeping exampleIndex ((3 ∷ 2 ∷ bytes64 (pos 1000)) ++ (3 ∷ 0 ∷ bytes64 (pos 300)) ++ nullRecord ++ (3 ∷ 1 ∷ bytes64 (pos 9)) ++ (0 ∷ 2 ∷ zeros8))) close
+    ≡ accepted none [] (keeping exampleIndex
+    ((3 ∷ 0 ∷ bytes64 (pos 1000)) ++ (3 ∷ 0 ∷ bytes64 (pos 300)) ++ nullRecord ++ (3 ∷ 0 ∷ bytes64 (pos 1000)) ++ (3 ∷ 0 ∷ bytes64 (pos 700))))
+unfolding calls machine exampleBytes exampleIndex
+example-close = refl

@@ -12,8 +12,7 @@ returns : tie.Need-returns
 returns c =
     let r = c .before .before .before in
     let a = c .before .before .before .before .before .args in
-    let value = c .before .before .value-in .ensures ∙ ap valueIn (r .read-cell .ensures) in
-    (
+    let value = c .before .before .value-in .ensures ∙ ap valueIn (r .read-cell .ensures) in (
       ap (set (a .kinds .now) (a .k)) (c .before .kind .ensures ∙ ap kindOf value),
       ap (set (a .amounts .now) (a .k)) (back _ (search needs) ∙ c .number-or-zero .ensures ∙ ap numberOf value),
     )

@@ -40,8 +40,7 @@ parent-requires c κs =
 gather-requires : tie.Need-gather-requires Inv-loop μ-loop
 gather-requires c κs =
     let p = c .before .before in
-    let inv = p .before .before .loop .inv in
-    (
+    let inv = p .before .before .loop .inv in (
       gathering-fits inv _ (p .parent .ensures) (p .before .loop-test .taken),
       omega (arith, inv .field .count-most, p .before .loop-test .taken),
     )
