@@ -13,7 +13,7 @@
 #include <string.h>
 #include <valgrind/callgrind.h>
 
-enum call_kind { OPEN_BARE, OPEN_FULL, POST, KEEP, DROP, STEP, ASK, BOARD, PRINT };
+enum call_kind { OPEN_BARE, OPEN_FULL, POST, KEEP, DROP, STEP, ASK, BOARD, CLOSE, PRINT };
 enum { BOARD_ITEMS = ROZHINAL_MAX_BOARD };
 
 struct call {
@@ -40,6 +40,7 @@ struct side {
                             uint64_t);
     rozhinal_answer (*board)(const uint8_t *, size_t, const uint8_t *, size_t, uint8_t *, size_t,
                              const uint8_t *, size_t, uint8_t *, size_t);
+    rozhinal_answer (*close)(const uint8_t *, size_t, const uint8_t *, size_t, uint8_t *, size_t);
     int64_t (*print)(uint64_t, int64_t, uint8_t *, size_t);
     uint8_t index[ROZHINAL_INDEX_BYTES(ROZHINAL_MAX_ITEMS)];
     uint8_t table[ROZHINAL_TABLE_BYTES(ROZHINAL_MAX_ITEMS)];
@@ -57,6 +58,7 @@ static struct side library = {
     .step = rozhinal_step,
     .ask = rozhinal_ask,
     .board = rozhinal_board,
+    .close = rozhinal_close,
     .print = rozhinal_print,
 };
 
@@ -70,6 +72,7 @@ static struct side plain = {
     .step = plain_step,
     .ask = plain_ask,
     .board = plain_board,
+    .close = plain_close,
     .print = plain_print,
 };
 
@@ -136,6 +139,9 @@ static rozhinal_reading make_call(struct side *side, const struct call *call)
     case BOARD:
         COUNTED(answer = side->board(LENT, board_items, sizeof board_items, side->results,
                                      sizeof side->results));
+        break;
+    case CLOSE:
+        COUNTED(answer = side->close(LENT));
         break;
     case PRINT:
         COUNTED(reading.value = side->print(call->posted, call->number, side->scratch,
@@ -388,12 +394,51 @@ static void count_board(const struct state *state, size_t groups)
     count_all(name, asks, BOARD_ITEMS);
 }
 
+static void count_close(const struct state *state, size_t groups)
+{
+    char name[LABEL_BYTES];
+    name_workload(name, "close", state);
+    state->make(groups);
+    count(name, call_of(CLOSE, 0));
+}
+
+static void count_closes_of_openings(size_t groups)
+{
+    make_ledger(&sheet, groups, 1);
+    prepare(call_of(OPEN_BARE, 0));
+    count("close, opened bare", call_of(CLOSE, 0));
+    prepare(call_of(OPEN_FULL, 0));
+    count("close, opened full", call_of(CLOSE, 0));
+}
+
+/* What leaves the same as a close: catching up, and a keep of each figure, the lowest first. */
+static void count_keeps(const struct state *state, size_t groups)
+{
+    char name[LABEL_BYTES];
+    static struct call calls[ROZHINAL_MAX_ITEMS + 1];
+    static uint8_t closed[sizeof library.table];
+    size_t how_many = 0;
+    state->make(groups);
+    prepare(call_of(CLOSE, 0));
+    memcpy(closed, library.table, sizeof closed);
+    state->make(groups);
+    calls[how_many++] = call_of(ASK, 0);
+    for (size_t i = 0; i < sheet.count; i++)
+        if (!is_entry(&sheet, i))
+            calls[how_many++] = call_of(KEEP, i);
+    name_workload(name, "keeps", state);
+    count_all(name, calls, how_many);
+    if (memcmp(library.table, closed, sizeof closed) != 0)
+        fail("the keeps differ from a close");
+}
+
 static void count_chain(void)
 {
     make_chain(&sheet);
     settle(OPEN_BARE);
     prepare(post_of(0, POSTED));
     count("ask, 64 levels of one parent 16 times", call_of(ASK, sheet.top));
+    count("close, 64 levels of one parent 16 times", call_of(CLOSE, 0));
 }
 
 static void count_fan(void)
@@ -413,6 +458,8 @@ static void count_shares(void)
     prepare(call_of(ASK, sheet.top));
     post_every_entry(amount_at_limit, 1);
     count("ask, shares at the limit", call_of(ASK, sheet.top));
+    post_every_entry(amount_at_limit, 0);
+    count("close, shares at the limit", call_of(CLOSE, 0));
 }
 
 /* Numbers of each length in the range, of both signs. */
@@ -460,6 +507,13 @@ int main(void)
             count_ask(&states[k], groups);
     for (size_t k = 0; k < STATES; k++)
         count_board(&states[k], MOST_GROUPS);
+    count_closes_of_openings(MOST_GROUPS);
+    for (size_t k = 0; k < STATES; k++)
+        count_close(&states[k], MOST_GROUPS);
+    for (size_t groups = MOST_GROUPS / 2; groups > 0; groups /= 2)
+        count_close(&states[STATES - 1], groups);
+    for (size_t k = 0; k < STATES; k++)
+        count_keeps(&states[k], MOST_GROUPS);
     count_chain();
     count_fan();
     count_shares();

@@ -198,7 +198,9 @@ static struct value at_least(struct value a, struct value b)
     return number_value(a.number >= b.number);
 }
 
-static struct value apply(uint8_t rule, const struct value *parents, size_t count)
+/* Taken into both functions that work out; for one of them alone gcc would do so by itself. */
+__attribute__((always_inline))
+static inline struct value apply(uint8_t rule, const struct value *parents, size_t count)
 {
     for (size_t k = 0; k < count; k++)
         if (parents[k].kind == ROZHINAL_OUT)
@@ -733,6 +735,36 @@ rozhinal_answer plain_board(const uint8_t *sheet, size_t sheet_len,
         uint8_t *result = results + ROZHINAL_RESULTS_BYTES(k);
         result[0] = value.kind;
         put_i64(result + 1, value.number);
+    }
+    return accepted;
+}
+
+/* A figure from the records of its parents, all of them stored. */
+static struct value work_out_stored(const uint8_t *field, uint8_t *table)
+{
+    size_t count = field[PARENT_COUNT_AT];
+    struct value parents[ROZHINAL_MAX_PARENTS];
+    for (size_t k = 0; k < count; k++)
+        parents[k] = stored(record_of(table, get_u16(field + PARENTS_AT + 2 * k)));
+    return apply(field[RULE_AT], parents, count);
+}
+
+rozhinal_answer plain_close(const uint8_t *sheet, size_t sheet_len,
+                            const uint8_t *index, size_t index_len,
+                            uint8_t *table, size_t table_len)
+{
+    struct layout layout;
+    rozhinal_answer answer =
+        enter(sheet, sheet_len, index, index_len, table, table_len, &layout);
+    if (answer.number != 0)
+        return answer;
+    for (size_t i = 0; i < layout.count; i++) {
+        const uint8_t *field = sheet + layout.offset[i];
+        uint8_t *record = record_of(table, i);
+        if (field[0] == ROZHINAL_TAG_FIGURE)
+            store(record, work_out_stored(field, table), ROZHINAL_MARK_NONE);
+        else
+            record[MARK_AT] = ROZHINAL_MARK_NONE;
     }
     return accepted;
 }

@@ -38,6 +38,9 @@ rozhinal_answer plain_board(const uint8_t *sheet, size_t sheet_len,
                             uint8_t *table, size_t table_len,
                             const uint8_t *items, size_t items_len,
                             uint8_t *results, size_t results_len);
+rozhinal_answer plain_close(const uint8_t *sheet, size_t sheet_len,
+                            const uint8_t *index, size_t index_len,
+                            uint8_t *table, size_t table_len);
 int64_t plain_print(uint64_t kind, int64_t number, uint8_t *scratch, size_t scratch_len);
 
 #endif

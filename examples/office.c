@@ -72,6 +72,15 @@ static void show_item(const struct office *office, size_t i)
     putchar('\n');
 }
 
+/* An item with its value at the right. */
+static void show_value(const struct book *book, size_t i)
+{
+    const uint8_t *record = book->table + ROZHINAL_TABLE_BYTES(i);
+    printf("%4zu  %-16s  ", i, item_at(book->sheet, book->index, i).name);
+    print_value(VALUE_COLUMNS, record[0], number_at(record + 2));
+    putchar('\n');
+}
+
 static void list_all(const struct office *office)
 {
     puts("item  name              state       mark     value");
@@ -260,6 +269,19 @@ static void board(struct office *office, char **words, size_t count)
         show_board(&office->book, items, results, count);
 }
 
+/* The season-close run. No mark stands afterwards, so that the table itself has every value. */
+static void close_season(struct office *office)
+{
+    rozhinal_answer answer = rozhinal_close(LENT(&office->book));
+    if (answer.number != ROZHINAL_ACCEPTED) {
+        refuse(answer.number);
+    } else if (save(office)) {
+        printf("item  %-16s  %*s\n", "name", VALUE_COLUMNS, "value");
+        for (size_t i = 0; i < office->count; i++)
+            show_value(&office->book, i);
+    }
+}
+
 static void list_one(const struct office *office, uint64_t item)
 {
     if (item < office->count)
@@ -268,7 +290,7 @@ static void list_one(const struct office *office, uint64_t item)
         refuse(ROZHINAL_REFUSED_ITEM);
 }
 
-enum verb { POST, ASK, BOARD, KEEP, DROP, STEP, LIST, HELP, QUIT, VERBS };
+enum verb { POST, ASK, BOARD, CLOSE, KEEP, DROP, STEP, LIST, HELP, QUIT, VERBS };
 
 static const struct {
     const char *word, *arguments;
@@ -278,6 +300,7 @@ static const struct {
     [POST] = { "post", "ITEM NUMBER", 3, 3, "post grams, or `null` for nothing recorded" },
     [ASK] = { "ask", "ITEM", 2, 2, "catch up, and read an item" },
     [BOARD] = { "board", "ITEM...", 2, SIZE_MAX, "catch up once, and read up to 64 items" },
+    [CLOSE] = { "close", "", 1, 1, "work out and store every figure, and show all items" },
     [KEEP] = { "keep", "ITEM", 2, 2, "store a figure" },
     [DROP] = { "drop", "ITEM", 2, 2, "store a figure no longer" },
     [STEP] = { "step", "ITEM", 2, 2, "do the work of an item's mark" },
@@ -338,6 +361,8 @@ static bool command(struct office *office, char **words, size_t count)
         help();
     else if (verb == BOARD)
         board(office, words + 1, count - 1);
+    else if (verb == CLOSE)
+        close_season(office);
     else if (verb == LIST && count == 1)
         list_all(office);
     else if (verb < HELP)
@@ -443,13 +468,9 @@ static void show_older(const struct book *book)
     size_t count = rozhinal_item_count(book->sheet, book->sheet_len);
     puts("item  name              posted, weights in kg");
     for (size_t i = 0; i < count; i++) {
-        const uint8_t *record = book->table + ROZHINAL_TABLE_BYTES(i);
-        struct item item = item_at(book->sheet, book->index, i);
-        if (item.figure || record[0] != ROZHINAL_NUMBER)
-            continue;
-        printf("%4zu  %-16s  ", i, item.name);
-        print_value(VALUE_COLUMNS, record[0], number_at(record + 2));
-        putchar('\n');
+        uint8_t kind = book->table[ROZHINAL_TABLE_BYTES(i)];
+        if (kind == ROZHINAL_NUMBER && !item_at(book->sheet, book->index, i).figure)
+            show_value(book, i);
     }
     fflush(stdout);
     fprintf(stderr,

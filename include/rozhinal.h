@@ -1,5 +1,5 @@
 /*
- * Rozhinal 2.0.1: an engine for quota ledgers.
+ * Rozhinal 2.1.0: an engine for quota ledgers.
  *
  * A sheet is a circuit of items. An entry is posted; a figure is worked out from earlier items, its
  * parents, by one of eight rules. The caller lends three slices of bytes to each call:
@@ -48,9 +48,9 @@ extern "C" {
 #endif
 
 #define ROZHINAL_VERSION_MAJOR 2
-#define ROZHINAL_VERSION_MINOR 0
-#define ROZHINAL_VERSION_PATCH 1
-#define ROZHINAL_VERSION "2.0.1"
+#define ROZHINAL_VERSION_MINOR 1
+#define ROZHINAL_VERSION_PATCH 0
+#define ROZHINAL_VERSION "2.1.0"
 
 /* ---- Limits ---------------------------------------------------------------------------------- */
 
@@ -308,6 +308,20 @@ rozhinal_answer rozhinal_board(const uint8_t *sheet, size_t sheet_len,
                                uint8_t *table, size_t table_len,
                                const uint8_t *items, size_t items_len,
                                uint8_t *results, size_t results_len);
+
+/* ---- The season-close run -------------------------------------------------------------------- */
+
+/*
+ * Works every figure out anew and stores it. The run goes over the items once, lowest first, and
+ * fills the table in place: an entry keeps its value; a figure, stored or not, whatever its keep
+ * byte, gets what its rule gives for its parents as they then stand in the table; no mark is left.
+ * On a table that only the engine has written since an opening each record then holds what an ask
+ * for the item gives, and may be read from the table until the next post or drop. A second run
+ * changes nothing. Refuses with 1 to 10 as every call, and with no other number.
+ */
+rozhinal_answer rozhinal_close(const uint8_t *sheet, size_t sheet_len,
+                               const uint8_t *index, size_t index_len,
+                               uint8_t *table, size_t table_len);
 
 /* ---- Printer --------------------------------------------------------------------------------- */
 

@@ -22,6 +22,7 @@ _Static_assert(ROZHINAL_LIMIT == INT64_C(1000000000000000) && ROZHINAL_WHOLE == 
 _Static_assert(ROZHINAL_NUMBER == 3 && ROZHINAL_MARK_NOTICE == 2, "kinds and marks");
 
 enum { ITEMS = 5, INDEX = 4 * ITEMS, TABLE = 10 * ITEMS, SHEET = 46, RULE_OF_3 = 22 };
+enum { RECORD = ROZHINAL_RECORD_BYTES, KEPT = RECORD * 3, NOT_KEPT = RECORD * 4 };
 enum { MOST = ROZHINAL_MAX_BOARD, OVER = MOST + 1, PAIR = 2, RESULT = 9 };
 
 static const uint8_t example[SHEET] = {
@@ -77,6 +78,15 @@ static void refused(const char *call, rozhinal_answer a)
 {
     printf("%s: refused %" PRIu64 " %" PRIu64 "\n", call, a.number, a.offset);
     require(memcmp(&now, &before, sizeof now) == 0, "a refused call changed a lent byte");
+}
+
+/* The number in 8 bytes of a record or a result. */
+static int64_t number_at(const uint8_t *bytes)
+{
+    uint64_t bits = 0;
+    for (size_t k = 8; k > 0; k--)
+        bits = bits << 8 | bytes[k - 1];
+    return (int64_t)bits;
 }
 
 static void ask(uint64_t item)
@@ -193,7 +203,7 @@ static void the_range(void)
 
 /* ---- Refusals ---- */
 
-/* One byte of the example changed, then an ask. */
+/* One byte of the example changed, then an ask and a close. */
 static void damaged_sheet(const char *what, size_t place, uint8_t byte)
 {
     start();
@@ -203,6 +213,7 @@ static void damaged_sheet(const char *what, size_t place, uint8_t byte)
     rozhinal_reading r = rozhinal_ask(LENT, 0);
     require(r.kind == ROZHINAL_UNK && r.value == 0, "a refused ask gives no value");
     refused(what, (rozhinal_answer){ r.number, r.offset });
+    refused("the same, closed", rozhinal_close(LENT));
 }
 
 /* A chain of figures one level above the limit. */
@@ -219,6 +230,7 @@ static void too_deep(void)
     sheet_len = (size_t)(p + 3 - now.sheet);
     before = now;
     refused("a level of 65", rozhinal_open_full(LENT));
+    refused("the same, closed", rozhinal_close(LENT));
 }
 
 static void sheet_refusals(void)
@@ -274,14 +286,6 @@ static void list(size_t place, unsigned item)
     now.items[PAIR * place + 1] = (uint8_t)(item >> 8);
 }
 
-static int64_t result_number(const uint8_t *result)
-{
-    uint64_t bits = 0;
-    for (size_t k = RESULT; k > 1; k--)
-        bits = bits << 8 | result[k - 1];
-    return (int64_t)bits;
-}
-
 /* The first results are those of asks one after another on the table before, and so is the table. */
 static void require_asks(size_t count)
 {
@@ -290,7 +294,7 @@ static void require_asks(size_t count)
     for (size_t k = 0; k < count; k++) {
         const uint8_t *result = now.results + RESULT * k;
         rozhinal_reading r = rozhinal_ask(LENT, now.items[PAIR * k]);
-        require(r.number == 0 && r.kind == result[0] && r.value == result_number(result),
+        require(r.number == 0 && r.kind == result[0] && r.value == number_at(result + 1),
                 "a board and asks one after another");
     }
     require(memcmp(&now, &after, sizeof now) == 0, "the tables of a board and of asks");
@@ -305,7 +309,7 @@ static void show_board(const char *what, size_t count)
     printf("board of %s: %" PRIu64 " %" PRIu64, what, a.number, a.offset);
     for (size_t k = count > 5 ? count - 2 : 0; k < count; k++) {
         const uint8_t *result = now.results + RESULT * k;
-        printf(" %u %" PRId64, (unsigned)result[0], result_number(result));
+        printf(" %u %" PRId64, (unsigned)result[0], number_at(result + 1));
     }
     putchar('\n');
     for (size_t k = RESULT * count; k < sizeof now.results; k++)
@@ -375,6 +379,97 @@ static void board_refusals(void)
     refused("65 items, and a tag of 5", board(PAIR * OVER, RESULT * OVER));
 }
 
+/* ---- The season-close run ---- */
+
+/* Each record is what an ask for its item gives on this table. */
+static void require_held(const uint8_t *table, const char *what)
+{
+    struct lent closed = now;
+    for (uint64_t item = 0; item < ITEMS; item++) {
+        const uint8_t *record = closed.table + RECORD * item;
+        memcpy(now.table, table, TABLE);
+        rozhinal_reading r = rozhinal_ask(LENT, item);
+        require(r.number == 0 && r.kind == record[0] && r.value == number_at(record + 2), what);
+    }
+    now = closed;
+}
+
+/* A close, with the kind, mark and number of each record afterwards. */
+static void show_close(const char *what)
+{
+    rozhinal_answer a = rozhinal_close(LENT);
+    printf("close %s: %" PRIu64 " %" PRIu64, what, a.number, a.offset);
+    for (const uint8_t *record = now.table; record < now.table + TABLE; record += RECORD)
+        printf(", %u %u %" PRId64, (unsigned)record[0], (unsigned)record[1], number_at(record + 2));
+    putchar('\n');
+    struct lent closed = now;
+    memcpy(now.table, before.table, TABLE);
+    require(memcmp(&now, &before, sizeof now) == 0, "a close writes to the table alone");
+    now = closed;
+    require(rozhinal_close(LENT).number == 0 && memcmp(&now, &closed, sizeof now) == 0,
+            "a second close changes nothing");
+    require_held(closed.table, "an ask after a close");
+    for (uint64_t item = 0; item < ITEMS; item++)
+        require(rozhinal_ask(LENT, item).number == 0 && memcmp(&now, &closed, sizeof now) == 0,
+                "an ask after a close changes nothing");
+}
+
+static void close_opened(const char *what)
+{
+    show_close(what);
+    require_held(before.table, "a close and asks before it");
+    before = now;
+}
+
+static void the_close(void)
+{
+    start();
+    accepted("open bare", rozhinal_open_bare(LENT));
+    close_opened("after open bare");
+    accepted("open full", rozhinal_open_full(LENT));
+    accepted("post 0 1000", rozhinal_post(LENT, 0, ROZHINAL_NUMBER, 1000));
+    accepted("post 1 300", rozhinal_post(LENT, 1, ROZHINAL_NUMBER, 300));
+    accepted("drop 4", rozhinal_drop(LENT, 4));
+    close_opened("with notices, a stored and an unstored figure");
+    accepted("post 2 -200", rozhinal_post(LENT, 2, ROZHINAL_NUMBER, -200));
+    accepted("step 2", rozhinal_step(LENT, 2));
+    require(now.table[KEPT + 1] == ROZHINAL_MARK_REFRESH, "a figure to be refreshed");
+    close_opened("with a refresh");
+    ask(4);
+    accepted("post 0 limit", rozhinal_post(LENT, 0, ROZHINAL_NUMBER, ROZHINAL_LIMIT));
+    close_opened("near the limit");
+    accepted("post 2 1", rozhinal_post(LENT, 2, ROZHINAL_NUMBER, 1));
+    close_opened("beyond the limit");
+    accepted("post 0 null", rozhinal_post(LENT, 0, ROZHINAL_NULL, 0));
+    close_opened("after OUT");
+    /* Bytes from elsewhere: values that are not right, without a mark. */
+    now.table[KEPT + 2] = 77;
+    now.table[NOT_KEPT] = ROZHINAL_OUT;
+    memset(now.table + NOT_KEPT + 2, 0, 8);
+    before = now;
+    show_close("of a table with other values");
+}
+
+static void close_refusals(void)
+{
+    start();
+    accepted("open bare", rozhinal_open_bare(LENT));
+    accepted("post 0 1000", rozhinal_post(LENT, 0, ROZHINAL_NUMBER, 1000));
+    now.table[NOT_KEPT + 1] = ROZHINAL_MARK_REFRESH;
+    before = now;
+    refused("close, an unstored figure marked refresh", rozhinal_close(LENT));
+    now.index[4]++;
+    before = now;
+    refused("close, a changed index besides", rozhinal_close(LENT));
+    refused("close, a table of 49 bytes besides",
+            rozhinal_close(SHEET_SLICE, now.index, INDEX, now.table, TABLE - 1));
+    refused("close, an index of 21 bytes besides",
+            rozhinal_close(SHEET_SLICE, now.index, INDEX + 1, now.table, TABLE));
+    now.sheet[11] = 5;
+    before = now;
+    refused("close, a tag of 5 besides", rozhinal_close(LENT));
+}
+
 /* A null pointer goes with length 0. */
 static void null_pointers(void)
 {
@@ -387,6 +482,8 @@ static void null_pointers(void)
     refused("no index and no table", (rozhinal_answer){ r.number, r.offset });
     printf("print into nothing: %" PRId64 "\n", rozhinal_print(ROZHINAL_NULL, 0, NULL, 0));
     refused("a board of nothing", rozhinal_board(NULL, 0, NULL, 0, NULL, 0, NULL, 0, NULL, 0));
+    refused("a close of nothing", rozhinal_close(NULL, 0, NULL, 0, NULL, 0));
+    refused("a close without a table", rozhinal_close(SHEET_SLICE, now.index, INDEX, NULL, 0));
     accepted("open bare", rozhinal_open_bare(LENT));
     accepted("no items and no results", rozhinal_board(LENT, NULL, 0, NULL, 0));
     refused("no results", rozhinal_board(LENT, now.items, PAIR, NULL, 0));
@@ -401,6 +498,8 @@ int main(void)
     other_refusals();
     the_board();
     board_refusals();
+    the_close();
+    close_refusals();
     null_pointers();
     return faults == 0 ? 0 : 1;
 }

@@ -70,6 +70,10 @@ static void run(int at_end)
     require(rozhinal_board(LENT, beyond, 2 * LISTED, results, 9 * LISTED).number == 11, "item 5");
     require(rozhinal_board(LENT, items, 2 * LISTED - 1, results, 9 * LISTED).number == 17, "odd");
     require(rozhinal_board(LENT, items, 0, results, 0).number == 0, "an empty board");
+    require(rozhinal_close(sheet, sizeof example, index, INDEX, table, TABLE - 1).number == 8,
+            "a refused close");
+    require(rozhinal_close(LENT).number == 0, "close");
+    require(table[TABLE - 10] == ROZHINAL_NUMBER && table[TABLE - 8] == (700 & 0xFF), "figure 4");
     require(rozhinal_ask(LENT, 4).value == 700, "ask");
     require(rozhinal_ask(LENT, ITEMS).number == 11, "a refused ask");
     require(rozhinal_print(ROZHINAL_NUMBER, -7, scratch, ROZHINAL_PRINT_BYTES) == 2, "print");

@@ -1,7 +1,7 @@
 /*
  * A program at fault, for a look at the memory checker: what it lends is a byte shorter than it
- * says, the table of an opening, or the items or the results of a board, as its argument names. The
- * library reads or writes that byte, and the checker must see it.
+ * says, the table of an opening, the items or the results of a board, or the table of a close, as
+ * its argument names. The library reads or writes that byte, and the checker must see it.
  */
 #include "rozhinal.h"
 
@@ -30,8 +30,16 @@ int main(int count, char **arguments)
     rozhinal_answer opened = rozhinal_open_bare(sheet, sizeof sheet, index, INDEX, table, TABLE);
     rozhinal_answer board = rozhinal_board(sheet, sizeof sheet, index, INDEX, table, TABLE, items,
                                            2 * LISTED, results, RESULTS);
+    /* The last byte is 0 in both tables. */
+    uint8_t *closed = lend(TABLE, named, "closed");
+    memcpy(closed, table, TABLE - 1);
+    rozhinal_answer close = rozhinal_close(sheet, sizeof sheet, index, INDEX, closed, TABLE);
+    free(closed);
     free(table);
     free(items);
     free(results);
-    return opened.number == ROZHINAL_ACCEPTED && board.number == ROZHINAL_ACCEPTED ? 0 : 1;
+    return opened.number == ROZHINAL_ACCEPTED && board.number == ROZHINAL_ACCEPTED
+                   && close.number == ROZHINAL_ACCEPTED
+               ? 0
+               : 1;
 }

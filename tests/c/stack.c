@@ -65,6 +65,7 @@ static void keep(void) { number = rozhinal_keep(LENT, LAST).number; }
 static void drop(void) { number = rozhinal_drop(LENT, LAST).number; }
 static void step(void) { number = rozhinal_step(LENT, 0).number; }
 static void ask(void) { number = rozhinal_ask(LENT, LAST).number; }
+static void close_run(void) { number = rozhinal_close(LENT).number; }
 
 /* The last items, the highest first. */
 static void board(void)
@@ -124,7 +125,10 @@ static const struct {
     { "drop", drop },           { "board", board },                 { "open_full", open_full },
     { "post", post },           { "step", step }, { "ask", ask },   { "post", post },
     { "board", board },         { "open_bare", open_bare },         { "keep", keep },
-    { "post", post },           { "board", board },                 { "print", print },
+    { "post", post },           { "board", board },                 { "post", post },
+    { "close", close_run },     { "drop", drop }, { "post", post }, { "step", step },
+    { "close", close_run },     { "open_bare", open_bare },         { "close", close_run },
+    { "print", print },
 };
 enum { CALLS = sizeof calls / sizeof *calls };
 

@@ -20,6 +20,9 @@ pub trait Engine {
         table: &mut Guarded,
     ) -> Reply;
 
+    /// The season-close run.
+    fn close(&mut self, sheet: &mut Guarded, index: &mut Guarded, table: &mut Guarded) -> Reply;
+
     /// The morning board, with its item list and its result list.
     fn board(
         &mut self,

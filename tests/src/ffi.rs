@@ -86,6 +86,14 @@ extern "C" {
         table_len: usize,
         item: u64,
     ) -> Reading;
+    fn rozhinal_close(
+        sheet: *const u8,
+        sheet_len: usize,
+        index: *const u8,
+        index_len: usize,
+        table: *mut u8,
+        table_len: usize,
+    ) -> Answer;
     fn rozhinal_board(
         sheet: *const u8,
         sheet_len: usize,
@@ -153,6 +161,14 @@ impl Engine for Linked {
                 }
             }
         }
+    }
+
+    fn close(&mut self, sheet: &mut Guarded, index: &mut Guarded, table: &mut Guarded) -> Reply {
+        let (s, sl) = (sheet.pointer() as *const u8, sheet.length());
+        let (i, il) = (index.pointer() as *const u8, index.length());
+        let (t, tl) = (table.pointer(), table.length());
+        // Safety: as above.
+        reply(unsafe { rozhinal_close(s, sl, i, il, t, tl) })
     }
 
     fn board(

@@ -3,6 +3,7 @@
 //! another printer. It can be made wrong in one respect.
 
 mod board;
+mod close;
 mod older;
 mod printer;
 
@@ -87,6 +88,34 @@ with_all! {
         BoardWritesPastResults,
         RefusedBoardWritesResults,
         RefusedBoardCatchesUp,
+        CloseLeavesStored,
+        CloseLeavesUnmarked,
+        CloseLeavesOut,
+        CloseFromTheTop,
+        CloseFromTheOldTable,
+        CloseSortsParents,
+        CloseTakesParentsOnce,
+        CloseOnlyCatchesUp,
+        CloseCatchesUpAndKeeps,
+        CloseOnlyKeeps,
+        CloseLeavesKeep0Unstored,
+        CloseForgetsKeep0,
+        CloseLeavesEntryMarks,
+        CloseLeavesNotice,
+        CloseLeavesRefresh,
+        CloseMarksWhatChanged,
+        CloseClearsEntries,
+        CloseStopsAtTheFirstMark,
+        CloseStopsAtOut,
+        CloseMissesTheLastItem,
+        CloseRefusesMarks,
+        CloseRefusesEntriesAlone,
+        CloseTakesAnyIndex,
+        CloseTakesBrokenFigures,
+        CloseSays10Before9,
+        CloseChangesIndex,
+        CloseWritesPastTheTable,
+        RefusedCloseClearsMarks,
     }
 }
 
@@ -348,6 +377,10 @@ impl Engine for Mock {
             _ => {}
         }
         reply
+    }
+
+    fn close(&mut self, sheet: &mut Guarded, index: &mut Guarded, table: &mut Guarded) -> Reply {
+        self.give_close(sheet.bytes(), index, table)
     }
 
     fn board(

@@ -1,6 +1,7 @@
 //! A whole run: lists of calls, pairs of offices, days.
 
 use crate::engine::{DayProgram, Engine};
+use crate::harness::closes::run_closes;
 use crate::harness::compare::Comparison;
 use crate::harness::days::{compare_fixed_days, compare_random_day};
 use crate::harness::fixed::run_fixed;
@@ -21,6 +22,8 @@ pub struct Plan {
     /// Pairs of which the share is asked for, a hundred at a time.
     pub pairs: u64,
     pub older: u64,
+    /// Tables of no opening that are closed, each with a list that goes on from it.
+    pub closes: u64,
     pub days: u64,
     /// Slices are lent in blocks of their own, for a run under a memory checker.
     pub alone: bool,
@@ -37,6 +40,7 @@ const FIXED: u64 = 3 << 40;
 const FIXED_DAYS: u64 = FIXED + 1;
 const PAIRS: u64 = 4 << 40;
 const OLDER: u64 = 5 << 40;
+const CLOSES: u64 = 6 << 40;
 
 /// Everything compared, or the first difference.
 pub fn run(
@@ -53,14 +57,11 @@ pub fn run(
     if plan.fixed {
         run_part(plan, FIXED, &mut c, &mut day)?;
     }
-    for pair in 0..plan.offices {
-        run_part(plan, OFFICES + pair, &mut c, &mut day)?;
-    }
-    for batch in 0..plan.pairs.div_ceil(BATCH) {
-        run_part(plan, PAIRS + batch, &mut c, &mut day)?;
-    }
-    for table in 0..plan.older {
-        run_part(plan, OLDER + table, &mut c, &mut day)?;
+    let batches = plan.pairs.div_ceil(BATCH);
+    let kinds =
+        [(OFFICES, plan.offices), (PAIRS, batches), (OLDER, plan.older), (CLOSES, plan.closes)];
+    for part in kinds.iter().flat_map(|&(first, count)| first..first + count) {
+        run_part(plan, part, &mut c, &mut day)?;
     }
     let (mut list, others) = (0, c.tally.calls());
     while c.tally.calls() < others + plan.calls {
@@ -94,6 +95,7 @@ fn run_part(
     c.rng = Rng::part(seed, part);
     let result = match (part, day) {
         (FIXED, _) => run_fixed(c),
+        (CLOSES.., _) => run_closes(c),
         (OLDER.., _) => run_older(c),
         (PAIRS.., _) => run_pairs(c),
         (FIXED_DAYS, Some(program)) => compare_fixed_days(*program, &mut c.tally),
@@ -119,6 +121,7 @@ mod tests {
         offices: 10,
         pairs: 0,
         older: 0,
+        closes: 0,
         days: 0,
         alone: false,
         only: None,
@@ -137,12 +140,13 @@ mod tests {
             offices: 100,
             pairs: 2_000,
             older: 300,
+            closes: 300,
             days: 60,
             ..SHORT
         };
         let tally = try_mock(&plan, Wrong::Nothing).unwrap();
         assert!(tally.calls() >= 50_000);
-        assert_eq!((tally.pairs, tally.older_tables), (2_000, 300));
+        assert_eq!((tally.pairs, tally.older_tables, tally.closed_tables), (2_000, 300, 300));
         assert_eq!(tally.lists_from_tables, tally.lists.div_ceil(5));
         assert_eq!(tally.random_days, 60);
         assert!(tally.damaged_days > 10);
@@ -202,6 +206,22 @@ mod tests {
         }
     }
 
+    /// Wrong closes are found by closes of any table alone, if they are wrong where nothing is refused.
+    #[test]
+    fn wrong_closes_are_found() {
+        let plan = Plan { calls: 0, offices: 0, closes: 1_000, ..SHORT };
+        let refusing = [
+            Wrong::CloseTakesAnyIndex,
+            Wrong::CloseTakesBrokenFigures,
+            Wrong::CloseSays10Before9,
+            Wrong::RefusedCloseClearsMarks,
+        ];
+        for wrong in Wrong::closes().filter(|wrong| !refusing.contains(wrong)) {
+            let found = try_mock(&plan, wrong).unwrap_err();
+            assert!(found.contains("--seed 5 --part"), "{wrong:?}: {found}");
+        }
+    }
+
     /// The part that a failure names fails alone too.
     #[test]
     fn a_part_can_be_run_again() {
@@ -230,8 +250,15 @@ mod tests {
     #[cfg(engine)]
     #[test]
     fn the_linked_engine_agrees() {
-        let plan =
-            Plan { fixed: true, calls: 20_000, offices: 100, pairs: 2_000, older: 300, ..SHORT };
+        let plan = Plan {
+            fixed: true,
+            calls: 20_000,
+            offices: 100,
+            pairs: 2_000,
+            older: 300,
+            closes: 300,
+            ..SHORT
+        };
         if let Err(difference) = run(&plan, &mut crate::ffi::Linked, None) {
             panic!("{difference}");
         }

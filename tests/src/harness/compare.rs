@@ -1,10 +1,12 @@
 //! One call on both sides, and every byte afterwards.
 
+use super::closes::solves;
 use super::tally::Tally;
 use crate::engine::Engine;
 use crate::guarded::Guarded;
 use crate::model::board::{self, Board};
 use crate::model::calls::{self, Call, Reply};
+use crate::model::close;
 use crate::model::printer;
 use crate::rng::Rng;
 
@@ -20,6 +22,7 @@ pub struct Lent {
 pub enum Act {
     Open { full: bool },
     Give(Call),
+    Close,
     Board(Board),
 }
 
@@ -28,7 +31,7 @@ pub fn hex(bytes: &[u8]) -> String {
 }
 
 impl Lent {
-    fn dump(&self, title: &str) -> String {
+    pub fn dump(&self, title: &str) -> String {
         let (s, i, t) = (hex(&self.sheet), hex(&self.index), hex(&self.table));
         format!("{title}\n  sheet {s}\n  index {i}\n  table {t}\n")
     }
@@ -80,14 +83,20 @@ impl<'a> Comparison<'a> {
         }
     }
 
-    /// Performs the act on both sides, and prints what an ask has read. The lent bytes become what
-    /// both leave.
+    /// Performs the act on both sides, prints what an ask has read, and sees that a close has left
+    /// the solution. The lent bytes become what both leave.
     pub fn act(&mut self, act: &Act, lent: &mut Lent) -> Result<Reply, String> {
+        let before = matches!(act, Act::Close).then(|| lent.clone());
         let reply = self.act_only(act, lent)?;
-        if let (Act::Give(Call::Ask { .. }), 0) = (act, reply.number) {
-            let length = self.rng.between(20, 26) as usize;
-            let scratch = self.rng.bytes(length);
-            self.print(reply.kind, reply.value, &scratch)?;
+        match (act, before) {
+            _ if reply.number != 0 => {}
+            (Act::Give(Call::Ask { .. }), _) => {
+                let length = self.rng.between(20, 26) as usize;
+                let scratch = self.rng.bytes(length);
+                self.print(reply.kind, reply.value, &scratch)?;
+            }
+            (_, Some(before)) => solves(&mut self.tally, &before, lent)?,
+            _ => {}
         }
         Ok(reply)
     }
@@ -103,12 +112,14 @@ impl<'a> Comparison<'a> {
             Act::Board(board) => return self.board(&mut board.clone(), lent),
             Act::Open { full } => calls::open(*full, &lent.sheet, &mut lent.index, &mut lent.table),
             Act::Give(call) => calls::call(call, &lent.sheet, &lent.index, &mut lent.table),
+            Act::Close => close::close(&lent.sheet, &lent.index, &mut lent.table),
         };
         self.tally.count_act(act, reply.number);
         let mut handed = self.hand(&before);
         let Handed { sheet, index, table } = &mut handed;
         let given = match act {
             Act::Give(call) => self.engine.call(call, sheet, index, table),
+            Act::Close => self.engine.close(sheet, index, table),
             _ => self.engine.open(matches!(act, Act::Open { full: true }), sheet, index, table),
         };
         let (after, guards) = (handed.lent(), handed.guards());

@@ -123,7 +123,7 @@ fn logs_at_the_limit(log: &[u8]) -> Vec<Vec<u8>> {
 }
 
 /// A sheet for each refusal from 1 to 7.
-fn refused_sheets() -> Vec<Vec<u8>> {
+pub fn refused_sheets() -> Vec<Vec<u8>> {
     let mut sheets = vec![EXAMPLE[..45].to_vec()];
     for (at, byte) in [(7, 9), (10, 32), (3, 2), (22, 9), (26, 3)] {
         let mut sheet = EXAMPLE.to_vec();

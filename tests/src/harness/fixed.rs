@@ -2,8 +2,10 @@
 //! each length, the limits from both sides, and the ledgers that go stale.
 
 use super::boards::plain_board;
+use super::closes::plain_close;
 use super::compare::{Act, Comparison, Lent};
 use super::fixed_boards::run_fixed_boards;
+use super::fixed_closes::{closes_to, run_fixed_closes};
 use super::lists::{plain_call, Office};
 use super::older::older_example;
 use super::prints::run_prints;
@@ -28,15 +30,16 @@ pub fn run_fixed(c: &mut Comparison) -> Result<(), String> {
     older_example(c)?;
     long_fields(c)?;
     stale_ledgers(c)?;
-    run_fixed_boards(c)
+    run_fixed_boards(c)?;
+    run_fixed_closes(c)
 }
 
 pub fn post(item: u64, number: i64) -> Call {
     Call::Post { item, kind: 3, number }
 }
 
-/// The five calls and a board, each accepted on the example after `busy_example`.
-fn acts() -> [Act; 6] {
+/// The five calls, a board and a close, each accepted on the example after `busy_example`.
+fn acts() -> [Act; 7] {
     [
         Act::Give(Call::Post { item: 1, kind: 1, number: 0 }),
         Act::Give(Call::Keep { item: 4 }),
@@ -44,6 +47,7 @@ fn acts() -> [Act; 6] {
         Act::Give(Call::Step { item: 0 }),
         Act::Give(Call::Ask { item: 4 }),
         Act::Board(Board { items: vec![4, 0, 2, 0, 4, 0], results: vec![9; 27] }),
+        Act::Close,
     ]
 }
 
@@ -67,7 +71,7 @@ fn sheet_bytes(c: &mut Comparison) -> Result<(), String> {
             &Act::Open { full: turn % 2 == 0 },
             &mut Lent { sheet: sheet.clone(), ..busy.clone() },
         )?;
-        c.act(&acts[turn % 6], &mut Lent { sheet, ..busy.clone() })?;
+        c.act(&acts[turn % acts.len()], &mut Lent { sheet, ..busy.clone() })?;
         Ok(())
     };
     for at in 0..EXAMPLE.len() {
@@ -90,12 +94,12 @@ fn index_and_table_bytes(c: &mut Comparison) -> Result<(), String> {
         for at in 0..busy.index.len() {
             let mut lent = busy.clone();
             lent.index[at] = byte;
-            c.act(&acts[(at + byte as usize) % 6], &mut lent)?;
+            c.act(&acts[(at + byte as usize) % acts.len()], &mut lent)?;
         }
         for at in 0..busy.table.len() {
             let mut lent = busy.clone();
             lent.table[at] = byte;
-            c.act(&acts[(at / 10 + byte as usize) % 6], &mut lent)?;
+            c.act(&acts[(at / 10 + byte as usize) % acts.len()], &mut lent)?;
         }
     }
     Ok(())
@@ -191,16 +195,21 @@ fn levels(c: &mut Comparison) -> Result<(), String> {
     Ok(())
 }
 
+/// So many items, each as long as it can be: figures of all levels above one entry.
+pub fn longest_sheet(count: usize) -> Vec<u8> {
+    let mut specs = vec![Spec::Entry(vec![b'~'; 16])];
+    for i in 1..count {
+        let parents = vec![(i.min(MAX_LEVEL) - 1) as u16; 16];
+        let (keep, spread) = ((i % 2) as u8, (i % 3) as u8);
+        specs.push(Spec::Figure { rule: 3, keep, spread, parents, name: vec![b'!'; 16] });
+    }
+    write_sheet(&specs)
+}
+
 /// The most items, as long as they can be, and one more.
 fn item_counts(c: &mut Comparison) -> Result<(), String> {
     for count in [MAX_ITEMS, MAX_ITEMS + 1] {
-        let mut specs = vec![Spec::Entry(vec![b'~'; 16])];
-        for i in 1..count {
-            let parents = vec![(i.min(MAX_LEVEL) - 1) as u16; 16];
-            let (keep, spread) = ((i % 2) as u8, (i % 3) as u8);
-            specs.push(Spec::Figure { rule: 3, keep, spread, parents, name: vec![b'!'; 16] });
-        }
-        let (mut lent, number) = opened(c, write_sheet(&specs), count, true)?;
+        let (mut lent, number) = opened(c, longest_sheet(count), count, true)?;
         expect("item count", number, if count > MAX_ITEMS { 4 } else { 0 })?;
         let last = MAX_ITEMS as u64 - 1;
         for call in [post(0, 5), Call::Ask { item: last }, Call::Ask { item: last + 1 }] {
@@ -307,23 +316,28 @@ pub fn figure(c: &mut Comparison, rule: u8, parents: &[Given], right: Given) -> 
             let null = Call::Post { item, kind: 1, number: 0 };
             c.act(&Act::Give(number.map_or(null, |x| post(item, x))), &mut lent)?;
         }
-        for item in [count, count + 1] {
-            reads(c, &mut lent, item as u64, right)
+        for item in [count as u64, count as u64 + 1] {
+            closes_to(c, &lent, item, right)
+                .and_then(|_| reads(c, &mut lent, item, right))
                 .map_err(|e| format!("rule {rule} of {parents:?}: {e}"))?;
         }
     }
     Ok(())
 }
 
-/// An ask, with what it must read.
-pub fn reads(c: &mut Comparison, lent: &mut Lent, item: u64, right: Given) -> Result<(), String> {
-    let (kind, value) = match right {
+/// Kind and number of a result.
+pub fn pair_of(given: Given) -> (u64, i64) {
+    match given {
         None => (1, 0),
         OUT => (2, 0),
         Some(number) => (3, number),
-    };
+    }
+}
+
+/// An ask, with what it must read.
+pub fn reads(c: &mut Comparison, lent: &mut Lent, item: u64, right: Given) -> Result<(), String> {
     let given = c.act(&Act::Give(Call::Ask { item }), lent)?;
-    match (given.number, given.kind, given.value) == (0, kind, value) {
+    match (given.number, (given.kind, given.value)) == (0, pair_of(right)) {
         true => Ok(()),
         false => Err(format!("item {item} is read as {given:?}")),
     }
@@ -366,6 +380,7 @@ fn ledger(c: &mut Comparison, specs: &[Spec], calls: &[Call], last: i64) -> Resu
                 let board = gen::board_of(&mut c.rng, &[item as u16; 2]);
                 plain_board(c, board, &mut lent.clone(), &mut office)?;
             }
+            plain_close(c, &mut lent.clone(), &mut office)?;
             value = Some(plain_call(c, *call, &mut lent, &mut office)?.value);
         }
         if value != Some(last) || lent.index != index_of(&items) {

@@ -1,10 +1,12 @@
 //! Lists of calls, from an opening or from any accepted table.
 
 use super::boards::{fresh_board, plain_board};
-use super::compare::{Act, Comparison, Lent};
+use super::closes::{fresh_of, plain_close, table_of};
+use super::compare::{hex, Act, Comparison, Lent};
 use crate::gen::{self, Numbers, Shape};
 use crate::model::board::Board;
 use crate::model::calls::{Call, Reply};
+use crate::model::field::i64_at;
 use crate::model::fresh::FreshOffice;
 use crate::model::sheet::{index_of, read_sheet, Item};
 use crate::model::table::to_pair;
@@ -17,18 +19,7 @@ pub fn run_list(c: &mut Comparison, from_table: bool) -> Result<(), String> {
     let specs = gen::sheet(&mut c.rng, shape);
     let sheet = gen::write_sheet(&specs);
     let items = read_sheet(&sheet).unwrap();
-    c.tally.lists += 1;
-    let mut lent = Lent { sheet, index: vec![], table: vec![] };
-    let mut office = None;
-    if from_table {
-        c.tally.lists_from_tables += 1;
-        lent.index = index_of(&items);
-        lent.table = gen::accepted_table(&mut c.rng, &items);
-    } else {
-        lent.index = c.rng.bytes(4 * items.len());
-        lent.table = c.rng.bytes(10 * items.len());
-        office = Some(open(c, &items, &mut lent)?);
-    }
+    let (mut lent, mut office) = begin(c, sheet, &items, from_table)?;
     for _ in 0..list_length(&mut c.rng, shape) {
         match c.rng.below(1000) {
             0..=119 => changed_call(c, &specs, &items, &mut lent, &mut office)?,
@@ -41,6 +32,12 @@ pub fn run_list(c: &mut Comparison, from_table: bool) -> Result<(), String> {
                 let board = gen::any_board(&mut c.rng, &items);
                 plain_board(c, board, &mut lent, &mut office)?;
             }
+            380..=419 => {
+                plain_close(c, &mut lent, &mut office)?;
+                if office.is_none() && c.rng.percent(50) {
+                    office = Some(Office::of_table(&items, &lent.table));
+                }
+            }
             _ => {
                 let call = gen::any_call(&mut c.rng, &items, &lent.table, numbers);
                 plain_call(c, call, &mut lent, &mut office)?;
@@ -48,6 +45,25 @@ pub fn run_list(c: &mut Comparison, from_table: bool) -> Result<(), String> {
         }
     }
     Ok(())
+}
+
+/// What a list begins with; a fresh office goes with an opening.
+fn begin<'i>(
+    c: &mut Comparison,
+    sheet: Vec<u8>,
+    items: &'i [Item],
+    from_table: bool,
+) -> Result<(Lent, Option<Office<'i>>), String> {
+    c.tally.lists += 1;
+    if from_table {
+        c.tally.lists_from_tables += 1;
+        let table = gen::accepted_table(&mut c.rng, items);
+        return Ok((Lent { sheet, index: index_of(items), table }, None));
+    }
+    let (index, table) = (c.rng.bytes(4 * items.len()), c.rng.bytes(10 * items.len()));
+    let mut lent = Lent { sheet, index, table };
+    let office = open(c, items, &mut lent)?;
+    Ok((lent, Some(office)))
 }
 
 fn list_length(rng: &mut Rng, shape: Shape) -> u64 {
@@ -88,17 +104,9 @@ pub fn plain_call(
     Ok(reply)
 }
 
-/// A call or opening on changed bytes. Afterwards the list goes on with the bytes before it,
-/// unless only the table was changed and the call was accepted.
-fn changed_call(
-    c: &mut Comparison,
-    specs: &[gen::Spec],
-    items: &[Item],
-    lent: &mut Lent,
-    office: &mut Option<Office>,
-) -> Result<(), String> {
+/// The bytes with table (1), index (2) and sheet (4) changed, as the bits of `what` say.
+fn changed_bytes(c: &mut Comparison, specs: &[gen::Spec], lent: &Lent, what: u64) -> Lent {
     let mut changed = lent.clone();
-    let what = c.rng.between(1, 7);
     if what & 1 != 0 {
         changed.table = gen::damaged_table(&mut c.rng, &lent.table);
     }
@@ -117,9 +125,24 @@ fn changed_call(
             changed.table.resize(10 * others.len(), 0);
         }
     }
+    changed
+}
+
+/// A call or opening on changed bytes. Afterwards the list goes on with the bytes before it,
+/// unless only the table was changed and the call was accepted.
+fn changed_call(
+    c: &mut Comparison,
+    specs: &[gen::Spec],
+    items: &[Item],
+    lent: &mut Lent,
+    office: &mut Option<Office>,
+) -> Result<(), String> {
+    let what = c.rng.between(1, 7);
+    let mut changed = changed_bytes(c, specs, lent, what);
     let act = match c.rng.below(100) {
         0..=19 => Act::Open { full: c.rng.percent(50) },
         20..=34 => Act::Board(gen::any_board(&mut c.rng, items)),
+        35..=49 => Act::Close,
         _ => Act::Give(gen::any_call(&mut c.rng, items, &lent.table, Numbers::Any)),
     };
     let reply = c.act(&act, &mut changed)?;
@@ -150,18 +173,23 @@ fn random_print(c: &mut Comparison) -> Result<(), String> {
     c.print(kind, number, &scratch)
 }
 
-/// What is known of a list since its opening, beside the model's table.
+/// What is known of a list since its opening, or since a close, beside the model's table.
 pub struct Office<'i> {
-    items: &'i [Item],
+    pub items: &'i [Item],
     pub fresh: FreshOffice<'i>,
-    /// Figures that must be stored: those stored when last no mark stood, but for those that an
-    /// entry posted since leads to, and those dropped since.
-    stays: Vec<bool>,
+    /// Items that must be stored, with the value that they must hold: those stored when last no mark
+    /// stood, but for the entries posted since, what these lead to, and what was dropped since.
+    stays: Vec<Option<(u8, i64)>>,
 }
 
 impl<'i> Office<'i> {
     pub fn new(items: &'i [Item]) -> Self {
-        Office { items, fresh: FreshOffice::new(items), stays: vec![false; items.len()] }
+        Office { items, fresh: FreshOffice::new(items), stays: vec![None; items.len()] }
+    }
+
+    /// Begins with the table that a close has left.
+    pub fn of_table(items: &'i [Item], table: &[u8]) -> Self {
+        Office { fresh: fresh_of(items, table), ..Office::new(items) }
     }
 
     /// What is stored where no mark stands must stay.
@@ -183,11 +211,12 @@ impl<'i> Office<'i> {
         self.fresh.feed(call);
         match *call {
             Call::Post { item, .. } if reply.number == 0 => {
-                for (i, led) in led_to(self.items, item as usize).iter().enumerate() {
-                    self.stays[i] &= !led;
+                for (stays, led) in self.stays.iter_mut().zip(led_to(self.items, item as usize)) {
+                    *stays = stays.filter(|_| !led);
                 }
+                self.stays[item as usize] = None;
             }
-            Call::Drop { item } if reply.number == 0 => self.stays[item as usize] = false,
+            Call::Drop { item } if reply.number == 0 => self.stays[item as usize] = None,
             Call::Ask { item } => {
                 c.tally.judged += 1;
                 let right = self.fresh.asked(item).map(to_pair);
@@ -228,18 +257,35 @@ impl<'i> Office<'i> {
         self.still_stored(lists, after)
     }
 
+    /// A close posts and drops nothing. It leaves what the fresh office gives for each item.
+    pub fn judge_close(
+        &mut self,
+        c: &mut Comparison,
+        before: &[u8],
+        after: &[u8],
+    ) -> Result<(), String> {
+        self.note(before);
+        c.tally.judged += self.items.len() as u64;
+        let right = table_of(&self.fresh);
+        if after != right {
+            return Err(format!("a close leaves {}, the fresh office {}", hex(after), hex(&right)));
+        }
+        self.still_stored(&Act::Close, after)
+    }
+
     fn still_stored(&self, call: &dyn Debug, after: &[u8]) -> Result<(), String> {
         let now = stored(after);
-        match (0..self.items.len()).find(|&i| self.stays[i] && !now[i]) {
-            Some(i) => Err(format!("after {call:?} figure {i} is no longer stored")),
+        let lost = |&i: &usize| self.stays[i].is_some() && self.stays[i] != now[i];
+        match (0..self.items.len()).find(lost) {
+            Some(i) => Err(format!("after {call:?} item {i} is no longer stored as it was")),
             None => Ok(()),
         }
     }
 }
 
-/// Which items of a table are stored.
-fn stored(table: &[u8]) -> Vec<bool> {
-    table.chunks(10).map(|t| t[0] != 0).collect()
+/// Kind and number of the stored items of a table.
+fn stored(table: &[u8]) -> Vec<Option<(u8, i64)>> {
+    table.chunks(10).map(|t| (t[0] != 0).then(|| (t[0], i64_at(t, 2)))).collect()
 }
 
 fn unmarked(call: &dyn Debug, after: &[u8]) -> Result<(), String> {
@@ -268,71 +314,73 @@ mod tests {
     use crate::model::table::{decode, from_pair};
     use crate::model::value::Value;
 
-    /// Every cause from 8 to 14 of a call on an accepted sheet, each tested as far as it goes.
-    fn all_causes(call: &Call, items: &[Item], index: &[u8], table: &[u8]) -> Vec<usize> {
+    /// Whether each cause from 8 to 10 is there on an accepted sheet, each tested as far as it goes.
+    fn lent_tests(items: &[Item], index: &[u8], table: &[u8]) -> Vec<(usize, bool)> {
+        let long = (index.len() == 4 * items.len(), table.len() == 10 * items.len());
+        vec![
+            (8, long != (true, true)),
+            (9, long.0 && index != index_of(items)),
+            (10, long.1 && decode(items, table).is_none()),
+        ]
+    }
+
+    /// The same of a call, from 8 to 14.
+    fn call_tests(call: &Call, items: &[Item], index: &[u8], table: &[u8]) -> Vec<(usize, bool)> {
         let n = items.len();
         let item = match *call {
             Call::Post { item, .. } | Call::Keep { item } | Call::Drop { item } => item,
             Call::Step { item } | Call::Ask { item } => item,
         };
-        let long = (index.len() == 4 * n, table.len() == 10 * n);
         let figure = items.get(item as usize).map(|i| i.figure.is_some());
         let marked = table.get(10 * (item as usize % 4096) + 1).is_some_and(|&m| m != 0);
-        let tests = [
-            (8, long != (true, true)),
-            (9, long.0 && index != index_of(items)),
-            (10, long.1 && decode(items, table).is_none()),
-            (11, item >= n as u64),
-            (
-                12,
-                match call {
-                    Call::Post { .. } => figure == Some(true),
-                    Call::Keep { .. } | Call::Drop { .. } => figure == Some(false),
-                    _ => false,
-                },
-            ),
-            (
-                13,
-                match *call {
-                    Call::Post { kind, number, .. } => {
-                        matches!(from_pair(kind, number), None | Some(Value::Out))
-                    }
-                    _ => false,
-                },
-            ),
-            (14, matches!(call, Call::Step { .. }) && item < n as u64 && long.1 && !marked),
-        ];
-        tests.iter().filter(|t| t.1).map(|t| t.0).collect()
+        let sort = match call {
+            Call::Post { .. } => figure == Some(true),
+            Call::Keep { .. } | Call::Drop { .. } => figure == Some(false),
+            _ => false,
+        };
+        let posted = match *call {
+            Call::Post { kind, number, .. } => {
+                matches!(from_pair(kind, number), None | Some(Value::Out))
+            }
+            _ => false,
+        };
+        let step = matches!(call, Call::Step { .. }) && item < n as u64 && table.len() == 10 * n;
+        let own = [(11, item >= n as u64), (12, sort), (13, posted), (14, step && !marked)];
+        [lent_tests(items, index, table), own.to_vec()].concat()
     }
 
-    /// Every cause from 8 to 17 of a board on an accepted sheet, in the order of the tests.
-    fn board_causes(lists: &Board, items: &[Item], index: &[u8], table: &[u8]) -> Vec<usize> {
-        let long = (index.len() == 4 * items.len(), table.len() == 10 * items.len());
+    /// The same of a board, from 8 to 17 in the order of the tests.
+    fn board_tests(
+        lists: &Board,
+        items: &[Item],
+        index: &[u8],
+        table: &[u8],
+    ) -> Vec<(usize, bool)> {
         let mut listed = lists.items.chunks_exact(2).map(|i| u16::from_le_bytes([i[0], i[1]]));
         let half = lists.items.len() % 2 != 0;
-        let tests = [
-            (8, long != (true, true)),
-            (9, long.0 && index != index_of(items)),
-            (10, long.1 && decode(items, table).is_none()),
+        let own = [
             (17, half || listed.len() > 64 || lists.results.len() != 9 * listed.len()),
             (11, listed.any(|i| i as usize >= items.len())),
         ];
-        tests.iter().filter(|t| t.1).map(|t| t.0).collect()
+        [lent_tests(items, index, table), own.to_vec()].concat()
     }
 
-    /// Counts the pairs of causes that one call has, the given one first.
+    /// How often one call has two causes, the given one first.
+    type Pairs = [[u64; 18]; 18];
+
     struct Recorder {
-        met: [[u64; 18]; 18],
+        met: Pairs,
+        /// Of closes alone.
+        closes: Pairs,
     }
 
-    impl Recorder {
-        fn record(&mut self, reply: Reply, causes: Option<Vec<usize>>) -> Reply {
-            if let Some(causes) = causes {
-                assert_eq!(reply.number, causes.first().map_or(0, |&n| n as u64));
-                causes.iter().for_each(|&b| self.met[reply.number as usize][b] += 1);
-            }
-            reply
+    fn record(pairs: &mut Pairs, reply: Reply, tests: Option<Vec<(usize, bool)>>) -> Reply {
+        if let Some(tests) = tests {
+            let causes: Vec<usize> = tests.iter().filter(|t| t.1).map(|t| t.0).collect();
+            assert_eq!(reply.number, causes.first().map_or(0, |&n| n as u64));
+            causes.iter().for_each(|&b| pairs[reply.number as usize][b] += 1);
         }
+        reply
     }
 
     impl Engine for Recorder {
@@ -354,8 +402,19 @@ mod tests {
             table: &mut Guarded,
         ) -> Reply {
             let items = read_sheet(sheet.bytes()).ok();
-            let causes = items.map(|i| all_causes(call, &i, index.bytes(), table.bytes()));
-            self.record(Mock(Wrong::Nothing).call(call, sheet, index, table), causes)
+            let tests = items.map(|i| call_tests(call, &i, index.bytes(), table.bytes()));
+            record(&mut self.met, Mock(Wrong::Nothing).call(call, sheet, index, table), tests)
+        }
+
+        fn close(
+            &mut self,
+            sheet: &mut Guarded,
+            index: &mut Guarded,
+            table: &mut Guarded,
+        ) -> Reply {
+            let items = read_sheet(sheet.bytes()).ok();
+            let tests = items.map(|i| lent_tests(&i, index.bytes(), table.bytes()));
+            record(&mut self.closes, Mock(Wrong::Nothing).close(sheet, index, table), tests)
         }
 
         fn board(
@@ -368,8 +427,9 @@ mod tests {
         ) -> Reply {
             let circuit = read_sheet(sheet.bytes()).ok();
             let lists = Board { items: items.bytes().to_vec(), results: results.bytes().to_vec() };
-            let causes = circuit.map(|c| board_causes(&lists, &c, index.bytes(), table.bytes()));
-            self.record(Mock(Wrong::Nothing).board(sheet, index, table, items, results), causes)
+            let tests = circuit.map(|c| board_tests(&lists, &c, index.bytes(), table.bytes()));
+            let reply = Mock(Wrong::Nothing).board(sheet, index, table, items, results);
+            record(&mut self.met, reply, tests)
         }
 
         fn print(&mut self, kind: u64, number: i64, scratch: &mut Guarded) -> i64 {
@@ -380,7 +440,7 @@ mod tests {
     /// Calls with two causes are met, so that the order of the numbers is compared.
     #[test]
     fn pairs_of_causes_are_met() {
-        let mut recorder = Recorder { met: [[0; 18]; 18] };
+        let mut recorder = Recorder { met: [[0; 18]; 18], closes: [[0; 18]; 18] };
         for list in 0..1_500 {
             let mut c = Comparison::new(&mut recorder, Rng::part(7, list));
             run_list(&mut c, list % 5 == 0).unwrap();
@@ -398,6 +458,10 @@ mod tests {
         for (first, second) in [(12, 13), (8, 17), (9, 17), (10, 17), (17, 11)] {
             let met = recorder.met[first][second];
             assert!(met >= 3, "{first} with {second}: {met}");
+        }
+        for (first, second) in [(8, 9), (8, 10), (9, 10)] {
+            let met = recorder.closes[first][second];
+            assert!(met >= 3, "a close, {first} with {second}: {met}");
         }
     }
 }

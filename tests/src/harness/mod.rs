@@ -1,10 +1,12 @@
 //! The comparison of an engine with the model.
 
 pub mod boards;
+pub mod closes;
 pub mod compare;
 pub mod days;
 pub mod fixed;
 pub mod fixed_boards;
+pub mod fixed_closes;
 pub mod lists;
 pub mod offices;
 pub mod older;

@@ -1,6 +1,7 @@
 //! Two offices with the same accepted posts in the same order agree, and the fresh office too.
 
 use super::boards::{plain_board, same_boards};
+use super::closes::{plain_close, refused_close, same_closes};
 use super::compare::{Comparison, Lent};
 use super::lists::{open, plain_call, Office};
 use crate::gen::{self, Shape};
@@ -23,6 +24,7 @@ pub fn run_offices(c: &mut Comparison) -> Result<(), String> {
     let one = run_office(c, &sheet, &items, &posts)?;
     let two = run_office(c, &sheet, &items, &posts)?;
     same_boards(c, &items, &one, &two)?;
+    same_closes(c, &one, &two)?;
     let ((mut one, first), (mut two, second)) = (one, two);
     let n = items.len() as u64;
     let mut asked: Vec<u64> = match shape {
@@ -51,7 +53,7 @@ fn outcome(reply: &Reply) -> Option<(u8, i64)> {
     }
 }
 
-/// An office with these accepted posts, and any other calls and boards between them.
+/// An office with these accepted posts, and any other calls, boards and closes between them.
 fn run_office<'i>(
     c: &mut Comparison,
     sheet: &[u8],
@@ -64,19 +66,7 @@ fn run_office<'i>(
     let busy = c.rng.below(6);
     for k in 0..=posts.len() {
         for _ in 0..c.rng.below(busy + 1) {
-            if c.rng.percent(12) {
-                let board = gen::any_board(&mut c.rng, items);
-                plain_board(c, board, &mut lent, &mut office)?;
-                continue;
-            }
-            let call = match c.rng.percent(8) {
-                true => gen::bad_post(&mut c.rng, items),
-                false => gen::other_call(&mut c.rng, items, &lent.table),
-            };
-            let reply = plain_call(c, call, &mut lent, &mut office)?;
-            if matches!(call, Call::Post { .. }) && reply.number == 0 {
-                return Err(format!("{call:?} is accepted"));
-            }
+            between(c, items, &mut lent, &mut office)?;
         }
         if let Some(post) = posts.get(k) {
             let reply = plain_call(c, *post, &mut lent, &mut office)?;
@@ -86,4 +76,28 @@ fn run_office<'i>(
         }
     }
     Ok((lent, office.unwrap()))
+}
+
+/// Anything but an accepted post.
+fn between(
+    c: &mut Comparison,
+    items: &[Item],
+    lent: &mut Lent,
+    office: &mut Option<Office>,
+) -> Result<(), String> {
+    let call = match c.rng.below(100) {
+        0..=11 => {
+            let board = gen::any_board(&mut c.rng, items);
+            return plain_board(c, board, lent, office).map(|_| ());
+        }
+        12..=19 => return plain_close(c, lent, office),
+        20..=21 => return refused_close(c, lent),
+        22..=28 => gen::bad_post(&mut c.rng, items),
+        _ => gen::other_call(&mut c.rng, items, &lent.table),
+    };
+    let reply = plain_call(c, call, lent, office)?;
+    match (call, reply.number) {
+        (Call::Post { .. }, 0) => Err(format!("{call:?} is accepted")),
+        _ => Ok(()),
+    }
 }

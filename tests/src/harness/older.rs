@@ -31,14 +31,15 @@ pub fn older_example(c: &mut Comparison) -> Result<(), String> {
     let lists = [
         (&opened, None, Some(OLDER_LIMIT + 1)),
         (&older, None, OUT),
-        (&older, Some(post(2, 1)), OUT),
-        (&older, Some(post(2, 2)), Some(OLDER_LIMIT + 2)),
-        (&older, Some(Call::Drop { item: 3 }), Some(OLDER_LIMIT + 1)),
+        (&older, Some(Act::Give(post(2, 1))), OUT),
+        (&older, Some(Act::Give(post(2, 2))), Some(OLDER_LIMIT + 2)),
+        (&older, Some(Act::Give(Call::Drop { item: 3 })), Some(OLDER_LIMIT + 1)),
+        (&older, Some(Act::Close), Some(OLDER_LIMIT + 1)),
     ];
-    for (lent, call, right) in lists {
+    for (lent, act, right) in lists {
         let mut lent = lent.clone();
-        if let Some(call) = call {
-            c.act(&Act::Give(call), &mut lent)?;
+        if let Some(act) = act {
+            c.act(&act, &mut lent)?;
         }
         for item in [3, 4] {
             reads(c, &mut lent, item, right)?;
@@ -47,7 +48,7 @@ pub fn older_example(c: &mut Comparison) -> Result<(), String> {
     Ok(())
 }
 
-/// Any call and any board on a random older table of a small sheet: never refused for the table.
+/// Any call, any board and a close on a random older table of a small sheet: never refused for the table.
 pub fn run_older(c: &mut Comparison) -> Result<(), String> {
     let sheet = gen::write_sheet(&gen::small_specs(&mut c.rng));
     let items = read_sheet(&sheet).unwrap();
@@ -56,7 +57,7 @@ pub fn run_older(c: &mut Comparison) -> Result<(), String> {
     let board = gen::any_board(&mut c.rng, &items);
     let lent = Lent { sheet, index: index_of(&items), table };
     c.tally.older_tables += 1;
-    for act in [Act::Give(call), Act::Give(Call::Ask { item: 0 }), Act::Board(board)] {
+    for act in [Act::Give(call), Act::Give(Call::Ask { item: 0 }), Act::Board(board), Act::Close] {
         let number = c.act(&act, &mut lent.clone())?.number;
         if (1..=10).contains(&number) {
             return Err(format!("{act:?} on an older table gives {number}\n{lent:?}"));

@@ -4,10 +4,13 @@ use super::compare::Act;
 use super::prints::MOST_DIGITS;
 use crate::model::board::{Board, ITEM, MOST_ITEMS, RESULT};
 use crate::model::calls::Call;
+use crate::model::sheet::{Item, MAX_ITEMS, MAX_LEVEL};
+use crate::model::table::{decode, Cell, Mark};
+use crate::model::value::Value;
 use std::fmt;
 
 /// The functions compared, and the refusals that each can give.
-pub const FUNCTIONS: [(&str, &[usize]); 9] = [
+pub const FUNCTIONS: [(&str, &[usize]); 10] = [
     ("open bare", &[1, 2, 3, 4, 5, 6, 7, 8]),
     ("open full", &[1, 2, 3, 4, 5, 6, 7, 8]),
     ("post", &[1, 2, 3, 4, 5, 6, 7, 8, 9, 10, 11, 12, 13]),
@@ -16,11 +19,13 @@ pub const FUNCTIONS: [(&str, &[usize]); 9] = [
     ("step", &[1, 2, 3, 4, 5, 6, 7, 8, 9, 10, 11, 14]),
     ("ask", &[1, 2, 3, 4, 5, 6, 7, 8, 9, 10, 11]),
     ("board", &[1, 2, 3, 4, 5, 6, 7, 8, 9, 10, 17, 11]),
+    ("close", &[1, 2, 3, 4, 5, 6, 7, 8, 9, 10]),
     ("print", &[10, 15]),
 ];
 
 const BOARD: usize = 7;
-const PRINT: usize = 8;
+const CLOSE: usize = 8;
+const PRINT: usize = 9;
 
 /// The lists of boards that must be met: of accepted ones, then of those refused with 17.
 pub const BOARDS: [&str; 8] = [
@@ -32,6 +37,21 @@ pub const BOARDS: [&str; 8] = [
     "results for one item more or less",
     "results a byte short",
     "results a byte long",
+];
+
+/// What accepted closes must find or do: in their tables, then in their sheets.
+pub const CLOSES: [&str; 11] = [
+    "an entry marked",
+    "a figure marked refresh",
+    "a figure marked notice",
+    "an unstored figure without keep",
+    "an unstored figure with keep",
+    "an unmarked figure gets another value",
+    "OUT becomes another value",
+    "another value becomes OUT",
+    "nothing changes",
+    "1,024 items",
+    "64 levels",
 ];
 
 /// Printed numbers, not below 0 and below it, which must be met with each count of digits.
@@ -54,6 +74,14 @@ pub struct Tally {
     pub boards: [u64; BOARDS.len()],
     /// Accepted boards held against asks one after another.
     pub boards_as_asks: u64,
+    /// How often each of `CLOSES` was met.
+    pub closes: [u64; CLOSES.len()],
+    /// Closes held against asks for each item, before and after.
+    pub closes_as_asks: u64,
+    /// Closes held against steps and keeps.
+    pub closes_as_keeps: u64,
+    /// Accepted tables of no opening that were closed, to go on from.
+    pub closed_tables: u64,
     pub lists: u64,
     /// Lists that begin with an accepted table of no opening.
     pub lists_from_tables: u64,
@@ -85,6 +113,7 @@ impl Tally {
             Act::Give(Call::Step { .. }) => 5,
             Act::Give(Call::Ask { .. }) => 6,
             Act::Board(_) => BOARD,
+            Act::Close => CLOSE,
         };
         self.given[function][number as usize] += 1;
     }
@@ -109,6 +138,28 @@ impl Tally {
             number == 17 && within && results == right + 1,
         ];
         self.boards.iter_mut().zip(met).for_each(|(times, met)| *times += met as u64);
+    }
+
+    /// Counts an accepted close by its sheet, and by its table before and after.
+    pub fn count_close(&mut self, items: &[Item], before: &[u8], after: &[u8]) {
+        let (old, new) = (decode(items, before).unwrap(), decode(items, after).unwrap());
+        let any = |test: fn(&Item, Cell, Cell) -> bool| {
+            (0..items.len()).any(|i| test(&items[i], old[i], new[i]))
+        };
+        let met = [
+            any(|item, old, _| item.figure.is_none() && old.mark == Mark::Notice),
+            any(|_, old, _| old.mark == Mark::Refresh),
+            any(|item, old, _| item.figure.is_some() && old.mark == Mark::Notice),
+            any(|item, old, _| old.stored.is_none() && !keeps(item)),
+            any(|item, old, _| old.stored.is_none() && keeps(item)),
+            any(|_, old, new| changes(old, new) && old.mark == Mark::None),
+            any(|_, old, new| changes(old, new) && old.stored == Some(Value::Out)),
+            any(|_, old, new| changes(old, new) && new.stored == Some(Value::Out)),
+            before == after,
+            items.len() == MAX_ITEMS,
+            items.iter().any(|item| item.level == MAX_LEVEL),
+        ];
+        self.closes.iter_mut().zip(met).for_each(|(times, met)| *times += met as u64);
     }
 
     /// Counts a print by what it gives, and by the digits at the front of the scratch.
@@ -146,8 +197,8 @@ impl Tally {
         self.given[..PRINT].iter().flatten().sum()
     }
 
-    /// The refusals that some function can give, or a day print, the lists of boards, and numbers
-    /// of each length in print, that were never met; also products of shares beyond a signed 64-bit
+    /// The refusals that some function can give, or a day print, the lists of boards, the tables and
+    /// sheets of closes, and numbers of each length in print, that were never met; also products of shares beyond a signed 64-bit
     /// number, if they were fewer than one in twenty.
     pub fn never_met(&self) -> Vec<String> {
         let mut missing = Vec::new();
@@ -158,6 +209,9 @@ impl Tally {
         }
         for (name, _) in BOARDS.iter().zip(&self.boards).filter(|(_, &times)| times == 0) {
             missing.push(format!("board, {name}"));
+        }
+        for (name, _) in CLOSES.iter().zip(&self.closes).filter(|(_, &times)| times == 0) {
+            missing.push(format!("close, {name}"));
         }
         for (name, digits) in DIGITS.iter().zip(&self.digits) {
             for length in (1..=MOST_DIGITS).filter(|&length| digits[length] == 0) {
@@ -174,6 +228,21 @@ impl Tally {
         }
         missing
     }
+}
+
+fn keeps(item: &Item) -> bool {
+    item.figure.as_ref().is_some_and(|figure| figure.keep)
+}
+
+/// Whether a stored value becomes another.
+fn changes(old: Cell, new: Cell) -> bool {
+    old.stored.is_some() && old.stored != new.stored
+}
+
+/// Each of the names, and how often it was met.
+fn named(names: &[&str], met: &[u64]) -> String {
+    let named = names.iter().zip(met).map(|(name, times)| format!("{name}: {times}"));
+    named.collect::<Vec<String>>().join(", ")
 }
 
 /// Each number that was met, and how often.
@@ -193,13 +262,15 @@ impl fmt::Display for Tally {
         for ((name, _), given) in FUNCTIONS.iter().zip(&self.given) {
             writeln!(f, "  {name:9}{}", times(given))?;
         }
-        let boards: Vec<String> = BOARDS
-            .iter()
-            .zip(&self.boards)
-            .map(|(name, times)| format!("{name}: {times}"))
-            .collect();
-        writeln!(f, "boards by their lists: {}", boards.join(", "))?;
+        writeln!(f, "boards by their lists: {}", named(&BOARDS, &self.boards))?;
         writeln!(f, "boards held against asks one after another: {}", self.boards_as_asks)?;
+        writeln!(f, "closes by what they find and do: {}", named(&CLOSES, &self.closes))?;
+        writeln!(
+            f,
+            "closes held against asks for each item: {}; against steps and keeps: {}",
+            self.closes_as_asks, self.closes_as_keeps
+        )?;
+        writeln!(f, "tables of no opening closed, and gone on with: {}", self.closed_tables)?;
         writeln!(
             f,
             "lists: {} ({} from a table of no opening); pairs of offices: {}",
@@ -226,11 +297,14 @@ impl fmt::Display for Tally {
 #[cfg(test)]
 mod tests {
     use super::*;
+    use crate::model::sheet::{read_sheet, EXAMPLE};
+    use crate::model::table::encode;
     use crate::model::value::LIMIT;
 
     /// Everything that must be met, met once.
     fn full() -> Tally {
-        let mut tally = Tally { days: 1, boards: [1; BOARDS.len()], ..Tally::default() };
+        let mut tally = Tally { days: 1, ..Tally::default() };
+        (tally.boards, tally.closes) = ([1; BOARDS.len()], [1; CLOSES.len()]);
         for ((_, numbers), given) in FUNCTIONS.iter().zip(&mut tally.given) {
             numbers.iter().chain(&[0]).for_each(|&n| given[n] = 1);
         }
@@ -256,6 +330,11 @@ mod tests {
             let mut tally = full();
             tally.boards[at] = 0;
             assert_eq!(tally.never_met(), [format!("board, {name}")]);
+        }
+        for (at, name) in CLOSES.iter().enumerate() {
+            let mut tally = full();
+            tally.closes[at] = 0;
+            assert_eq!(tally.never_met(), [format!("close, {name}")]);
         }
         for (at, (word, numbers)) in LINES.iter().enumerate() {
             for &number in *numbers {
@@ -330,6 +409,37 @@ mod tests {
             let mut right = [0; BOARDS.len()];
             right[at] = 1;
             assert_eq!((tally.boards, tally.given[BOARD][number as usize]), (right, 1));
+        }
+    }
+
+    /// Each table before and after counts as what it is, and as nothing else.
+    #[test]
+    fn closes_are_counted() {
+        let items = read_sheet(&EXAMPLE).unwrap();
+        let one = Cell { stored: Some(Value::Number(1)), mark: Mark::None };
+        let (unk, out) = (Cell { stored: None, ..one }, Cell { stored: Some(Value::Out), ..one });
+        let with = |mark| Cell { mark, ..one };
+        let cases = [
+            (0, with(Mark::Notice), one, 0),
+            (3, with(Mark::Refresh), one, 1),
+            (4, with(Mark::Notice), one, 2),
+            (4, unk, one, 3),
+            (3, unk, one, 4),
+            (3, Cell { stored: Some(Value::Null), ..one }, one, 5),
+            (3, out, one, 6),
+            (3, one, out, 7),
+            (3, one, one, 8),
+        ];
+        for (item, old, new, at) in cases {
+            let (mut before, mut after) = ([one; 5], [one; 5]);
+            (before[item], after[item]) = (old, new);
+            let mut tally = Tally::default();
+            tally.count_close(&items, &encode(&before), &encode(&after));
+            let mut right = [0; CLOSES.len()];
+            right[at] = 1;
+            // An unmarked OUT is an unmarked value, too.
+            right[5] |= [6, 7].contains(&at) as u64;
+            assert_eq!(tally.closes, right);
         }
     }
 

@@ -2,6 +2,7 @@
 
 pub mod board;
 pub mod calls;
+pub mod close;
 pub mod day;
 pub mod field;
 pub mod fresh;

@@ -10,6 +10,7 @@ mod model;
 
 use model::board::board;
 use model::calls::{call, open, Call, Reply};
+use model::close::close;
 use std::slice::{from_raw_parts, from_raw_parts_mut};
 
 /// `rozhinal_answer`
@@ -128,6 +129,19 @@ pub unsafe extern "C" fn rozhinal_ask(
     let (index, table) = (read(index, index_len), write(table, table_len));
     let reply = call(&Call::Ask { item }, read(sheet, sheet_len), index, table);
     Reading { number: reply.number, offset: reply.offset, kind: reply.kind, value: reply.value }
+}
+
+#[no_mangle]
+pub unsafe extern "C" fn rozhinal_close(
+    sheet: *const u8,
+    sheet_len: usize,
+    index: *const u8,
+    index_len: usize,
+    table: *mut u8,
+    table_len: usize,
+) -> Answer {
+    let (index, table) = (read(index, index_len), write(table, table_len));
+    answer(close(read(sheet, sheet_len), index, table))
 }
 
 #[no_mangle]
