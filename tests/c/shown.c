@@ -1,4 +1,4 @@
-/* Runs the board of docs/USE.md: the page's C is included, with its main under another name. */
+/* Runs the board and the close of docs/USE.md: the page's C is included, with its main under another name. */
 #define main page
 #include "use.c"
 #undef main
@@ -11,5 +11,7 @@ int main(void)
         rozhinal_post(LENT, 0, ROZHINAL_NUMBER, 1000).number != ROZHINAL_ACCEPTED ||
         rozhinal_post(LENT, 1, ROZHINAL_NUMBER, 300).number != ROZHINAL_ACCEPTED)
         return 1;
-    return (int)show_board(index, index_len, table, table_len);
+    if (show_board(index, index_len, table, table_len) != ROZHINAL_ACCEPTED)
+        return 1;
+    return (int)close_season(index, index_len, table, table_len);
 }
