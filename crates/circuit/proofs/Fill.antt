@@ -63,7 +63,7 @@ pub record Gathers (S : Sheet) (T : Table) (ps : List ℕ) (g : Gathered) : Type
   pub flag : g .flag ≡ anyFlag (view S T) ps
   pub fill : Fill S T (g .table)
 
-kept-figure : (it : Item) → keptOf it ≡ true → isFigure it ≡ true
+pub kept-figure : (it : Item) → keptOf it ≡ true → isFigure it ≡ true
 kept-figure entry e = cc
 kept-figure (figure op k s ps) e = refl
 
