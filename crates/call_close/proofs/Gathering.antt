@@ -15,18 +15,16 @@ use Rattle.circuit.specs.Sheet.{Item, entry, figure, size, itemAt, isFigure, pa
 use Rattle.circuit.specs.Table.{valueIn}
 use Rattle.circuit.specs.Closing.{closedValue}
 use Rattle.layout.specs.Opened.{sheetOf}
-use Rattle.item.specs.Item.{OperationRead, CountRead, fieldItem}
+use Rattle.item.specs.Item.{Evaluated, CountRead, fieldItem}
 use Rattle.item.proofs.Located.{sheet-ordered}
 use Rattle.value.specs.Meaning.{meaning, firstValues}
 use Rattle.value.proofs.Parents.{firstValues-store}
-use Rattle.rules.specs.declared.Operation.{Operation}
-use Rattle.rules.specs.Operations.{Applied}
 use Rattle.table.specs.Record.{width}
 use Rattle.table.specs.Bytes.{decodeTable}
 use Rattle.table.proofs.Tables.{record-fits, decoded-holdable, holdable-wellFormed}
 use Rattle.office.proofs.Holdable.{all-formed}
 use Rattle.looking.specs.Pass.{Lent}
-use Rattle.looking.proofs.FigureAt.{FigureAt, figure-at, figure-parents, parent-below, operation-gives}
+use Rattle.looking.proofs.FigureAt.{FigureAt, figure-at, figure-parents, parent-below, figure-evaluated}
 
 -- the value in the record of an item
 abbrev valueAt : List ℕ → ℕ → Value
@@ -118,10 +116,10 @@ module _ {s offsets t : List ℕ} {i at count k : ℕ} {kinds : List ℕ} {amoun
       (omega (arith, sheet-ordered s i p l, inv .field .low)))
 
   -- the figure is worked out
-  pub gathering-done : count ≤ k → (op : Operation) → OperationRead (fieldItem s at) op → (r : Rattle.value.specs.declared.Value.Value)
-      → Applied op (firstValues kinds amounts count) r → meaning r ≡ closedValue (sheetOf s) (decodeTable t) i
+  pub gathering-done : count ≤ k → (r : Rattle.value.specs.declared.Value.Value) → Evaluated (fieldItem s at) (firstValues kinds amounts count) r
+      → meaning r ≡ closedValue (sheetOf s) (decodeTable t) i
   unfolding closedValue
-  gathering-done h op read r applies =
-      operation-gives (inv .field) op read (firstValues kinds amounts count) r applies
+  gathering-done h r given =
+      figure-evaluated (inv .field) given
       ∙ ap (evaluate (itemAt (sheetOf s) i) null) (gathered h)
       ∙ closed-figure (itemAt (sheetOf s) i) (valueAt t i) (map (valueAt t) ps) (inv .field .figured)

@@ -69,8 +69,7 @@ fn work_out(sheet: &[u8], offsets: &[usize], table: &[u8], i: usize) -> Value
         gather(table, p, &mut kinds, &mut amounts, k);
         k += 1;
     }
-    let op = item::operation(sheet, at);
-    rules::apply(op, &kinds, &amounts, count)
+    item::evaluate(sheet, at, &kinds, &amounts, count)
 }
 
 // What item i is to hold: an entry what it held, a figure what is worked out.

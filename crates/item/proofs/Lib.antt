@@ -1,3 +1,4 @@
+pub mod Evaluating
 pub mod Fields
 pub mod Located
 pub mod Offsets

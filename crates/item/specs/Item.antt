@@ -9,8 +9,11 @@ use Rattle.circuit.specs.Rules.{maxParents}
 use Rattle.field.specs.Field.{lenAt, headerLength}
 use Rattle.circuit.specs.Rules as rules
 use Rattle.circuit.specs.Sheet as circuit
+use Rattle.circuit.specs.Value as machine
 use Rattle.layout.specs.Layout.{figureTag, ruleAllowed, machineItem, ruleAt, keepAt, spreadAt, parentCountAt, parentAt}
 use Rattle.layout.specs.Content.{contentAt, itemIn}
+use Rattle.value.specs.Meaning.{meaning}
+use Rattle.value.specs.declared.Value.{Value}
 use Rattle.rules.specs.Operations.{operationMeaning, allows}
 use Rattle.rules.specs.declared.Operation.{Operation}
 use Rattle.item.specs.declared.Spread.{Spread}
@@ -62,6 +65,11 @@ itemOperation (circuit.figure op keep spread ps) = some op
 pub record OperationRead (it : circuit.Item) (op : Operation) : Type 0 where
   pub operation-is : operationMeaning op ≡ itemOperation it
   pub takes : allows (operationMeaning op) (length (circuit.parentsOf it)) ≡ true
+
+-- a figure's value by its parents' values, which is well formed
+pub record Evaluated (it : circuit.Item) (vs : List machine.Value) (r : Value) : Type 0 where
+  pub value-is : meaning r ≡ circuit.evaluate it machine.null vs
+  pub formed : machine.wellFormed (meaning r) ≡ true
 
 -- a parent count that is read
 pub record CountRead (it : circuit.Item) (n : ℕ) : Type 0 where

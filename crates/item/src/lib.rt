@@ -6,13 +6,17 @@ ghost use mathlib.Core.Bool.{true};
 ghost use Prim.Native.Nat.{_<_, _≤_, _+_, _*_};
 ghost use lib.ListN.{length, getD, take};
 ghost use Rattle.circuit.specs.Sheet as circuit;
-ghost use Rattle.item.specs.Item.{ItemField, fieldItem, spreadMeaning, OperationRead, CountRead};
+ghost use Rattle.circuit.specs.WellFormed.{allWellFormed};
+ghost use Rattle.value.specs.Meaning.{firstValues};
+ghost use Rattle.item.specs.Item.{ItemField, fieldItem, spreadMeaning, OperationRead, Evaluated, CountRead};
 ghost use Rattle.item.specs.Offsets.{offsetBytes, sameBytes, fourAt, putOffset};
 ghost use Rattle.layout.specs.Layout.{indexWidth};
 ghost use Rattle.layout.specs.Index.{bytes32};
 use limits::FIGURE_TAG;
 use limits::INDEX_WIDTH;
 use limits::PARENT_WIDTH;
+use value::MAX_PARENTS;
+use value::Value;
 
 // What a stored figure does when a parent's change is told.
 pub enum Spread {
@@ -40,11 +44,25 @@ pub fn is_figure(s: &[u8], at: usize) -> bool
 }
 
 // A figure's operation.
-pub fn operation(s: &[u8], at: usize) -> rules::Operation
+fn operation(s: &[u8], at: usize) -> rules::Operation
     requires { ⌜ ItemField (now s) at ⌝ ∗ ⌜ circuit.isFigure (fieldItem (now s) at) ≡ true ⌝ }
     ensures { λ r. ⌜ OperationRead (fieldItem (now (s .entry)) at) r ⌝ }
 {
     rules::operation_of(s[at + RULE_AT], field::wide(s[at + PARENT_COUNT_AT]))
+}
+
+// A figure's value: its rule applied to the values of its parents, in their listed order.
+pub fn evaluate(
+    s: &[u8],
+    at: usize,
+    kinds: &[u8; MAX_PARENTS],
+    numbers: &[i64; MAX_PARENTS],
+    count: usize,
+) -> Value
+    requires { ⌜ ItemField (now s) at ⌝ ∗ ⌜ circuit.isFigure (fieldItem (now s) at) ≡ true ⌝ ∗ ⌜ count ≡ length (circuit.parentsOf (fieldItem (now s) at)) ⌝ ∗ ⌜ allWellFormed (firstValues (now kinds) (now numbers) count) ≡ true ⌝ }
+    ensures { λ r. ⌜ Evaluated (fieldItem (now (s .entry)) at) (firstValues (now (kinds .entry)) (now (numbers .entry)) count) r ⌝ }
+{
+    rules::apply(operation(s, at), kinds, numbers, count)
 }
 
 pub fn is_kept(s: &[u8], at: usize) -> bool

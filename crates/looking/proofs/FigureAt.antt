@@ -1,22 +1,19 @@
--- A figure's field, where its parents and its operation are read: what is read is what the machine's item has. Working out rests on
--- it, from look-ups and in the season-close run. Assumes nothing.
+-- A figure's field, where its parents are read and its rule is applied: it has what the machine's item has. Working out rests on it, from
+-- look-ups and in the season-close run. Assumes nothing.
 use Prim.Native.Nat.{ℕ, _<_, _≤_}
 use mathlib.Core.Path.{_≡_, refl, ap, _∙_, sym}
 use mathlib.Core.Bool.{true}
 use mathlib.Core.List.{List}
-use mathlib.Core.Option.{some}
 use native.Mathlib.Omega.{arith}
 use lib.ListN.{length, getD}
 use Rattle.circuit.specs.Value.{Value, null}
-use Rattle.circuit.specs.Rules.{apply, maxParents}
-use Rattle.circuit.specs.Sheet.{Item, entry, figure, size, itemAt, isFigure, parents, parentsOf, evaluate}
+use Rattle.circuit.specs.Rules.{maxParents}
+use Rattle.circuit.specs.Sheet.{size, itemAt, isFigure, parents, parentsOf, evaluate}
 use Rattle.layout.specs.Opened.{sheetOf, Located}
-use Rattle.item.specs.Item.{itemOperation, OperationRead, CountRead, ItemField, fieldItem}
+use Rattle.item.specs.Item.{Evaluated, CountRead, ItemField, fieldItem}
 use Rattle.item.proofs.Located.{sheet-ordered, located-field, located-item}
 use Rattle.children.proofs.Linking.{place-below}
 use Rattle.value.specs.Meaning.{meaning}
-use Rattle.rules.specs.declared.Operation.{Operation}
-use Rattle.rules.specs.Operations.{operationMeaning, allows, applied, Applied}
 
 -- figure i has its field at `at`, with `count` parents
 pub record FigureAt (s offsets : List ℕ) (i at count : ℕ) : Type 0 where
@@ -39,14 +36,6 @@ figure-at {s} {offsets} {i} located low figured count read =
       count-most = read .at-most;
     }
 
--- a figure's value by its operation
-evaluated : (it : Item) (op : Operation) (vs : List Value) (r : Value) → operationMeaning op ≡ itemOperation it → isFigure it ≡ true
-    → some r ≡ applied (operationMeaning op) vs → r ≡ evaluate it null vs
-evaluated entry op vs r e f a = let bad : _≡_ {A = ℕ} 0 1 = cc in absurd (omega arith)
-evaluated (figure o k sp ps) op vs r e f a =
-    let b : some r ≡ some (apply o vs) = a ∙ ap (λ x. applied x vs) e in
-    cc
-
 module _ {s offsets : List ℕ} {i at count : ℕ} (here : FigureAt s offsets i at count) where
   pub figure-field : ItemField s at
   figure-field = rw (here .at-is) (located-field s offsets (here .located) i (here .low))
@@ -68,12 +57,9 @@ module _ {s offsets : List ℕ} {i at count : ℕ} (here : FigureAt s offsets i 
   parent-below k p e more =
       rw (e ∙ ap (λ ps. getD ps k 0) figure-parents) (place-below (sheetOf s) (sheet-ordered s) i k (omega (arith, here .count-is)))
 
-  -- the operation takes as many parents as the figure has
-  pub operation-takes : (op : Operation) → OperationRead (fieldItem s at) op → allows (operationMeaning op) count ≡ true
-  operation-takes op read = ap (allows (operationMeaning op)) (here .count-is ∙ ap length (sym figure-parents)) ∙ read .takes
+  pub parents-counted : count ≡ length (parentsOf (fieldItem s at))
+  parents-counted = here .count-is ∙ ap length (sym figure-parents)
 
-  -- what it gives on the parents' values is the figure's value
-  pub operation-gives : (op : Operation) → OperationRead (fieldItem s at) op → (vs : List Value) (r : Rattle.value.specs.declared.Value.Value)
-      → Applied op vs r → meaning r ≡ evaluate (itemAt (sheetOf s) i) null vs
-  operation-gives op read vs r applies =
-      evaluated (itemAt (sheetOf s) i) op vs (meaning r) (read .operation-is ∙ ap itemOperation figure-item) (here .figured) (applies .result)
+  -- what its rule gives on the parents' values is the machine's
+  pub figure-evaluated : {vs : List Value} {r : Rattle.value.specs.declared.Value.Value} → Evaluated (fieldItem s at) vs r → meaning r ≡ evaluate (itemAt (sheetOf s) i) null vs
+  figure-evaluated {vs} given = given .value-is ∙ ap (λ it. evaluate it null vs) figure-item

@@ -16,15 +16,13 @@ use Rattle.circuit.specs.Table.{Table}
 use Rattle.circuit.specs.Machine.{Looked, Gathered, gathered, gather, andThen, workOutBy, lookUp, workOut}
 use Rattle.circuit.proofs.RuleLaws.{allWellFormed-snoc, and-true}
 use Rattle.layout.specs.Opened.{sheetOf}
-use Rattle.item.specs.Item.{OperationRead, CountRead, fieldItem}
+use Rattle.item.specs.Item.{Evaluated, CountRead, fieldItem}
 use Rattle.table.specs.Bytes.{decodeTable, tableForm}
 use Rattle.value.specs.Meaning.{meaning, firstValues}
-use Rattle.rules.specs.declared.Operation.{Operation}
-use Rattle.rules.specs.Operations.{Applied}
 use Rattle.value.proofs.Parents.{firstValues-store}
 use Rattle.memo.specs.Memo.{Found, found, Memo, NoneFrom}
 use Rattle.looking.specs.Pass.{Lent, Leaves}
-use Rattle.looking.proofs.FigureAt.{FigureAt, figure-at, figure-parents, parent-below, operation-gives}
+use Rattle.looking.proofs.FigureAt.{FigureAt, figure-at, figure-parents, parent-below, figure-evaluated}
 
 -- the first k of the items ps looked up, one after the other, in the order of the code's loop
 abbrev pub behind : Gathered → Looked → Gathered
@@ -192,18 +190,17 @@ module _ {s offsets t₀ tags₀ : List ℕ} {numbers₀ : List ℤ} {generation
   going-formed h = ap (λ n. allWellFormed (firstValues kinds amounts n)) (sym (going-all h)) ∙ inv .values-formed
 
   -- the item is worked out
-  pub going-done : count ≤ k → (op : Operation) → OperationRead (fieldItem s at) op
-      → (r : Rattle.value.specs.declared.Value.Value) → Applied op (firstValues kinds amounts count) r
+  pub going-done : count ≤ k → (r : Rattle.value.specs.declared.Value.Value) → Evaluated (fieldItem s at) (firstValues kinds amounts count) r
       → (b : ℕ) → i ≤ b → Leaves s t₀ tags₀ generation b (workOut (sheetOf s) (decodeTable t₀) i) (found (meaning r) flag) t tags numbers
   unfolding workOut workOutBy
-  going-done h op read r applies b over =
+  going-done h r given b over =
       record {
         value-is =
-            operation-gives (inv .field) op read (firstValues kinds amounts count) r applies
+            figure-evaluated (inv .field) given
             ∙ ap (evaluate (itemAt (sheetOf s) i) null)
             (ap (firstValues kinds amounts) (sym (going-all h)) ∙ inv .values-are ∙ ap (λ x. x .values) is);
         flag-is = inv .flag-is ∙ ap (λ x. x .flag) is;
-        value-formed = applies .formed;
+        value-formed = given .formed;
         table-is = inv .table-is ∙ ap (λ x. x .table) is;
         formed = inv .formed;
         memo = subst (λ X. Memo (sheetOf s) X tags numbers generation) (ap (λ x. x .table) is) (inv .memo);

@@ -170,9 +170,8 @@ pub fn work_out(
         flag = gather(&mut kinds, &mut amounts, k, flag, seen);
         k += 1;
     }
-    let op = item::operation(sheet, at);
     Seen {
-        value: rules::apply(op, &kinds, &amounts, count),
+        value: item::evaluate(sheet, at, &kinds, &amounts, count),
         flag,
     }
 }

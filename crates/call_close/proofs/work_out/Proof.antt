@@ -3,7 +3,7 @@ use mathlib.Core.Path.{refl}
 use native.Mathlib.Omega.{arith}
 use Rattle.circuit.specs.Rules.{maxParents}
 use Rattle.item.proofs.Located.{located-field}
-use Rattle.looking.proofs.FigureAt.{figure-field, figure-is, parent-there, operation-takes}
+use Rattle.looking.proofs.FigureAt.{figure-field, figure-is, parent-there, parents-counted}
 use borrow.Author.Needs.{needs}
 use Rattle.call_close.proofs.Gathering.{Gathering, gathering-start, gathering-fits, gathering-next, gathering-formed, gathering-done}
 use Rattle.call_close.proofs.work_out.Statement.{statement}
@@ -57,21 +57,16 @@ loop-again c =
     let p = c .before .before .before in
     gathering-next (p .before .before .loop .inv) _ (p .parent .ensures) (p .before .loop-test .taken) _ _ (c .gather .ensures .0) (c .gather .ensures .1)
 
-operation-requires : tie.Need-operation-requires Inv-loop μ-loop
-operation-requires c κs =
-    let field = c .before .loop .inv .field in
-    (figure-field field, figure-is field)
-
-apply-requires : tie.Need-apply-requires Inv-loop μ-loop
-apply-requires c κs =
-    let o = c .before .before in
-    let inv = o .before .before .loop .inv in
-    (operation-takes (inv .field) _ (o .operation .ensures), gathering-formed inv (o .before .loop-test .left))
+evaluate-requires : tie.Need-evaluate-requires Inv-loop μ-loop
+evaluate-requires c κs =
+    let x = c .before .before in
+    let inv = x .before .loop .inv in
+    (figure-field (inv .field), (figure-is (inv .field), (parents-counted (inv .field), gathering-formed inv (x .loop-test .left))))
 
 returns : tie.Need-returns Inv-loop μ-loop
 returns c =
-    let o = c .before .before .before in
-    gathering-done (o .before .before .loop .inv) (o .before .loop-test .left) _ (o .operation .ensures) _ (c .apply .ensures)
+    let x = c .before .before .before in
+    gathering-done (x .before .loop .inv) (x .loop-test .left) _ (c .evaluate .ensures)
 
 pub work-out-spec : {M : Type 1} → statement M
 work-out-spec =
@@ -88,6 +83,5 @@ work-out-spec =
     add-k
     loop-less
     loop-again
-    operation-requires
-    apply-requires
+    evaluate-requires
     returns)

@@ -8,7 +8,7 @@ use Rattle.circuit.specs.Rules.{maxParents}
 use Rattle.item.proofs.Located.{size-most, located-field}
 use Rattle.memo.specs.Memo.{seenMeaning}
 use Rattle.looking.proofs.Looking.{lent-fits, known-returns, unknown-unstored, worked-figure, worked-returns}
-use Rattle.looking.proofs.FigureAt.{figure-field, figure-is, parent-there, parent-below, operation-takes}
+use Rattle.looking.proofs.FigureAt.{figure-field, figure-is, parent-there, parent-below, parents-counted}
 use Rattle.looking.proofs.Gathering.{Going, going-start, going-lent, going-memo, going-next, going-formed, going-done}
 use borrow.Fn.Kinds.{In}
 use borrow.Fn.PlainCycle.{Measures, is, falls, and}
@@ -22,13 +22,12 @@ use Rattle.looking.proofs.work_out.Reads as work-out
 use Rattle.looking.proofs.work_out.Kinds as work-out-kinds
 use Rattle.looking.proofs.+look_unstored+look_up+work_out.Lts-work_out as work-out-lts
 use Rattle.item.proofs.is_kept.Reads as is-kept-reads
-use Rattle.item.proofs.operation.Reads as operation-reads
+use Rattle.item.proofs.evaluate.Reads as evaluate-reads
 use Rattle.item.proofs.parent.Reads as parent-reads
 use Rattle.item.proofs.parent_count.Reads as parent-count-reads
 use Rattle.looking.proofs.gather.Reads as gather-reads
 use Rattle.looking.proofs.known.Reads as known-reads
 use Rattle.looking.proofs.settle.Reads as settle-reads
-use Rattle.rules.proofs.apply.Reads as apply-reads
 use Rattle.table.proofs.is_noticed.Reads as is-noticed-reads
 use Rattle.looking.proofs.+look_unstored+look_up+work_out.{statement}
 use Rattle.looking.proofs.+look_unstored+look_up+work_out.Tie.{close}
@@ -97,10 +96,8 @@ work-out-claims t = (
   look-up.Post,
   gather-reads.Asked,
   gather-reads.Learnt,
-  operation-reads.Asked,
-  operation-reads.Learnt,
-  apply-reads.Asked,
-  apply-reads.Learnt,
+  evaluate-reads.Asked,
+  evaluate-reads.Learnt,
 )
 
 look-unstored-is-noticed-requires : (t : ℕ) → look-unstored-lts.Need-is-noticed-requires (look-unstored-claims t) (look-unstored-at t) look-unstored.Post
@@ -271,34 +268,27 @@ work-out-loop-again t c =
     _ _ _ (looks .kept .1 .1 .0) (looks .kept .1 .1 .1 .0) (looks .kept .1 .1 .1 .1 .0) (looks .ensures)
     _ (c .gather .ensures .0) _ _ (c .gather .ensures .1 .0) (c .gather .ensures .1 .1)
 
-work-out-operation-requires : (t : ℕ) → work-out-lts.Need-operation-requires (work-out-claims t) (work-out-at t) work-out.Post work-out-Inv-loop work-out-μ-loop
-work-out-operation-requires t c κs =
-    let inv = c .before .loop .inv in
-    (figure-field (inv .field), figure-is (inv .field))
-
-work-out-apply-requires : (t : ℕ) → work-out-lts.Need-apply-requires (work-out-claims t) (work-out-at t) work-out.Post work-out-Inv-loop work-out-μ-loop
-work-out-apply-requires t c κs =
-    let o = c .before .before in
-    let x = o .before in
+work-out-evaluate-requires : (t : ℕ) → work-out-lts.Need-evaluate-requires (work-out-claims t) (work-out-at t) work-out.Post work-out-Inv-loop work-out-μ-loop
+work-out-evaluate-requires t c κs =
+    let x = c .before .before in
     let inv = x .before .loop .inv in
-    (operation-takes (inv .field) _ (o .operation .ensures), going-formed inv (x .loop-test .left))
+    (figure-field (inv .field), (figure-is (inv .field), (parents-counted (inv .field), going-formed inv (x .loop-test .left))))
 
 work-out-same-length : (t : ℕ) → work-out-lts.Need-same-length (work-out-claims t) (work-out-at t) work-out.Post work-out-Inv-loop work-out-μ-loop
 work-out-same-length t c = search needs
 
 work-out-same-length-2 : (t : ℕ) → work-out-lts.Need-same-length-2 (work-out-claims t) (work-out-at t) work-out.Post work-out-Inv-loop work-out-μ-loop
 work-out-same-length-2 t c =
-    c .before .before .before .before .before .loop .inv .tags-length
+    c .before .before .before .before .loop .inv .tags-length
 
 work-out-same-length-3 : (t : ℕ) → work-out-lts.Need-same-length-3 (work-out-claims t) (work-out-at t) work-out.Post work-out-Inv-loop work-out-μ-loop
 work-out-same-length-3 t c =
-    c .before .before .before .before .before .loop .inv .numbers-length
+    c .before .before .before .before .loop .inv .numbers-length
 
 work-out-returns : (t : ℕ) → work-out-lts.Need-returns (work-out-claims t) (work-out-at t) work-out.Post work-out-Inv-loop work-out-μ-loop
 work-out-returns t c =
-    let o = c .before .before .before in
-    let x = o .before in
-    going-done (x .before .loop .inv) (x .loop-test .left) _ (o .operation .ensures) _ (c .apply .ensures)
+    let x = c .before .before .before in
+    going-done (x .before .loop .inv) (x .loop-test .left) _ (c .evaluate .ensures)
 
 pub +look-unstored+look-up+work-out-spec : {M : Type 1} → statement M
 +look-unstored+look-up+work-out-spec =
@@ -345,8 +335,7 @@ pub +look-unstored+look-up+work-out-spec : {M : Type 1} → statement M
     (work-out-add-k t)
     (work-out-loop-less t)
     (work-out-loop-again t)
-    (work-out-operation-requires t)
-    (work-out-apply-requires t)
+    (work-out-evaluate-requires t)
     (work-out-same-length t)
     (work-out-same-length-2 t)
     (work-out-same-length-3 t)
