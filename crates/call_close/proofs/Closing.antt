@@ -1,14 +1,14 @@
 -- The season-close run: what is stored for an item, the pass over the items, and the call. Assumes nothing.
-use Prim.Native.Nat.{ℕ, suc, _+_, _<_, _≤_}
+use Prim.Native.Nat.{ℕ, _+_, _<_, _≤_}
 use mathlib.Core.Path.{_≡_, refl, sym, ap, _∙_}
-use mathlib.Core.Bool.{true, false}
+use mathlib.Core.Bool.{false}
 use mathlib.Core.List.{List, map}
 use native.Mathlib.Omega.{arith}
 use native.Mathlib.Numerals.{add-one}
 use lib.ListN.{length}
 use Rattle.circuit.specs.Value.{Value}
 use Rattle.circuit.specs.Sheet.{Item, entry, figure, size, itemAt, isFigure, parentsOf, evaluate}
-use Rattle.circuit.specs.Table.{Table, unmarked, held, upd, valueIn}
+use Rattle.circuit.specs.Table.{Table, unmarked, held, valueIn}
 use Rattle.circuit.specs.Call.{close}
 use Rattle.circuit.specs.Calls.{tests, firstCause, effect}
 use Rattle.circuit.specs.Closing.{closedValue, closeItem, closeBelow, closeAll}

@@ -1,5 +1,5 @@
 -- Working a figure out in the season-close run: the loop over its parents gathers the values in their records. Assumes nothing.
-use Prim.Native.Nat.{ℕ, suc, _+_, _*_, _<_, _≤_}
+use Prim.Native.Nat.{ℕ, _+_, _*_, _<_, _≤_}
 use mathlib.Core.Path.{_≡_, refl, sym, ap, _∙_}
 use mathlib.Core.Bool.{true}
 use mathlib.Core.List.{List, [], _∷_, _++_, map, map-append}
@@ -8,10 +8,10 @@ use native.Mathlib.Numerals.{add-one}
 use lib.IntN.{ℤ}
 use lib.ListN.{length, getD, set, take, length-set}
 use lib.Seq.{take-suc, take-length}
-use Rattle.circuit.specs.Value.{Value, null, kindOf, numberOf}
+use Rattle.circuit.specs.Value.{Value, kindOf, numberOf}
 use Rattle.circuit.specs.WellFormed.{allWellFormed}
 use Rattle.circuit.specs.Rules.{maxParents}
-use Rattle.circuit.specs.Sheet.{Item, entry, figure, size, itemAt, isFigure, parents, parentsOf, evaluate}
+use Rattle.circuit.specs.Sheet.{size, itemAt, isFigure, parents, parentsOf, evaluate}
 use Rattle.circuit.specs.Table.{valueIn}
 use Rattle.circuit.specs.Closing.{closedValue}
 use Rattle.layout.specs.Opened.{sheetOf}
@@ -52,11 +52,6 @@ gathering-start lent low figured count read kinds amounts a b =
       kinds-length = a;
       amounts-length = b;
     }
-
--- a figure's value in the run
-closed-figure : (it : Item) (v : Value) (vs : List Value) → isFigure it ≡ true → evaluate it null vs ≡ evaluate it v vs
-closed-figure entry v vs f = let bad : _≡_ {A = ℕ} 0 1 = cc in absurd (omega arith)
-closed-figure (figure op keep spread ps) v vs f = refl
 
 module _ {s offsets t : List ℕ} {i at count k : ℕ} {kinds : List ℕ} {amounts : List ℤ} (inv : Gathering s offsets t i at count k kinds amounts) where
   abbrev ps : List ℕ
@@ -120,6 +115,4 @@ module _ {s offsets t : List ℕ} {i at count k : ℕ} {kinds : List ℕ} {amoun
       → meaning r ≡ closedValue (sheetOf s) (decodeTable t) i
   unfolding closedValue
   gathering-done h r given =
-      figure-evaluated (inv .field) given
-      ∙ ap (evaluate (itemAt (sheetOf s) i) null) (gathered h)
-      ∙ closed-figure (itemAt (sheetOf s) i) (valueAt t i) (map (valueAt t) ps) (inv .field .figured)
+      figure-evaluated (inv .field) given (valueAt t i) ∙ ap (evaluate (itemAt (sheetOf s) i) (valueAt t i)) (gathered h)

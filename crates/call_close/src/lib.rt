@@ -27,7 +27,7 @@ use table::Mark;
 use value::MAX_PARENTS;
 use value::Value;
 
-// The value of a stored cell.
+// The value of a stored cell; NULL for UNK, which the run never meets.
 fn value_in(cell: Cell) -> Value
     ensures { λ r. ⌜ meaning r ≡ valueIn (cellMeaning cell) ⌝ }
 {

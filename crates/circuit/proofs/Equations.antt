@@ -1,5 +1,6 @@
 -- The equations of specs/Equations hold. Assumes nothing.
 use Prim.Native.Nat.{ℕ}
+use native.Mathlib.Omega.{arith}
 use mathlib.Core.Path.{_≡_, refl, sym, ap, _∙_}
 use mathlib.Core.Bool.{Bool, true, false, cond}
 use mathlib.Core.Logic.{_⊎_, inl, inr}
@@ -10,7 +11,8 @@ use Rattle.circuit.specs.Sheet.{Sheet, defer, renew, size, itemAt, isFig
 use Rattle.circuit.specs.Table.{Table, Mark, unmarked, refresh, notice, held, upd, valueIn, isNotice}
 use Rattle.circuit.specs.Value.{Value, same}
 use Rattle.circuit.specs.Circuit.{Listed}
-use Rattle.circuit.specs.Machine.{looked, gather, workOutBy, lookCell, lookUp, workOut, refreshCleared, renewChild, deferChild, tellStored, tellCell, tellChild, tellIf, tellBelow, tell, lowestMarked}
+use Rattle.circuit.specs.Machine.{looked, gather, workOutBy, lookCell, lookUp, workOut, refreshCleared, renewChild, deferChild}
+use Rattle.circuit.specs.Machine.{tellStored, tellCell, tellChild, tellIf, tellBelow, tell, lowestMarked}
 use Rattle.circuit.specs.Closing.{closedValue, closeItem, closeBelow, closeAll}
 use Rattle.circuit.specs.Fresh.{give, freshAsk, giveItem}
 use Rattle.circuit.specs.Words.{CaughtUp, still, stepped}
@@ -18,7 +20,7 @@ use Rattle.circuit.specs.Equations.{LookingUp, TellingChild, Telling, Cl
 use Rattle.circuit.proofs.View.{never}
 use Rattle.circuit.proofs.Fill.{lookUp-is}
 use Rattle.circuit.proofs.Solution.{give-equation, figure-below}
-use Rattle.circuit.proofs.Closing.{close-works}
+use Rattle.circuit.proofs.Closing.{close-above, close-works}
 use Rattle.circuit.proofs.Closure.{lowest-marked, member-listed}
 use Rattle.circuit.proofs.Tell.{listed-member}
 use Rattle.circuit.proofs.RuleLaws.{same-true, same-refl}
@@ -103,7 +105,10 @@ closing-run S ordered T =
     record {
       all = refl;
       none-closed = refl;
-      entry-closed = λ k it. let U : Table = closeBelow S T k in ap (λ x. upd U k (held (evaluate x (valueIn (U k)) (map (λ p. valueIn (U p)) (parentsOf x))) unmarked)) it;
+      entry-closed = λ k it.
+          let U : Table = closeBelow S T k in
+          ap (λ x. upd U k (held (evaluate x (valueIn (U k)) (map (λ p. valueIn (U p)) (parentsOf x))) unmarked)) it
+          ∙ ap (λ c. upd U k (held (valueIn c) unmarked)) (close-above S T k k (omega arith));
       figure-closed = λ k op keep spread ps it.
           let U : Table = closeBelow S T k in
           let value = ap (λ x. evaluate x (valueIn (U k)) (map (λ p. valueIn (U p)) (parentsOf x))) it in (

@@ -17,13 +17,17 @@ use Rattle.circuit.specs.Call.{Call, post, keep, drop, step, ask, close}
 use Rattle.circuit.specs.Closing.{closedValue, closeItem, closeBelow, closeAll}
 use Rattle.circuit.specs.Calls.{Outcome, perform, run, tests, firstCause, effect, postedValue}
 
--- to unfold these is to unfold all that looking up computes with, and all that the calls do
+-- to unfold these is to unfold all that looking up and the season-close run compute with, and all that the calls do
 unfoldable pub looking : Sheet → Table → ℕ → Looked
 unfolding lookUp lookFor workOut workOutBy gather apply numbers total anyOut inRange limit member
 looking S T i = lookUp S T i
 
+unfoldable pub closing : Sheet → Table → Table
+unfolding closeAll closeBelow closeItem closedValue
+closing S T = closeAll S T
+
 unfoldable pub machine : Sheet → Table → Call → Outcome
-unfolding looking perform tests firstCause effect postedValue partsOf keepFigure dropFigure storePosting stepItem tell tellBelow tellChild clearMark catchUp catchUpIn lowestMarked closeAll closeBelow closeItem closedValue
+unfolding looking closing perform tests firstCause effect postedValue partsOf keepFigure dropFigure storePosting stepItem tell tellBelow tellChild clearMark catchUp catchUpIn lowestMarked
 machine S T c = perform S T c
 
 -- an entry, a figure that sums it, and a figure that sums the first; neither is kept, both defer

@@ -10,7 +10,7 @@ use lib.Dec.{eqb}
 use borrow.Author.Tests.{eqb-true, eqb-false, lt-leb}
 use Rattle.circuit.specs.Value.{Value}
 use Rattle.circuit.specs.Sheet.{Sheet, Item, entry, figure, size, itemAt, isFigure, Ordered, Entries}
-use Rattle.circuit.specs.Table.{Table, Cell, unmarked, refresh, notice, unk, held, isStored, isMarked, cellForm}
+use Rattle.circuit.specs.Table.{Table, Cell, unmarked, refresh, notice, unk, held, isStored, isMarked}
 use Rattle.circuit.specs.Machine.{lookUp, keepCell, keepFigure, stepItem}
 use Rattle.circuit.specs.Call.{Call, keep, step}
 use Rattle.circuit.specs.Calls.{tests, firstCause, effect, perform, run}
@@ -25,6 +25,7 @@ use Rattle.circuit.proofs.Closure.{lowest-marked}
 use Rattle.circuit.proofs.CatchUp.{quiet-flag, catchUp-quiet, catchUp-ends}
 use Rattle.circuit.proofs.Reading.{quiet-exact, exact-solution}
 use Rattle.circuit.proofs.Sound.{Sound}
+use Rattle.circuit.proofs.Retention.{stored-entry}
 
 -- a list of calls after another
 pub run-append : (S : Sheet) (cs ds : List Call) (T : Table) → run S T (cs ++ ds) ≡ run S (run S T cs) ds
@@ -124,12 +125,8 @@ module _ (S : Sheet) (ordered : Ordered S) (E : Entries) (T : Table) (sound : So
       kept : Kept S T (size S) U
       kept = keeps-below S ordered T (size S) (omega arith)
 
-      entry-stored : (c : Cell) → cellForm entry c ≡ true → isStored c ≡ true
-      entry-stored (unk f) e = never (cc)
-      entry-stored (held v m) e = refl
-
       stored : (it : Item) → itemAt S j ≡ it → isStored (U j) ≡ true
-      stored entry e = fill-stored S T U (kept .fill) j (entry-stored (T j) (rw e at (sound .formed j low)))
+      stored entry e = fill-stored S T U (kept .fill) j (stored-entry (itemAt S j) (T j) (sound .formed j low) (ap isFigure e))
       stored (figure op k spread ps) e = kept .stored j low (ap isFigure e)
 
 -- the steps of catching up, as calls

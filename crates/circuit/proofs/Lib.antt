@@ -17,9 +17,9 @@ pub mod Memo
 pub mod Reading
 pub mod Closing
 pub mod Sound
-pub mod KeepEvery
 pub mod Board
 pub mod Offices
 pub mod Steps
 pub mod Retention
+pub mod KeepEvery
 pub mod Demand

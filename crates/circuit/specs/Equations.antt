@@ -76,7 +76,7 @@ pub record Telling (S : Sheet) (i : ℕ) (T : Table) : Type 0 where
 pub record Closing (S : Sheet) (T : Table) : Type 0 where
   pub all : closeAll S T ≡ closeBelow S T (size S)
   pub none-closed : closeBelow S T 0 ≡ T
-  pub entry-closed : (k : ℕ) → itemAt S k ≡ entry → closeBelow S T (suc k) ≡ upd (closeBelow S T k) k (held (valueIn (closeBelow S T k k)) unmarked)
+  pub entry-closed : (k : ℕ) → itemAt S k ≡ entry → closeBelow S T (suc k) ≡ upd (closeBelow S T k) k (held (valueIn (T k)) unmarked)
   pub figure-closed : (k : ℕ) (op : Operation) (keep : Bool) (spread : Spread) (ps : List ℕ) → itemAt S k ≡ figure op keep spread ps
       → let U : Table = closeBelow S T k in
       let value : Value = apply op (map (λ p. valueIn (U p)) ps) in

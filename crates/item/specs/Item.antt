@@ -66,9 +66,9 @@ pub record OperationRead (it : circuit.Item) (op : Operation) : Type 0 where
   pub operation-is : operationMeaning op ≡ itemOperation it
   pub takes : allows (operationMeaning op) (length (circuit.parentsOf it)) ≡ true
 
--- a figure's value by its parents' values, which is well formed
+-- a figure's value by its parents' values, whatever stands in its own cell; it is well formed
 pub record Evaluated (it : circuit.Item) (vs : List machine.Value) (r : Value) : Type 0 where
-  pub value-is : meaning r ≡ circuit.evaluate it machine.null vs
+  pub value-is : (own : machine.Value) → meaning r ≡ circuit.evaluate it own vs
   pub formed : machine.wellFormed (meaning r) ≡ true
 
 -- a parent count that is read

@@ -6,7 +6,7 @@ use mathlib.Core.Bool.{true}
 use mathlib.Core.List.{List}
 use native.Mathlib.Omega.{arith}
 use lib.ListN.{length, getD}
-use Rattle.circuit.specs.Value.{Value, null}
+use Rattle.circuit.specs.Value.{Value}
 use Rattle.circuit.specs.Rules.{maxParents}
 use Rattle.circuit.specs.Sheet.{size, itemAt, isFigure, parents, parentsOf, evaluate}
 use Rattle.layout.specs.Opened.{sheetOf, Located}
@@ -61,5 +61,6 @@ module _ {s offsets : List ℕ} {i at count : ℕ} (here : FigureAt s offsets i 
   parents-counted = here .count-is ∙ ap length (sym figure-parents)
 
   -- what its rule gives on the parents' values is the machine's
-  pub figure-evaluated : {vs : List Value} {r : Rattle.value.specs.declared.Value.Value} → Evaluated (fieldItem s at) vs r → meaning r ≡ evaluate (itemAt (sheetOf s) i) null vs
-  figure-evaluated {vs} given = given .value-is ∙ ap (λ it. evaluate it null vs) figure-item
+  pub figure-evaluated : {vs : List Value} {r : Rattle.value.specs.declared.Value.Value} → Evaluated (fieldItem s at) vs r
+      → (own : Value) → meaning r ≡ evaluate (itemAt (sheetOf s) i) own vs
+  figure-evaluated {vs} given own = given .value-is own ∙ ap (λ it. evaluate it own vs) figure-item

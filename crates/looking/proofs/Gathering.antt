@@ -196,7 +196,7 @@ module _ {s offsets t₀ tags₀ : List ℕ} {numbers₀ : List ℤ} {generation
   going-done h r given b over =
       record {
         value-is =
-            figure-evaluated (inv .field) given
+            figure-evaluated (inv .field) given null
             ∙ ap (evaluate (itemAt (sheetOf s) i) null)
             (ap (firstValues kinds amounts) (sym (going-all h)) ∙ inv .values-are ∙ ap (λ x. x .values) is);
         flag-is = inv .flag-is ∙ ap (λ x. x .flag) is;

@@ -12,17 +12,19 @@ use borrow.Author.Tests.{lt-ltb, le-ltb}
 use Rattle.circuit.specs.Value.{Value}
 use Rattle.circuit.specs.Circuit.{LeadsTo}
 use Rattle.circuit.specs.Sheet.{Sheet, Ordered, Entries, size, itemAt, isFigure, circuitOf}
-use Rattle.circuit.specs.Table.{Table, Mark, unk, isStored, markOf, valueIn, opened}
+use Rattle.circuit.specs.Table.{Table, Mark, unmarked, unk, held, isStored, markOf, valueIn, opened}
 use Rattle.circuit.specs.Call.{Call, post, keep, drop, step, ask, board, close, Posting, Opening, bare, full}
-use Rattle.circuit.specs.Calls.{Outcome, firstCause, perform, run, postingsMade, postingBy, postings, postingOf, postedValue, ifAccepted as ifMade}
+use Rattle.circuit.specs.Calls.{Outcome, firstCause, tests, effect, perform, run, postingsMade, postingBy, postings, postingOf, postedValue, ifAccepted as ifMade}
 use Rattle.circuit.specs.Board.{listed, listsWrong}
-use Rattle.circuit.specs.Fresh.{blank, freshAsk, freshAsks, freshRun}
+use Rattle.circuit.specs.Fresh.{blank, give, freshAsk, freshAsks, freshRun}
+use Rattle.circuit.specs.Closing.{closeAll}
 use Rattle.circuit.specs.Words.{Quiet}
 use Rattle.circuit.proofs.Solution.{figure-below}
 use Rattle.circuit.proofs.Offices.{Agree, Answers, Shows, two-offices, opened-sound}
 use Rattle.circuit.proofs.Retention.{Retained, retention}
 use Rattle.circuit.proofs.View.{result-below}
 use Rattle.circuit.proofs.Invariant.{Justified, exact, due, awaits}
+use Rattle.circuit.proofs.Closing.{close-at}
 use Rattle.circuit.proofs.Sound.{Sound, run-sound}
 use Rattle.circuit.proofs.Accepted.{number-cause, post-passed}
 use Rattle.layout.specs.Read.{Placed, Scan, going, stopped, placeField, goOn, judge, itemTests, lastTests, headTests, scanItem, scan, scanEnd, afterLast, scanLast, scanSheet, conclude}
@@ -268,6 +270,12 @@ module _ (s : List ℕ) (edition : ℕ) (ps : List Placed) (reads : readSheet s 
       ap (λ k. callOn s k c) (runs cs T h w)
       ∙ performs (run (sheetRead edition ps) T cs) c (run-holdable (sheetRead edition ps) ordered cs T h) (run-within cs T w)
 
+  -- a season-close run after a list of calls
+  closed-after : (cs : List Call) (T : Table) → Holdable (sheetRead edition ps) T → Within (sheetRead edition ps) T
+      → callOn s (runOn s (at T) cs) close .after ≡ at (closeAll (sheetRead edition ps) (run (sheetRead edition ps) T cs))
+  unfolding perform tests firstCause effect
+  closed-after cs T h w = ap (λ g. g .after) (called-after cs T close h w)
+
   -- the office that an accepted opening leaves
   unfoldable pub office : Opening → Given
   office o = accepted none [] (at (start o))
@@ -289,7 +297,7 @@ module _ (s : List ℕ) (edition : ℕ) (ps : List Placed) (reads : readSheet s 
   offices-same : (o p : Opening) (cs ds : List Call)
       → acceptedPosts s (at (start o)) cs ≡ acceptedPosts s (at (start p)) ds
       → SameAnswers s (at (start o)) cs (at (start p)) ds
-  offices-same o p cs ds equal = record { asks = same-reading; boards = same-board }
+  offices-same o p cs ds equal = record { asks = same-reading; boards = same-board; closes = same-closed }
     where
       X : Sheet
       X = sheetRead edition ps
@@ -357,6 +365,17 @@ module _ (s : List ℕ) (edition : ℕ) (ps : List Placed) (reads : readSheet s 
           second =
               ap shownBy (called-after ds (start p) (board items results) (start-holdable p) (start-within p))
               ∙ shown-fresh X x results wrong _ _ (both .shows-other items results)
+
+      -- what the run leaves at an office is the fresh office's values
+      closed-cell : (how : Opening) (es : List Call) (i : ℕ) → i < size X → closeAll X (run X (start how) es) i ≡ held (give X (freshRun X blank es) i) unmarked
+      closed-cell how es = close-at X ordered (freshRun X blank es) (run X (start how) es) (run-sound X ordered es blank (start how) (start-sound how) .holds)
+
+      same-closed : callOn s (runOn s (at (start o)) cs) close .after ≡ callOn s (runOn s (at (start p)) ds) close .after
+      same-closed =
+          closed-after cs (start o) (start-holdable o) (start-within o)
+          ∙ ap (keeping x) (encodeTable-ext X _ _
+          (λ i low. closed-cell o cs i low ∙ ap (λ E. held (give X E i) unmarked) (both .heard) ∙ sym (closed-cell p ds i low)))
+          ∙ sym (closed-after ds (start p) (start-holdable p) (start-within p))
 
   -- the words of what stays stored, on the encoding of a table
   stored-is : (T : Table) (k : ℕ) → k < size (sheetRead edition ps) → not (eqb (kindIn (row width (encodeTable (sheetRead edition ps) T) k)) 0) ≡ isStored (T k)

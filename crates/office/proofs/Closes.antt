@@ -1,20 +1,20 @@
 -- A season-close run on lent bytes: what it leaves of any accepted table (`close-leaves`), and that on a table that the engine alone has
 -- written it agrees with the asks and with keeping every figure (`office-closes`). Assumes that the table is bytes, where it says so.
-use Prim.Native.Nat.{ℕ, _<_}
+use Prim.Native.Nat.{ℕ, zero, suc, _<_}
 use native.Mathlib.Omega.{arith}
 use mathlib.Core.Path.{_≡_, refl, sym, ap, _∙_, subst}
 use mathlib.Core.Bool.{Bool, true, false}
-use mathlib.Core.List.{List, [], _∷_, map}
+use mathlib.Core.List.{List, [], _∷_, _++_, map}
 use mathlib.Core.Option.{none, some}
 use borrow.Author.Tests.{lt-leb}
-use Rattle.circuit.specs.Value.{Value, kindOf, numberOf, wellFormed}
+use Rattle.circuit.specs.Value.{Value, wellFormed}
 use Rattle.circuit.specs.Rules.{Operation, apply}
 use Rattle.circuit.specs.Sheet.{Sheet, Spread, figure, Ordered, Entries, size, itemAt, isFigure, parentsOf}
 use Rattle.circuit.specs.Circuit.{Listed}
 use Rattle.circuit.specs.Table.{Table, unmarked, held, isStored, isMarked, valueIn, markOf}
 use Rattle.circuit.specs.Machine.{looked, lookCell, lookUp, catchUp}
 use Rattle.circuit.specs.Call.{Call, step, ask, close, Opening}
-use Rattle.circuit.specs.Calls.{Outcome, outcome, tests, firstCause, readingOf, effect, perform, run, postings}
+use Rattle.circuit.specs.Calls.{outcome, tests, firstCause, readingOf, effect, perform, run, postings}
 use Rattle.circuit.specs.Closing.{closeAll, keepEvery}
 use Rattle.circuit.specs.Fresh.{blank, give, giveItem, freshRun}
 use Rattle.circuit.specs.Words.{Quiet, Holds}
@@ -36,10 +36,10 @@ use Rattle.table.specs.Rows.{row}
 use Rattle.table.specs.Record.{width, kindIn, markIn, numberIn, encodeCell}
 use Rattle.table.specs.Bytes.{encodeTable, decodeTable, Holdable}
 use Rattle.table.proofs.Tables.{encoded-record, encodeTable-ext, holdable-wellFormed, holdable-formed}
-use Rattle.office.specs.Office.{Office, keeping, Given, resultsLent, callOn, openOn, runOn}
+use Rattle.office.specs.Office.{Office, keeping, resultsLent, callOn, openOn, runOn}
 use Rattle.office.specs.Demand1Words.{AcceptedLent}
-use Rattle.office.specs.Demand2Words.{answerOf, reading, valueOf, entriesIn, OnlySolution, Stores, NoMarkStands, readingIn, CloseLeaves}
-use Rattle.office.specs.Demand3Words.{acceptedPosts, ClosesRight}
+use Rattle.office.specs.Demand2Words.{answerOf, reading, valueOf, entriesIn, Stores, NoMarkStands, readingIn, CloseLeaves}
+use Rattle.office.specs.Demand3Words.{Posted, ifAccepted, acceptedPosts, ClosesRight}
 use Rattle.office.proofs.Cells.{held-kind, held-number, parts-same, mark-cell, unmarked-code}
 use Rattle.office.proofs.Holdable.{perform-holdable, run-holdable}
 use Rattle.office.proofs.Bridge.{Within, perform-within, decode-within, givenBy}
@@ -206,6 +206,16 @@ module _ (s : List ℕ) (kept : Office) (lent : AcceptedLent s kept) (bytes : By
             again = closed-again keep;
           }
 
+-- no step posts
+steps-post : (s : List ℕ) (is : List ℕ) (p : Office) → acceptedPosts s p (map step is) ≡ []
+unfolding acceptedPosts
+steps-post s [] p = refl
+steps-post s (i ∷ is) p = go (callOn s p (step i) .number) (steps-post s is (callOn s p (step i) .after))
+  where
+    go : {qs : List Posted} (n : ℕ) → qs ≡ [] → ifAccepted n [] ++ qs ≡ []
+    go zero e = e
+    go (suc n) e = e
+
 -- An opened sheet's office, after a list of calls.
 module _ (s : List ℕ) (edition : ℕ) (ps : List Placed) (reads : readSheet s ≡ opens edition ps) (o : Opening) (cs : List Call) where
   abbrev X : Sheet
@@ -282,8 +292,10 @@ module _ (s : List ℕ) (edition : ℕ) (ps : List Placed) (reads : readSheet s 
       same i low = keeps-at X rising E₁ W caught still i low ∙ sym (close-at X rising E₁ T₁ (sound .holds) i low)
 
   -- the steps of catching up
-  catches : (is : List ℕ) × NoMarkStands X (runOn s (here T₁) (map step is) .table)
-  catches = let steps = steps-quiet X rising T₁ in (steps .0, λ i low. unmarked-after (steps .0) i low (steps .1 i low))
+  catches : (is : List ℕ) × (acceptedPosts s (here T₁) (map step is) ≡ []) × NoMarkStands X (runOn s (here T₁) (map step is) .table)
+  catches =
+      let steps = steps-quiet X rising T₁ in
+      (steps .0, steps-post s (steps .0) (here T₁), λ i low. unmarked-after (steps .0) i low (steps .1 i low))
     where
       unmarked-after : (is : List ℕ) (i : ℕ) → i < size X → let W : Table = run X T₁ (map step is) in isMarked (W i) ≡ false
           → markIn (row width (runOn s (here T₁) (map step is) .table) i) ≡ 0

@@ -24,7 +24,7 @@ use Rattle.table.specs.Record.{width}
 use Rattle.table.specs.Bytes.{decodeTable, tableForm}
 use Rattle.office.specs.Office.{Office, Given, resultsLent, refusal, accepted, openingTests, callTests, unlessRefused, effectOn, callRead, callOn, openRead, openOn}
 use Rattle.office.specs.Demand1Words.{Invocation, opening, calling, serve, resultsLentTo, TableBroken, NotPostable, Row, cause, ownCauses, causesIn, causesOf, First, NoneHolds}
-use Rattle.office.specs.Demand1Words.{HoldsAt, InBase, Lowest, Refused, bySheet, byLent, NoCause, ListsWrong, SomeNoItem, AcceptedLent, BoardRefuses, CloseRefuses}
+use Rattle.office.specs.Demand1Words.{HoldsAt, ByNumber, Lowest, Refused, bySheet, byLent, NoCause, ListsWrong, SomeNoItem, AcceptedLent, BoardRefuses, CloseRefuses}
 use Rattle.office.proofs.Causes.{tells-is, tells-is-not, tells-lengths, tells-index, tells-table, tells-beyond, tells-lists, tells-listed, tells-posted, tells-mark}
 
 -- ---- the first cause
@@ -143,7 +143,7 @@ lowest-first m (r ∷ rs) up k (inr h) n =
       lowest-first (r .number) rs (up .1) k h (λ j l g. n j l (inr g)),
     )
 
-own-rising : (S : Sheet) (t : List ℕ) (c : Call) → InBase (calling c) → Rising 10 (ownCauses S t c)
+own-rising : (S : Sheet) (t : List ℕ) (c : Call) → ByNumber (calling c) → Rising 10 (ownCauses S t c)
 own-rising S t (post i kind z) b = (omega arith, (omega arith, (omega arith, tt)))
 own-rising S t (keep i) b = (omega arith, (omega arith, tt))
 own-rising S t (drop i) b = (omega arith, (omega arith, tt))
@@ -152,11 +152,11 @@ own-rising S t (ask i) b = (omega arith, tt)
 own-rising S t (board items results) b = absurd b
 own-rising S t close b = tt
 
-causes-rising : (S : Sheet) (ps : List Placed) (kept : Office) (r : Invocation) → InBase r → Rising 7 (causesIn S ps kept r)
+causes-rising : (S : Sheet) (ps : List Placed) (kept : Office) (r : Invocation) → ByNumber r → Rising 7 (causesIn S ps kept r)
 causes-rising S ps kept (opening o) b = (omega arith, tt)
 causes-rising S ps kept (calling c) b = (omega arith, (omega arith, (omega arith, own-rising S (kept .table) c b)))
 
-first-lowest : (s : List ℕ) (kept : Office) (r : Invocation) → InBase r → (k : ℕ) → First (causesOf s kept r) k ↔ Lowest (causesOf s kept r) k
+first-lowest : (s : List ℕ) (kept : Office) (r : Invocation) → ByNumber r → (k : ℕ) → First (causesOf s kept r) k ↔ Lowest (causesOf s kept r) k
 first-lowest s kept r b k = (
   λ f. record { holds = first-holds (causesOf s kept r) k f; none-below = first-below 7 (causesOf s kept r) up k f },
   λ l. lowest-first 7 (causesOf s kept r) up k (l .holds) (l .none-below),
@@ -316,7 +316,7 @@ postable kind z n = go (postedValue kind z) refl (tells-posted kind z)
 -- What is demanded of a request.
 pub record TurnedBack (r : Invocation) (s : List ℕ) (kept : Office) : Type 0 where
   pub given : (k offset : ℕ) → ¬ (k ≡ 0) → ((serve r s kept .number ≡ k) × (serve r s kept .offset ≡ offset)) ↔ Refused s kept r k offset
-  pub lowest : InBase r → (k : ℕ) → First (causesOf s kept r) k ↔ Lowest (causesOf s kept r) k
+  pub lowest : ByNumber r → (k : ℕ) → First (causesOf s kept r) k ↔ Lowest (causesOf s kept r) k
   pub accepted : (serve r s kept .number ≡ 0) ↔ NoCause s kept r
   pub offset-0 : serve r s kept .number ≡ 0 → serve r s kept .offset ≡ 0
   pub left : ¬ (serve r s kept .number ≡ 0) → (serve r s kept .after ≡ kept) × (serve r s kept .results ≡ resultsLentTo r)

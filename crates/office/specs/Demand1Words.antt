@@ -142,7 +142,8 @@ ownCauses S t (board items results) = cause 17 (ListsWrong items results) ∷ ca
 ownCauses S t close = []
 
 -- The causes of an invocation in the order in which they count, after the sheet has been read. Openings use 8 alone. 01's calls have
--- theirs by rising numbers; a board has 17 before 11; a season-close run has those of what is lent alone. (A later request's call may have a number twice.)
+-- theirs by rising numbers; a board has 17 before 11; a season-close run has those of what is lent alone. (A later request's call may
+-- have a number twice.)
 abbrev pub causesIn : Sheet → List Placed → Office → Invocation → List Row
 causesIn S ps o (opening how) = cause 8 (LengthsWrong (size S) o) ∷ []
 causesIn S ps o (calling c) = lentCauses S ps o ++ ownCauses S (o .table) c
@@ -165,16 +166,16 @@ abbrev pub HoldsAt : List Row → ℕ → Type 0
 HoldsAt [] k = ⊥
 HoldsAt (r ∷ rs) k = ((k ≡ r .number) × r .cause) ⊎ HoldsAt rs k
 
--- the openings, 01's five calls, and the season-close run, which has no cause of its own
-abbrev pub InBase : Invocation → Type 0
-InBase (opening how) = Unit {0}
-InBase (calling (post i kind z)) = Unit {0}
-InBase (calling (keep i)) = Unit {0}
-InBase (calling (drop i)) = Unit {0}
-InBase (calling (step i)) = Unit {0}
-InBase (calling (ask i)) = Unit {0}
-InBase (calling (board items results)) = ⊥
-InBase (calling close) = Unit {0}
+-- the invocations whose causes count by rising numbers: the openings, 01's five calls and the season-close run
+abbrev pub ByNumber : Invocation → Type 0
+ByNumber (opening how) = Unit {0}
+ByNumber (calling (post i kind z)) = Unit {0}
+ByNumber (calling (keep i)) = Unit {0}
+ByNumber (calling (drop i)) = Unit {0}
+ByNumber (calling (step i)) = Unit {0}
+ByNumber (calling (ask i)) = Unit {0}
+ByNumber (calling (board items results)) = ⊥
+ByNumber (calling close) = Unit {0}
 
 -- k is the lowest number whose cause holds
 pub record Lowest (rs : List Row) (k : ℕ) : Type 0 where

@@ -1,5 +1,5 @@
--- Demand 3, its words: lists of calls at an office, their accepted posts, what the fresh office answers, and what stays stored.
--- Assumes nothing.
+-- Demand 3, its words: lists of calls at an office, their accepted posts, what the fresh office answers, what stays stored, and what a
+-- season-close run agrees with. Assumes nothing.
 use Prim.Native.Nat.{ℕ, zero, suc, _<_, _≤_}
 use mathlib.Core.Path.{_≡_}
 use mathlib.Core.Bool.{Bool, true, false, not}
@@ -102,10 +102,11 @@ pub record SameBoard (s : List ℕ) (o : Office) (cs : List Call) (p : Office) (
   pub fresh : boardAfter s o cs items results ≡ freshBoard s cs items results
   pub fresh-other : boardAfter s p ds items results ≡ freshBoard s ds items results
 
--- every ask and every board
+-- every ask and every board; and a season-close run leaves both offices with the same bytes
 pub record SameAnswers (s : List ℕ) (o : Office) (cs : List Call) (p : Office) (ds : List Call) : Type 0 where
   pub asks : (i : ℕ) → SameReading s o cs p ds i
   pub boards : (items results : List ℕ) → SameBoard s o cs p ds items results
+  pub closes : callOn s (runOn s o cs) close .after ≡ callOn s (runOn s p ds) close .after
 
 -- 01's "stored": the kind is not 0
 abbrev pub storedIn : List ℕ → ℕ → Bool
@@ -133,18 +134,18 @@ pub record CountsAsAsks (s : List ℕ) (o : Office) (items results : List ℕ) (
   pub posts : acceptedPosts s o (board items results ∷ cs) ≡ acceptedPosts s o (map ask (listed items) ++ cs)
   pub keeps : runOn s o (board items results ∷ cs) ≡ runOn s o (map ask (listed items) ++ cs)
 
--- A season-close run at an office that keeps p, on a sheet with the items S.
+-- A season-close run at an office that keeps p; S is the sheet's items, sheetOf s.
 pub record ClosesRight (S : Sheet) (s : List ℕ) (p : Office) : Type 0 where
   pub accepted : callOn s p close .number ≡ 0
   -- 02's "It agrees with an ask for each item", made before the run and after it
   pub before : (i : ℕ) → i < size S → answerOf (callOn s p (ask i)) ≡ readingIn (callOn s p close .after .table) i
   pub after : (i : ℕ) → i < size S → answerOf (callOn s (callOn s p close .after) (ask i)) ≡ readingIn (callOn s p close .after .table) i
-  -- It leaves what catching up and then keeping every figure, lowest first, leaves. Here any list catches up in which no post is
-  -- accepted and after which no mark stands.
+  -- It leaves what catching up and then keeping every figure, lowest first, leaves. Catching up may be any list of calls in which no
+  -- post is accepted and after which no mark stands.
   pub keeps : (ds : List Call) → acceptedPosts s p ds ≡ [] → NoMarkStands S (runOn s p ds .table)
       → runOn s (runOn s p ds) (keepEvery S) ≡ callOn s p close .after
-  -- Some steps catch up.
-  pub catches : (is : List ℕ) × NoMarkStands S (runOn s p (map step is) .table)
+  -- Some steps are such a list.
+  pub catches : (is : List ℕ) × (acceptedPosts s p (map step is) ≡ []) × NoMarkStands S (runOn s p (map step is) .table)
 
 -- At an office, whatever was called before, index and table are accepted, and a call is given 0, or 11 or more.
 pub record OfficeAccepted (s : List ℕ) (o : Office) (cs : List Call) : Type 0 where

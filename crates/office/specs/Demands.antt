@@ -1,6 +1,7 @@
--- The three demands of document 01, with 02's board, older tables and season-close run, a record for each, in its order. They are demands on `openOn` and `callOn`
--- (Office), which the contracts of the exported functions cite: a function gives and leaves exactly what these say, for all lent bytes.
--- That every call ends and touches only what it was lent is proved of each function by the language. Assumes nothing.
+-- The three demands of document 01, with 02's board, older tables and season-close run, a record for each, in its order. They are
+-- demands on `openOn` and `callOn` (Office), which the contracts of the exported functions cite: a function gives and leaves exactly what
+-- these say, for all lent bytes. That every call ends and touches only what it was lent is proved of each function by the language.
+-- Assumes nothing.
 use Prim.Native.Nat.{ℕ, _≤_}
 use mathlib.Core.Path.{_≡_}
 use mathlib.Core.Bool.{true}
@@ -16,7 +17,8 @@ use Rattle.layout.specs.Layout.{machineSheet}
 use Rattle.layout.specs.Opened.{sheetOf}
 use Rattle.layout.specs.Causes.{Faultless}
 use Rattle.office.specs.Office.{Office, resultOf, callOn, openOn, runOn}
-use Rattle.office.specs.Demand1Words.{Invocation, serve, resultsLentTo, causesOf, First, InBase, Lowest, Refused, NoCause, Gets, AcceptedUnder, AcceptedLent, BoardRefuses, CloseRefuses, SheetWords}
+use Rattle.office.specs.Demand1Words.{Invocation, serve, resultsLentTo, causesOf, First, ByNumber, Lowest, Refused, NoCause, Gets}
+use Rattle.office.specs.Demand1Words.{AcceptedUnder, AcceptedLent, BoardRefuses, CloseRefuses, SheetWords}
 use Rattle.office.specs.Demand2Words.{FollowsLayout, Writes, NoneStored, OnlySolution, entriesIn, Gives, ListWords, ResultWords, CallsLeave}
 use Rattle.office.specs.Demand3Words.{acceptedPosts, SameAnswers, Retains, CountsAsAsks, ClosesRight, OfficeAccepted}
 
@@ -34,7 +36,7 @@ pub record Refuses : Type 0 where
   pub no-value : (r : Invocation) (s : List ℕ) (o : Office) → ¬ (serve r s o .number ≡ 0)
       → (serve r s o .kind ≡ 0) × (serve r s o .value ≡ pos 0)
   -- of the openings, 01's five calls and the season-close run: after the sheet the lowest number wins
-  pub lowest : (r : Invocation) → InBase r → (s : List ℕ) (o : Office) (k : ℕ) → First (causesOf s o r) k ↔ Lowest (causesOf s o r) k
+  pub lowest : (r : Invocation) → ByNumber r → (s : List ℕ) (o : Office) (k : ℕ) → First (causesOf s o r) k ↔ Lowest (causesOf s o r) k
   -- of a board: 17 comes after 10 and before 11
   pub boards : (s : List ℕ) (o : Office) (items results : List ℕ) → BoardRefuses s o items results
   -- of a season-close run: 1 to 10, and no others
@@ -68,13 +70,14 @@ pub record Means : Type 0 where
   pub lists : (items : List ℕ) → ListWords items
   -- a result holds the kind and the number of its value
   pub results : (v : Value) → wellFormed v ≡ true → ResultWords (resultOf (kindOf v) (numberOf v)) (kindOf v) (numberOf v)
-  -- looking up, working out, catching up and the fresh office, as 01 has them
+  -- looking up, working out, telling, catching up and the fresh office as 01 has them, and the season-close run as 02 has it
   pub equations : Equations
 
 -- Demand 3, about whole lists of calls.
 pub record Agrees : Type 0 where
   -- Two offices open the same sheet, each bare or full, and call what they like; the accepted posts are the same, in the same
-  -- order. Then every ask and every board agrees, and is what the fresh office gives that is fed either list.
+  -- order. Then every ask and every board agrees, and is what the fresh office gives that is fed either list; and closed, both keep the
+  -- same bytes.
   pub agree : (s : List ℕ) (o p : Office) (first second : Opening)
       → openOn first s o .number ≡ 0 → openOn second s p .number ≡ 0
       → (cs ds : List Call) → acceptedPosts s (openOn first s o .after) cs ≡ acceptedPosts s (openOn second s p .after) ds
@@ -86,7 +89,8 @@ pub record Agrees : Type 0 where
   -- In a list of calls an accepted board counts as the asks for its items.
   pub counts : (s : List ℕ) (o : Office) → Bytes (o .table) → (items results : List ℕ) → callOn s o (board items results) .number ≡ 0
       → (cs : List Call) → CountsAsAsks s o items results cs
-  -- On any table that the engine alone has written since opening, a season-close run agrees with an ask for each item.
+  -- On any table that the engine alone has written since opening, a season-close run agrees with an ask for each item, and leaves what
+  -- catching up and then keeping every figure leaves.
   pub closes : (s : List ℕ) (o : Office) (how : Opening) → openOn how s o .number ≡ 0
       → (cs : List Call) → ClosesRight (sheetOf s) s (runOn s (openOn how s o .after) cs)
   -- no list leads to a refusal of index or table
