@@ -25,7 +25,7 @@
  *     table together.
  *   - A table that only the engine has written since an opening is always accepted (with its own
  *     sheet and index). A table with bytes from elsewhere may be accepted too, but its readings are
- *     then not promised.
+ *     then not promised, until rozhinal_close has worked every figure out anew.
  *   - A table that was opened before version 2.0.0 is accepted too, and the library cannot tell it.
  *     Its weights are kilograms, and it may hold an OUT from the range of before, so its readings
  *     are not promised either. Open anew, and post again in grams.
@@ -34,8 +34,9 @@
  *
  * Stack: looking up goes from a figure to its parents, so the depth is bounded by the levels of a
  * sheet (at most ROZHINAL_MAX_LEVEL), and each call has scratch space for ROZHINAL_MAX_ITEMS items.
- * On sheets of 64 levels an ask was measured at 103,216 bytes, a board at 103,184, a step at
- * 102,640, a keep at 67,600 and a post at 9,512; ROZHINAL_STACK_BYTES is enough for every call.
+ * On sheets of 64 levels an ask was measured at 101,200 bytes, a board at 101,168, a step at
+ * 100,624, a keep at 65,584, a close at 9,672 and a post at 9,512; ROZHINAL_STACK_BYTES is enough
+ * for every call.
  */
 #ifndef ROZHINAL_H
 #define ROZHINAL_H
@@ -144,7 +145,8 @@ static inline size_t rozhinal_item_count(const uint8_t *sheet, size_t sheet_len)
  *
  * The kind of an entry is ROZHINAL_NULL or ROZHINAL_NUMBER. Only a stored figure, one whose kind is
  * not ROZHINAL_UNK, can have the mark ROZHINAL_MARK_REFRESH. While any mark is left a stored figure
- * may be out of date: read values by rozhinal_ask or rozhinal_board, not from the table.
+ * may be out of date: read values by rozhinal_ask or rozhinal_board, not from the table, unless
+ * rozhinal_close was the last call.
  */
 #define ROZHINAL_RECORD_BYTES 10
 #define ROZHINAL_TABLE_BYTES(n) ((size_t)ROZHINAL_RECORD_BYTES * (n))
@@ -316,7 +318,8 @@ rozhinal_answer rozhinal_board(const uint8_t *sheet, size_t sheet_len,
  * fills the table in place: an entry keeps its value; a figure, stored or not, whatever its keep
  * byte, gets what its rule gives for its parents as they then stand in the table; no mark is left.
  * On a table that only the engine has written since an opening each record then holds what an ask
- * for the item gives, and may be read from the table until the next post or drop. A second run
+ * for the item gives, and may be read from the table until the next post, drop or opening. On any
+ * table that is accepted the values are the right ones for the entries that it holds. A second run
  * changes nothing. Refuses with 1 to 10 as every call, and with no other number.
  */
 rozhinal_answer rozhinal_close(const uint8_t *sheet, size_t sheet_len,

@@ -47,7 +47,7 @@ use Rattle.office.specs.Demand3Words.{Posted, postOf, ifAccepted, accept
 use Rattle.office.specs.Demand3Words.{storedIn, StaysStored, Retains}
 use Rattle.office.proofs.Cells.{kind-cell, parts-same, mark-cell, code-unmarked}
 use Rattle.office.proofs.Holdable.{run-holdable, perform-holdable}
-use Rattle.office.proofs.Bridge.{Within, perform-within, resultsBy, givenBy, call-performs, run-runs}
+use Rattle.office.proofs.Bridge.{Within, perform-within, run-within, resultsBy, givenBy, call-performs, run-performs}
 
 -- a reading that stops does so by a number that is not 0
 abbrev Positive : Scan → Type 0
@@ -183,7 +183,7 @@ answer-same : (S : Sheet) (x : List ℕ) (o : Outcome) (k : ℕ) (v : Option Val
     → answerOf (givenBy S x [] o) ≡ record { number = k; offset = 0; kind = kindRead v; value = numberRead v }
 answer-same S x o k v n r = λ i. record { number = n i; offset = 0; kind = kindRead (r i); value = numberRead (r i) }
 
-answer-fresh : (S : Sheet) (x : List ℕ) (o : Outcome) (given : Option Value) → Answers given o → answerOf (givenBy S x [] o) ≡ freshAnswer given
+pub answer-fresh : (S : Sheet) (x : List ℕ) (o : Outcome) (given : Option Value) → Answers given o → answerOf (givenBy S x [] o) ≡ freshAnswer given
 answer-fresh S x o none a = answer-same S x o 11 none (a .0) (a .1)
 answer-fresh S x o (some v) a = answer-same S x o 0 (some v) (a .0) (a .1)
 
@@ -235,11 +235,6 @@ module _ (s : List ℕ) (edition : ℕ) (ps : List Placed) (reads : readSheet s 
   unfolding start
   start-encoded o = encodeTable-ext (sheetRead edition ps) _ _ (λ i low. sym (cut-below (sheetRead edition ps) (opened o (sheetRead edition ps)) i low))
 
-  pub run-within : (cs : List Call) (T : Table) → Within (sheetRead edition ps) T → Within (sheetRead edition ps) (run (sheetRead edition ps) T cs)
-  unfolding run
-  run-within [] T w = w
-  run-within (c ∷ cs) T w = run-within cs (perform (sheetRead edition ps) T c .table) (perform-within (sheetRead edition ps) ordered T c w)
-
   pub performs : (T : Table) (c : Call) → Holdable (sheetRead edition ps) T → Within (sheetRead edition ps) T
       → callOn s (at T) c ≡ givenBy (sheetRead edition ps) (indexBytes ps) (resultsLent c) (perform (sheetRead edition ps) T c)
   performs = call-performs s edition ps reads (index-length ps) sized ordered
@@ -260,7 +255,7 @@ module _ (s : List ℕ) (edition : ℕ) (ps : List Placed) (reads : readSheet s 
 
   pub runs : (cs : List Call) (T : Table) → Holdable (sheetRead edition ps) T → Within (sheetRead edition ps) T
       → runOn s (at T) cs ≡ at (run (sheetRead edition ps) T cs)
-  runs = run-runs s edition ps reads (index-length ps) sized ordered
+  runs = run-performs s (indexBytes ps) (sheetRead edition ps) ordered performs
 
   -- a call after a list of calls
   called-after : (cs : List Call) (T : Table) (c : Call) → Holdable (sheetRead edition ps) T → Within (sheetRead edition ps) T
@@ -268,7 +263,7 @@ module _ (s : List ℕ) (edition : ℕ) (ps : List Placed) (reads : readSheet s 
       ≡ givenBy (sheetRead edition ps) (indexBytes ps) (resultsLent c) (perform (sheetRead edition ps) (run (sheetRead edition ps) T cs) c)
   called-after cs T c h w =
       ap (λ k. callOn s k c) (runs cs T h w)
-      ∙ performs (run (sheetRead edition ps) T cs) c (run-holdable (sheetRead edition ps) ordered cs T h) (run-within cs T w)
+      ∙ performs (run (sheetRead edition ps) T cs) c (run-holdable (sheetRead edition ps) ordered cs T h) (run-within (sheetRead edition ps) ordered cs T w)
 
   -- a season-close run after a list of calls
   closed-after : (cs : List Call) (T : Table) → Holdable (sheetRead edition ps) T → Within (sheetRead edition ps) T
@@ -472,7 +467,7 @@ module _ (s : List ℕ) (edition : ℕ) (ps : List Placed) (reads : readSheet s 
       subst (λ g. Retains s (g .after)) (sym (opening-gives kept o a))
       (λ cs marks e kind z accepts ds none-made k low fig away was.
       table-stays (freshRun X blank cs) (run X (start o) cs) (run-sound X ordered cs blank (start o) (start-sound o))
-      (run-holdable X ordered cs (start o) (start-holdable o)) (run-within cs (start o) (start-within o))
+      (run-holdable X ordered cs (start o) (start-holdable o)) (run-within X ordered cs (start o) (start-within o))
       (runOn s (at (start o)) cs) (runs cs (start o) (start-holdable o) (start-within o))
       (λ j l. marks j (subst (λ Y. j < size Y) (sym sheet-is) l)) e kind z accepts ds none-made k
       (subst (λ Y. k < size Y) sheet-is low) (subst (λ Y. isFigure (itemAt Y k) ≡ true) sheet-is fig)

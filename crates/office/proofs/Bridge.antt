@@ -104,6 +104,12 @@ module _ (S : Sheet) (ordered : Ordered S) where
       go zero e = rw (accepted-effect S T c e) (done c e)
       go (suc k) e = rw (refused-table S T c k e) h
 
+  -- nor does a list of calls
+  pub run-within : (cs : List Call) (T : Table) → Within S T → Within S (run S T cs)
+  unfolding run
+  run-within [] T w = w
+  run-within (c ∷ cs) T w = run-within cs (perform S T c .table) (perform-within T c w)
+
 -- beyond its end a table decodes to cells with nothing in them
 pub decoded-beyond : (S : Sheet) (t : List ℕ) → length t ≡ tableLength S → Within S (decodeTable t)
 unfolding decodeCell
@@ -139,6 +145,16 @@ givenBy S x lent o =
       results = resultsBy (o .number) lent (o .shown);
       after = keeping x (encodeTable S (o .table));
     }
+
+-- Where calls on an index and the encoding of a table are the machine's, so are lists of calls.
+pub run-performs : (s x : List ℕ) (S : Sheet) → Ordered S
+    → ((T : Table) (c : Call) → Holdable S T → Within S T → callOn s (keeping x (encodeTable S T)) c ≡ givenBy S x (resultsLent c) (perform S T c))
+    → (cs : List Call) (T : Table) → Holdable S T → Within S T → runOn s (keeping x (encodeTable S T)) cs ≡ keeping x (encodeTable S (run S T cs))
+unfolding runOn run
+run-performs s x S ordered performs [] T h w = refl
+run-performs s x S ordered performs (c ∷ cs) T h w =
+    ap (λ g. runOn s (g .after) cs) (performs T c h w)
+    ∙ run-performs s x S ordered performs cs (perform S T c .table) (perform-holdable S ordered T c h) (perform-within S ordered T c w)
 
 -- a cause that does not hold is passed over
 pass-over : (k : ℕ) (b : Bool) (ts : List Test) → b ≡ false → firstCause (test k b ∷ ts) ≡ firstCause ts
@@ -184,12 +200,3 @@ module _ (s : List ℕ) (edition : ℕ) (ps : List Placed) (opening : readSheet 
       by-cause : (k : ℕ) → unlessRefused k (resultsLent c) (keeping x t) (effectOn S (keeping x t) (effect S T c)) ≡ givenBy S x (resultsLent c) (effectUnless k S T c)
       by-cause zero = rw (effect-number S T c)
       by-cause (suc k) = refl
-
-  -- a list of calls
-  pub run-runs : (cs : List Call) (T : Table) → Holdable (sheetRead edition ps) T → Within (sheetRead edition ps) T
-      → runOn s (keeping (indexBytes ps) (encodeTable (sheetRead edition ps) T)) cs ≡ keeping (indexBytes ps) (encodeTable (sheetRead edition ps) (run (sheetRead edition ps) T cs))
-  unfolding runOn run
-  run-runs [] T h w = refl
-  run-runs (c ∷ cs) T h w =
-      ap (λ g. runOn s (g .after) cs) (call-performs T c h w)
-      ∙ run-runs cs (perform (sheetRead edition ps) T c .table) (perform-holdable (sheetRead edition ps) ordered T c h) (perform-within (sheetRead edition ps) ordered T c w)

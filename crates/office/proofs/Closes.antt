@@ -1,5 +1,5 @@
--- A season-close run on lent bytes: what it leaves of any accepted table (`close-leaves`), and that on a table that the engine alone has
--- written it agrees with the asks and with keeping every figure (`office-closes`). Assumes that the table is bytes, where it says so.
+-- A season-close run on lent bytes: what it leaves of any accepted table (`close-leaves`), what later asks then give (`close-goes-on`), and
+-- that on a table that the engine alone has written it agrees with the asks and with keeping every figure (`office-closes`). Assumes that the table is bytes, where it says so.
 use Prim.Native.Nat.{ℕ, zero, suc, _<_}
 use native.Mathlib.Omega.{arith}
 use mathlib.Core.Path.{_≡_, refl, sym, ap, _∙_, subst}
@@ -16,16 +16,16 @@ use Rattle.circuit.specs.Machine.{looked, lookCell, lookUp, catchUp}
 use Rattle.circuit.specs.Call.{Call, step, ask, close, Opening}
 use Rattle.circuit.specs.Calls.{outcome, tests, firstCause, readingOf, effect, perform, run, postings}
 use Rattle.circuit.specs.Closing.{closeAll, keepEvery}
-use Rattle.circuit.specs.Fresh.{blank, give, giveItem, freshRun}
+use Rattle.circuit.specs.Fresh.{blank, give, giveItem, freshAsk, freshRun}
 use Rattle.circuit.specs.Words.{Quiet, Holds}
 use Rattle.circuit.proofs.Solution.{map-listed, give-equation, give-solves, solution-given, entry-value}
 use Rattle.circuit.proofs.Fill.{lookUp-is}
 use Rattle.circuit.proofs.CatchUp.{catchUp-still}
 use Rattle.circuit.proofs.Accepted.{accepted-effect}
 use Rattle.circuit.proofs.Closing.{close-at, close-quiet, close-holds}
-use Rattle.circuit.proofs.Sound.{Sound, run-sound}
+use Rattle.circuit.proofs.Sound.{Sound, close-sound, run-sound}
 use Rattle.circuit.proofs.KeepEvery.{keeps-at, steps-quiet}
-use Rattle.circuit.proofs.Offices.{entered, caught-value}
+use Rattle.circuit.proofs.Offices.{entered, caught-value, ask-answers}
 use Rattle.circuit.proofs.Demand.{run-entered}
 use Rattle.circuit.proofs.Retention.{stored-entry}
 use Rattle.layout.specs.Read.{Placed, opens, readSheet}
@@ -39,12 +39,12 @@ use Rattle.table.proofs.Tables.{encoded-record, encodeTable-ext, holdable-wellF
 use Rattle.office.specs.Office.{Office, keeping, resultsLent, callOn, openOn, runOn}
 use Rattle.office.specs.Demand1Words.{AcceptedLent}
 use Rattle.office.specs.Demand2Words.{answerOf, reading, valueOf, entriesIn, Stores, NoMarkStands, readingIn, CloseLeaves}
-use Rattle.office.specs.Demand3Words.{Posted, ifAccepted, acceptedPosts, ClosesRight}
+use Rattle.office.specs.Demand3Words.{Posted, ifAccepted, acceptedPosts, askAfter, freshAnswer, freshFrom, ClosesRight}
 use Rattle.office.proofs.Cells.{held-kind, held-number, parts-same, mark-cell, unmarked-code}
 use Rattle.office.proofs.Holdable.{perform-holdable, run-holdable}
-use Rattle.office.proofs.Bridge.{Within, perform-within, decode-within, givenBy}
+use Rattle.office.proofs.Bridge.{Within, perform-within, run-within, run-performs, decode-within, givenBy}
 use Rattle.office.proofs.Agreeing as opened
-use Rattle.office.proofs.Agreeing.{Opens, opening-opens}
+use Rattle.office.proofs.Agreeing.{Opens, opening-opens, answer-fresh}
 use Rattle.office.proofs.Lent.{ordered, holdable, within, encoded, performs}
 
 -- An office that keeps the index x and the encoding of the table T, whose entries hold E: calls on its bytes are the machine's.
@@ -116,6 +116,17 @@ module _ {s x : List ℕ} {S : Sheet} {E : Entries} {T : Table} (keep : Keeps s 
       ap (λ g. g .after) (keep .performs U close closed-holdable closed-within)
       ∙ ap (keeping x) (encodeTable-ext S (closeAll S U) U
       (λ i low. close-at S (keep .ordered) E U (close-holds S (keep .ordered) E T (keep .holds)) i low ∙ sym (close-at S (keep .ordered) E T (keep .holds) i low)))
+
+  -- Later calls go on from the run's table: an ask after a list of them gives the fresh office's answer.
+  closed-on : (cs : List Call) (i : ℕ) → answerOf (callOn s (runOn s (office U) cs) (ask i)) ≡ freshAnswer (freshAsk S (freshRun S E cs) i)
+  closed-on cs i =
+      ap (λ p. answerOf (callOn s p (ask i))) (run-performs s x S (keep .ordered) (keep .performs) cs U closed-holdable closed-within)
+      ∙ ap answerOf (keep .performs W (ask i) (run-holdable S (keep .ordered) cs U closed-holdable) (run-within S (keep .ordered) cs U closed-within))
+      ∙ answer-fresh S x (perform S W (ask i)) (freshAsk S (freshRun S E cs) i)
+      (ask-answers S (keep .ordered) (freshRun S E cs) W (run-sound S (keep .ordered) cs E U (close-sound S (keep .ordered) E T (keep .holds))) i)
+    where
+      W : Table
+      W = run S U cs
 
 -- What the run leaves of an accepted table.
 module _ (s : List ℕ) (kept : Office) (lent : AcceptedLent s kept) (bytes : Bytes (kept .table)) where
@@ -206,6 +217,9 @@ module _ (s : List ℕ) (kept : Office) (lent : AcceptedLent s kept) (bytes : By
             again = closed-again keep;
           }
 
+  pub close-goes-on : (cs : List Call) (i : ℕ) → askAfter s (callOn s kept close .after) cs i ≡ freshFrom s (entriesIn t) cs i
+  close-goes-on cs i = ap (λ p. askAfter s p cs i) after ∙ closed-on keep cs i
+
 -- no step posts
 steps-post : (s : List ℕ) (is : List ℕ) (p : Office) → acceptedPosts s p (map step is) ≡ []
 unfolding acceptedPosts
@@ -240,7 +254,7 @@ module _ (s : List ℕ) (edition : ℕ) (ps : List Placed) (reads : readSheet s 
   h₁ = run-holdable X rising cs begin (opened.start-holdable s edition ps reads o)
 
   w₁ : Within X T₁
-  w₁ = opened.run-within s edition ps reads cs begin (opened.start-within s edition ps reads o)
+  w₁ = run-within X rising cs begin (opened.start-within s edition ps reads o)
 
   abbrev here : Table → Office
   here = opened.at s edition ps reads
@@ -264,7 +278,7 @@ module _ (s : List ℕ) (edition : ℕ) (ps : List Placed) (reads : readSheet s 
   unfolding opened.postingsOf entered
   keeps ds none-made quiet =
       ap (λ p. runOn s p (keepEvery X)) ran
-      ∙ opened.runs s edition ps reads (keepEvery X) W (run-holdable X rising ds T₁ h₁) (opened.run-within s edition ps reads ds T₁ w₁)
+      ∙ opened.runs s edition ps reads (keepEvery X) W (run-holdable X rising ds T₁ h₁) (run-within X rising ds T₁ w₁)
       ∙ ap (keeping (indexBytes ps)) (encodeTable-ext X _ _ same)
     where
       W : Table

@@ -11,7 +11,7 @@ use Rattle.office.proofs.Words.{sheet-words}
 use Rattle.office.proofs.Meaning.{opens-exactly, opening-writes, fits-sheet, one-layout, accepted-opened, bare-unstored, gives-solution}
 use Rattle.office.proofs.Leaves.{leaves}
 use Rattle.office.proofs.Boards.{result-words, board-counts}
-use Rattle.office.proofs.Closes.{office-closes}
+use Rattle.office.proofs.Closes.{close-goes-on, office-closes}
 use Rattle.office.proofs.Accepted.{office-accepted}
 use Rattle.office.proofs.Agreeing.{offices-agree, offices-retain}
 
@@ -58,6 +58,7 @@ agrees =
       dropped = drop-words;
       counts = λ s o bytes items results e cs. board-counts s o (accepted-lent s o (board items results) e) bytes items results e cs;
       closes = λ s o how e cs. office-closes s o how e cs;
+      goes-on = λ s o bytes lent cs i. close-goes-on s o lent bytes cs i;
       never-refused = λ s o how e cs. office-accepted s o how e cs;
     }
 

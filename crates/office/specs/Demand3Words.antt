@@ -10,7 +10,7 @@ use lib.Dec.{eqb}
 use lib.IntN.{ℤ}
 use Rattle.circuit.specs.Value.{Value}
 use Rattle.circuit.specs.Circuit.{LeadsTo}
-use Rattle.circuit.specs.Sheet.{Sheet, size, itemAt, isFigure, circuitOf}
+use Rattle.circuit.specs.Sheet.{Sheet, Entries, size, itemAt, isFigure, circuitOf}
 use Rattle.circuit.specs.Call.{Call, post, keep, drop, step, ask, board, close}
 use Rattle.circuit.specs.Board.{listed, listsWrong}
 use Rattle.circuit.specs.Closing.{keepEvery}
@@ -60,9 +60,13 @@ numberFor (some v) = 0
 abbrev pub freshAnswer : Option Value → Answer
 freshAnswer v = record { number = numberFor v; offset = 0; kind = kindRead v; value = numberRead v }
 
--- the fresh office, fed the sheet and a list of calls since an opening
+-- the fresh office, with the entries E as its state, fed the sheet and a list of calls
+abbrev pub freshFrom : List ℕ → Entries → List Call → ℕ → Answer
+freshFrom s E cs i = freshAnswer (freshAsk (sheetOf s) (freshRun (sheetOf s) E cs) i)
+
+-- since an opening
 abbrev pub freshAfter : List ℕ → List Call → ℕ → Answer
-freshAfter s cs i = freshAnswer (freshAsk (sheetOf s) (freshRun (sheetOf s) blank cs) i)
+freshAfter s cs i = freshFrom s blank cs i
 
 -- an ask for i at the offices o and p, after the lists cs and ds
 pub record SameReading (s : List ℕ) (o : Office) (cs : List Call) (p : Office) (ds : List Call) (i : ℕ) : Type 0 where

@@ -10,7 +10,7 @@ use mathlib.Core.Logic.{_↔_}
 use lib.IntN.{pos}
 use Rattle.circuit.specs.Value.{Value, limit, kindOf, numberOf, wellFormed}
 use Rattle.circuit.specs.Equations.{Equations}
-use Rattle.circuit.specs.Call.{Call, drop, board, Opening, bare}
+use Rattle.circuit.specs.Call.{Call, drop, board, close, Opening, bare}
 use Rattle.circuit.specs.Calls.{drops}
 use Rattle.field.specs.Field.{Bytes}
 use Rattle.layout.specs.Layout.{machineSheet}
@@ -20,7 +20,7 @@ use Rattle.office.specs.Office.{Office, resultOf, callOn, openOn, runOn}
 use Rattle.office.specs.Demand1Words.{Invocation, serve, resultsLentTo, causesOf, First, ByNumber, Lowest, Refused, NoCause, Gets}
 use Rattle.office.specs.Demand1Words.{AcceptedUnder, AcceptedLent, BoardRefuses, CloseRefuses, SheetWords}
 use Rattle.office.specs.Demand2Words.{FollowsLayout, Writes, NoneStored, OnlySolution, entriesIn, Gives, ListWords, ResultWords, CallsLeave}
-use Rattle.office.specs.Demand3Words.{acceptedPosts, SameAnswers, Retains, CountsAsAsks, ClosesRight, OfficeAccepted}
+use Rattle.office.specs.Demand3Words.{acceptedPosts, askAfter, freshFrom, SameAnswers, Retains, CountsAsAsks, ClosesRight, OfficeAccepted}
 
 -- Demand 1. Each fault is refused by its number and nothing else is, and a refused call changes no lent byte.
 pub record Refuses : Type 0 where
@@ -93,6 +93,10 @@ pub record Agrees : Type 0 where
   -- catching up and then keeping every figure leaves.
   pub closes : (s : List ℕ) (o : Office) (how : Opening) → openOn how s o .number ≡ 0
       → (cs : List Call) → ClosesRight (sheetOf s) s (runOn s (openOn how s o .after) cs)
+  -- 02's "later calls go on from its table", on any accepted table: whatever list follows the run, every ask gives what the fresh office
+  -- gives that began with the entries which the table held.
+  pub goes-on : (s : List ℕ) (o : Office) → Bytes (o .table) → AcceptedLent s o
+      → (cs : List Call) (i : ℕ) → askAfter s (callOn s o close .after) cs i ≡ freshFrom s (entriesIn (o .table)) cs i
   -- no list leads to a refusal of index or table
   pub never-refused : (s : List ℕ) (o : Office) (how : Opening) → openOn how s o .number ≡ 0
       → (cs : List Call) → OfficeAccepted s (openOn how s o .after) cs

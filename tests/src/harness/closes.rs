@@ -1,5 +1,6 @@
-//! Season-close runs: each held against the solution, some against asks and against steps and
-//! keeps, and those of an opened table against the fresh office.
+//! Season-close runs: each held against a fresh office that was posted the entries of the table,
+//! some against asks and against steps and keeps, and those of an opened table against the fresh
+//! office of the list.
 
 use super::compare::{Act, Comparison, Lent};
 use super::fixed::expect;
@@ -27,7 +28,7 @@ pub fn table_of(fresh: &FreshOffice) -> Vec<u8> {
     encode(&fresh.all().into_iter().map(cell).collect::<Vec<Cell>>())
 }
 
-/// An accepted run leaves the solution under the entries of the table before, and nothing else.
+/// An accepted run leaves what the fresh office gives under the entries of the table before.
 pub fn solves(tally: &mut Tally, before: &Lent, after: &Lent) -> Result<(), String> {
     let items = read_sheet(&before.sheet).unwrap();
     tally.count_close(&items, &before.table, &after.table);
