@@ -20,8 +20,7 @@ use Rattle.table.specs.Bytes.{decodeTable}
 use Rattle.office.specs.Office.{resultOf, resultsOf}
 use Rattle.memo.specs.Memo.{Found, Memo}
 use Rattle.looking.specs.Pass.{Lent, Leaves}
-use Rattle.looking.proofs.Gathering.{gatherTo, gather-all}
-use Rattle.stepping.proofs.Ascending.{lent-on}
+use Rattle.looking.proofs.Gathering.{lent-on, gatherTo, gather-all}
 use Rattle.call_board.specs.Showing.{Listed, Shown}
 use Rattle.call_board.proofs.Lists.{item-within, results-more, results-all}
 

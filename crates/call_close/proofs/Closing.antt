@@ -21,6 +21,7 @@ use Rattle.table.specs.Bytes.{decodeTable, tableForm, Holdable}
 use Rattle.table.proofs.Tables.{decode-setRow, setRow-form, record-fits, decoded-holdable}
 use Rattle.office.proofs.Holdable.{closed-formed, closed-allowed}
 use Rattle.looking.specs.Pass.{Lent}
+use Rattle.looking.proofs.Gathering.{lent-on}
 use Rattle.admission.specs.Admission.{callLent}
 use Rattle.admission.specs.Answers.{Answered, Left}
 use Rattle.admission.specs.declared.Answer.{Answer}
@@ -79,13 +80,7 @@ closing-start lent e =
 
 module _ {s offsets t₀ : List ℕ} {n i : ℕ} {t : List ℕ} (inv : Closing s offsets t₀ n i t) where
   pub closing-lent : Lent s offsets t
-  closing-lent =
-      record {
-        located = inv .lent .located;
-        room = inv .lent .room;
-        length-is = inv .length-is ∙ inv .lent .length-is;
-        formed = inv .left .formed;
-      }
+  closing-lent = lent-on (inv .lent) t (inv .length-is) (inv .left .formed)
 
   pub closing-next : i < n → (t′ : List ℕ) → length t′ ≡ length t → Left s (closeItem (sheetOf s) (decodeTable t) i) t′ → Closing s offsets t₀ n (i + 1) t′
   unfolding closeBelow

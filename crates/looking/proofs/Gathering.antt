@@ -24,6 +24,11 @@ use Rattle.memo.specs.Memo.{Found, found, Memo, NoneFrom}
 use Rattle.looking.specs.Pass.{Lent, Leaves}
 use Rattle.looking.proofs.FigureAt.{FigureAt, figure-at, figure-parents, parent-below, figure-evaluated}
 
+-- a table in form, as long as the one before, is lent on
+pub lent-on : {s offsets t : List ℕ} → Lent s offsets t → (t₁ : List ℕ) → length t₁ ≡ length t → tableForm (sheetOf s) t₁ ≡ true → Lent s offsets t₁
+lent-on lent t₁ len formed =
+    record { located = lent .located; room = lent .room; length-is = len ∙ lent .length-is; formed = formed }
+
 -- the first k of the items ps looked up, one after the other, in the order of the code's loop
 abbrev pub behind : Gathered → Looked → Gathered
 behind g r = gathered (r .table) (g .values ++ (r .value ∷ [])) (g .flag || r .flag)
@@ -117,13 +122,7 @@ module _ {s offsets t₀ tags₀ : List ℕ} {numbers₀ : List ℤ} {generation
     (inv : Going s offsets t₀ tags₀ numbers₀ generation i at count k t tags numbers kinds amounts flag) where
   -- the table is lent on
   pub going-lent : Lent s offsets t
-  going-lent =
-      record {
-        located = inv .lent .located;
-        room = inv .lent .room;
-        length-is = inv .length-is ∙ inv .lent .length-is;
-        formed = inv .formed;
-      }
+  going-lent = lent-on (inv .lent) t (inv .length-is) (inv .formed)
 
   pub going-memo : Memo (sheetOf s) (decodeTable t) tags numbers generation
   going-memo = rw (inv .table-is) (inv .memo)

@@ -14,8 +14,9 @@ use Rattle.circuit.specs.Ascending.{stepIf, stepMarked, ascendBelow, ascend}
 use Rattle.circuit.proofs.CatchUp.{catchUp-ascends}
 use Rattle.layout.specs.Opened.{sheetOf}
 use Rattle.item.proofs.Located.{sheet-ordered, size-most}
-use Rattle.table.specs.Bytes.{decodeTable, tableForm, LowestMarked}
+use Rattle.table.specs.Bytes.{decodeTable, LowestMarked}
 use Rattle.memo.specs.Memo.{NoneFrom}
+use Rattle.looking.proofs.Gathering.{lent-on}
 use Rattle.looking.specs.Pass.{Lent}
 use Rattle.stepping.specs.Stepping.{Ready, Steps}
 use Rattle.stepping.proofs.Stepping.{still-older}
@@ -41,11 +42,7 @@ module _ {s offsets t : List ℕ} (lent : Lent s offsets t) (i : ℕ) (b : Bool)
   unmarked-twice e {tags} generation older =
       record { table-is = stays-so e ∙ ap (λ T. stepMarked (sheetOf s) T i) (stays-so e); formed = lent .formed; older = still-older tags (generation + 1) older }
 
--- what is lent after a step, and the next generation
-pub lent-on : {s offsets t : List ℕ} → Lent s offsets t → (t₁ : List ℕ) → length t₁ ≡ length t → tableForm (sheetOf s) t₁ ≡ true → Lent s offsets t₁
-lent-on lent t₁ len formed =
-    record { located = lent .located; room = lent .room; length-is = len ∙ lent .length-is; formed = formed }
-
+-- the next generation
 pub ready-on : {s tags : List ℕ} {numbers : List ℤ} {generation : ℕ} → Ready s tags numbers generation → (tags₁ : List ℕ) (numbers₁ : List ℤ)
     → length tags₁ ≡ length tags → length numbers₁ ≡ length numbers → generation + 1 < 2_147_483_648 → NoneFrom 0 tags₁ (generation + 1)
     → Ready s tags₁ numbers₁ (generation + 1)

@@ -6,7 +6,7 @@ use lib.IntN.{pos}
 use lib.ListN.{replicate}
 use Rattle.layout.specs.Layout.{itemLimit, mostItems}
 use Rattle.stepping.proofs.Starting.{same-all, fresh-ready}
-use Rattle.stepping.proofs.Ascending.{lent-on}
+use Rattle.looking.proofs.Gathering.{lent-on}
 use Rattle.catching.proofs.Catching.{caught-memo}
 use Rattle.call_ask.proofs.Asking.{caught-looked}
 use borrow.Author.Needs.{needs}

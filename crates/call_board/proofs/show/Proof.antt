@@ -5,7 +5,7 @@ use lib.ListN.{replicate}
 use Rattle.circuit.specs.Board.{listed}
 use Rattle.layout.specs.Layout.{itemLimit, mostItems}
 use Rattle.stepping.proofs.Starting.{same-all, fresh-ready}
-use Rattle.stepping.proofs.Ascending.{lent-on}
+use Rattle.looking.proofs.Gathering.{lent-on}
 use Rattle.catching.proofs.Catching.{caught-memo}
 use Rattle.call_board.proofs.Answers.{shown-caught}
 use borrow.Author.Needs.{needs}
