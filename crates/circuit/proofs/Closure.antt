@@ -2,17 +2,19 @@
 -- keep. Assumes nothing.
 use Prim.Native.Nat.{ℕ, zero, suc, _<_, _*_}
 use mathlib.Core.Path.{_≡_, refl}
-use mathlib.Core.Bool.{Bool, true, false, _||_}
+use mathlib.Core.Bool.{Bool, true, false, _||_, or-true}
 use mathlib.Core.Logic.{_⊎_, inl, inr}
 use mathlib.Core.List.{List, [], _∷_}
 use mathlib.Core.Option.{Option, none, some}
 use native.Mathlib.Omega.{arith}
-use lib.Dec.{eqb}
-use borrow.Author.Tests.{eqb-true}
+use lib.Dec.{eqb, ltb}
+use lib.ListN.{List·getD-eq-default}
+use borrow.Author.Tests.{eqb-true, eq-eqb, ltb-true, ltb-false}
 use Rattle.circuit.specs.Value.{Value, same}
 use Rattle.circuit.specs.Circuit.{Listed}
-use Rattle.circuit.specs.Sheet.{Sheet, Spread, defer, renew, forget, size, itemAt, parents, spreadOf, isChild, member}
+use Rattle.circuit.specs.Sheet.{Sheet, entry, Spread, defer, renew, forget, size, itemAt, parents, spreadOf, isChild, member}
 use Rattle.circuit.specs.Table.{Table, Cell, Mark, unmarked, refresh, notice, unk, held, upd, isMarked}
+use Rattle.circuit.specs.Owed.{owed}
 use Rattle.circuit.specs.Machine.{workOut, tellChild, tellCell, tellStored, tellIf, tellBelow, tell, clearMark, stepItem, stepCell, renewed}
 use Rattle.circuit.specs.Machine.{orNext, lowestMarked, stepLowest, catchUpIn, catchUp}
 
@@ -28,6 +30,21 @@ member-listed i (p ∷ ps) e = go (eqb i p) refl e (member-listed i ps)
     go : (b : Bool) → eqb i p ≡ b → b || member i ps ≡ true → (member i ps ≡ true → Listed i ps) → (i ≡ p) ⊎ Listed i ps
     go true q e′ rest = inl (eqb-true i p q)
     go false q e′ rest = inr (rest e′)
+
+-- and a listed one is a member
+pub listed-member : (i : ℕ) (ps : List ℕ) → Listed i ps → member i ps ≡ true
+unfolding member
+listed-member i [] l = absurd l
+listed-member i (p ∷ ps) (inl e) = rw (eq-eqb i p e)
+listed-member i (p ∷ ps) (inr l) = rw (listed-member i ps l) (or-true (eqb i p))
+
+-- a figure lists a parent only within the sheet
+pub parent-within : (S : Sheet) (i c : ℕ) → Listed i (parents S c) → c < size S
+parent-within S i c l = go (ltb c (size S)) refl
+  where
+    go : (b : Bool) → ltb c (size S) ≡ b → c < size S
+    go true e = ltb-true c (size S) e
+    go false e = absurd (rw (List·getD-eq-default S entry {n = c} (ltb-false c (size S) e)) at l)
 
 -- the item that is found lowest is below the bound, and marked
 pub lowest-marked : (T : Table) (k i : ℕ) → lowestMarked T k ≡ some i → (i < k) × (isMarked (T i) ≡ true)
@@ -68,11 +85,12 @@ module _ (S : Sheet) (Here : ℕ → Type 0) (P : Table → Type 0) (closed : Cl
 
   pub tellChild-closed : (T : Table) (c : ℕ) → c < size S → Here c → P T → P (tellChild S T c)
   unfolding tellChild
-  tellChild-closed T c low here h = go (T c)
+  tellChild-closed T c low here h = go (owed S T c) (T c)
     where
-      go : (x : Cell) → P (tellCell S T c x)
-      go (unk f) = closed .stores T c _ here h
-      go (held v m) = tellStored-closed (spreadOf (itemAt S c)) T c v m low here h
+      go : (b : Bool) (x : Cell) → P (tellCell b S T c x)
+      go true (unk f) = closed .stores T c _ here h
+      go false (unk f) = h
+      go b (held v m) = tellStored-closed (spreadOf (itemAt S c)) T c v m low here h
 
   tellBelow-closed : (i : ℕ) → ((c : ℕ) → Listed i (parents S c) → Here c) → (T : Table) (k : ℕ) → suc k < suc (suc (size S)) → P T
       → P (tellBelow S i T k)

@@ -11,18 +11,19 @@ use Rattle.circuit.specs.Sheet.{Sheet, defer, renew, size, itemAt, isFig
 use Rattle.circuit.specs.Table.{Table, Mark, unmarked, refresh, notice, held, upd, valueIn, isNotice}
 use Rattle.circuit.specs.Value.{Value, same}
 use Rattle.circuit.specs.Circuit.{Listed}
+use Rattle.circuit.specs.Owed.{owed}
 use Rattle.circuit.specs.Machine.{looked, gather, workOutBy, lookCell, lookUp, workOut, refreshCleared, renewChild, deferChild}
 use Rattle.circuit.specs.Machine.{tellStored, tellCell, tellChild, tellIf, tellBelow, tell, lowestMarked}
 use Rattle.circuit.specs.Closing.{closedValue, closeItem, closeBelow, closeAll}
 use Rattle.circuit.specs.Fresh.{give, freshAsk, giveItem}
-use Rattle.circuit.specs.Words.{CaughtUp, still, stepped}
-use Rattle.circuit.specs.Equations.{LookingUp, TellingChild, Telling, Closing, FreshGives, MarkedFirst, LowestFound, Equations}
+use Rattle.circuit.specs.Equations.{LookingUp, Owing, TellingChild, Telling, Closing, FreshGives, MarkedFirst, LowestFound, Equations}
 use Rattle.circuit.proofs.View.{never}
 use Rattle.circuit.proofs.Fill.{lookUp-is}
 use Rattle.circuit.proofs.Solution.{give-equation, figure-below}
 use Rattle.circuit.proofs.Closing.{close-above, close-works}
-use Rattle.circuit.proofs.Closure.{lowest-marked, member-listed}
-use Rattle.circuit.proofs.Tell.{listed-member}
+use Rattle.circuit.proofs.Closure.{lowest-marked, listed-member, member-listed}
+use Rattle.circuit.proofs.Owed.{Child, stored-leans, leaning-cases, cases-leaning, owed-child, owed-finds, owed-unique, owed-leads, leads-owed}
+use Rattle.circuit.proofs.CalledOn.{caught-unique, told-owed, tell-unowed, caught-by}
 use Rattle.circuit.proofs.RuleLaws.{same-true, same-refl}
 use Rattle.circuit.proofs.CatchUp.{lowest-none, lowest-some, none-quiet, some-quiet, catchUp-quiet, catchUp-ends}
 
@@ -64,10 +65,11 @@ module _ (S : Sheet) (T : Table) (c : ℕ) where
   unfolding tellChild
   telling-child =
       record {
-        unstored = λ f e. ap (tellCell S T c) e;
-        forgets = λ v m e s. ap (tellCell S T c) e ∙ ap (λ x. tellStored x S T c v m) s;
-        defers = λ v m e s n. ap (tellCell S T c) e ∙ ap (λ x. tellStored x S T c v m) s ∙ deferred v m n;
-        renews = λ v m e how. renewal v m (ap (tellCell S T c) e ∙ by v m how);
+        owes = λ f e o. rw (o, e);
+        owes-not = λ f e o. rw (o, e);
+        forgets = λ v m e s. ap (tellCell (owed S T c) S T c) e ∙ ap (λ x. tellStored x S T c v m) s;
+        defers = λ v m e s n. ap (tellCell (owed S T c) S T c) e ∙ ap (λ x. tellStored x S T c v m) s ∙ deferred v m n;
+        renews = λ v m e how. renewal v m (ap (tellCell (owed S T c) S T c) e ∙ by v m how);
       }
     where
       deferred : (v : Value) (m : Mark) → isNotice m ≡ false → deferChild S T c v m ≡ upd T c (held v refresh)
@@ -84,6 +86,23 @@ module _ (S : Sheet) (T : Table) (c : ℕ) where
           → tellStored (spreadOf (itemAt S c)) S T c v m ≡ renewChild S T c v m
       by v m (inl s) = ap (λ x. tellStored x S T c v m) s
       by v m (inr (s, n)) = ap (λ x. tellStored x S T c v m) s ∙ awaiting v m n
+
+owing : (S : Sheet) → Ordered S → (T : Table) → Owing S T
+owing S ordered T =
+    record {
+      some-child = λ i. (
+        λ e.
+            let c : Child S T i = owed-finds S ordered T i e in
+            (c .item, (c .listed, leaning-cases (T (c .item)) (owed S T (c .item)) (c .leans-on))),
+        λ c. owed-child S ordered T i (c .0) (c .1 .0) (cases-leaning (T (c .0)) (owed S T (c .0)) (c .1 .1)),
+      );
+      only = λ w solves. owed-unique S ordered T w
+          (λ i c l e. solves i .1 (c, (l, leaning-cases (T c) (w c) e)))
+          (λ i e. let c = solves i .0 e in (c .0, (c .1 .0, cases-leaning (T (c .0)) (w (c .0)) (c .1 .1))));
+      leads = λ i. (owed-leads S ordered T i, λ k. leads-owed S ordered T i (k .0) (k .1 .0) (stored-leans (T (k .0)) (owed S T (k .0)) (k .1 .1)));
+      when-told = λ i k l. told-owed S ordered T i k;
+      none-called = tell-unowed S ordered T;
+    }
 
 telling : (S : Sheet) (i : ℕ) (T : Table) → Telling S i T
 unfolding tell tellBelow
@@ -137,19 +156,11 @@ lowest-item T n =
     found : (i : ℕ) → lowestMarked T n ≡ some i → MarkedFirst T n i
     found i e = record { below = lowest-marked T n i e .0; marked = lowest-marked T n i e .1; first = some-quiet T n i e }
 
--- catching up leads to one table only
-pub caught-unique : {S : Sheet} {T U W : Table} → CaughtUp S T U → CaughtUp S T W → U ≡ W
-caught-unique (still e) (still h) = refl
-caught-unique (still e) (stepped j h q) = never (cc)
-caught-unique (stepped i e r) (still h) = never (cc)
-caught-unique (stepped i e r) (stepped j h q) =
-    let same : i ≡ j = cc in
-    caught-unique r (rw same q)
-
 pub equations : Equations
 equations =
     record {
       looking = looking-up;
+      owing = owing;
       telling-child = telling-child;
       telling = telling;
       closing = closing-run;
@@ -160,5 +171,6 @@ equations =
             reached = catchUp-ends S ordered T;
             only = λ U caught. caught-unique caught (catchUp-ends S ordered T);
             quiet = catchUp-quiet S ordered T;
+            whoever = caught-by S ordered T;
           };
     }

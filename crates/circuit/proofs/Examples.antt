@@ -13,6 +13,7 @@ use Rattle.circuit.specs.Sheet.{Sheet, entry, figure, defer, renew, memb
 use Rattle.circuit.specs.Table.{Table, held, unmarked, notice, openBare, openFull}
 use Rattle.circuit.specs.Machine.{Looked, gather, workOutBy, lookFor, lookUp, workOut, storePosting, keepFigure, dropFigure, tellChild, tellBelow, tell, clearMark, stepItem, lowestMarked}
 use Rattle.circuit.specs.Machine.{catchUpIn, catchUp}
+use Rattle.circuit.specs.Owed.{anyBelow, owedFor, owed}
 use Rattle.circuit.specs.Call.{Call, post, keep, drop, step, ask, close}
 use Rattle.circuit.specs.Closing.{closedValue, closeItem, closeBelow, closeAll}
 use Rattle.circuit.specs.Calls.{Outcome, perform, run, tests, firstCause, effect, postedValue}
@@ -27,7 +28,7 @@ unfolding closeAll closeBelow closeItem closedValue
 closing S T = closeAll S T
 
 unfoldable pub machine : Sheet → Table → Call → Outcome
-unfolding looking closing perform tests firstCause effect postedValue partsOf keepFigure dropFigure storePosting stepItem tell tellBelow tellChild clearMark catchUp catchUpIn lowestMarked
+unfolding looking closing perform tests firstCause effect postedValue partsOf keepFigure dropFigure storePosting stepItem tell tellBelow tellChild owed owedFor anyBelow clearMark catchUp catchUpIn lowestMarked
 machine S T c = perform S T c
 
 -- an entry, a figure that sums it, and a figure that sums the first; neither is kept, both defer

@@ -5,7 +5,7 @@
 use Prim.Native.Nat.{ℕ, zero, suc, _<_, _≤_}
 use native.Mathlib.Nat.{not-suc-le-zero}
 use native.Mathlib.Omega.{arith}
-use mathlib.Core.Path.{_≡_, refl, sym, ap, ap₂, _∙_}
+use mathlib.Core.Path.{_≡_, refl, sym, ap, ap₂, _∙_, fun-ext}
 use mathlib.Core.Logic.{inl, inr}
 use mathlib.Core.Bool.{Bool, true, false, cond, _||_}
 use mathlib.Core.List.{List, [], _∷_, map}
@@ -34,6 +34,10 @@ upd-cases P T i c here other j = go (eqb j i) refl
     go : (b : Bool) → eqb j i ≡ b → P j (cond b c (T j))
     go true e = rw (eqb-true j i e) here
     go false e = other j (eqb-false j i e)
+
+-- a cell stored where it stands
+pub upd-self : (T : Table) (i : ℕ) → T ≡ upd T i (T i)
+upd-self T i = fun-ext λ j. sym (upd-cases (λ k c. c ≡ T k) T i (T i) refl (λ k n. refl) j)
 
 pub notice-is : (f : Bool) → isNotice (noticeIf f) ≡ f
 notice-is true = refl

@@ -8,10 +8,12 @@ pub mod Fresh
 pub mod View
 pub mod Fill
 pub mod Closure
+pub mod Owed
 pub mod Accepted
 pub mod Invariant
 pub mod Tell
 pub mod CatchUp
+pub mod CalledOn
 pub mod Equations
 pub mod Memo
 pub mod Reading

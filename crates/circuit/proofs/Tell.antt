@@ -1,56 +1,45 @@
 -- Telling the children of an item, clearing its mark, and so every step keep the invariant. While the children are told
 -- the item's own mark stands; afterwards each child is UNK with notice, or has mark refresh, or holds what its parents
--- give (`Told`). So whatever leaned on the item's mark leans on a child's, and the mark may go. Assumes that the sheet is
--- ordered, where it says so.
+-- give, or was passed over (`Told`). So whatever leaned on the item's mark leans on a child's, and the mark may go: a stored
+-- figure does not look through a child that is not owed. Assumes that the sheet is ordered, where it says so.
 use Prim.Native.Nat.{ℕ, zero, suc, _<_, _≤_}
 use native.Mathlib.Omega.{arith}
 use mathlib.Core.Path.{_≡_, refl, sym, ap, _∙_}
 use mathlib.Core.Logic.{_⊎_, inl, inr, _≢_}
 use mathlib.Core.Bool.{Bool, true, false, cond, or-true, or-false}
-use mathlib.Core.List.{List, [], _∷_}
 use lib.Dec.{eqb}
-use lib.ListN.{List·getD-eq-default}
-use borrow.Author.Tests.{eqb-true, eqb-false, eq-eqb, ltb-true, ltb-false}
+use borrow.Author.Tests.{eqb-true, eqb-false}
 use Rattle.circuit.specs.Value.{Value, null, same}
 use Rattle.circuit.specs.Circuit.{Listed}
-use Rattle.circuit.specs.Sheet.{Sheet, Item, entry, Spread, defer, renew, forget, size, itemAt, parentsOf, parents, spreadOf, member, isChild, evaluate, Ordered}
-use Rattle.circuit.specs.Table.{Table, Cell, Mark, unmarked, refresh, notice, unk, held, upd, isNotice, noticeIf, markOf}
+use Rattle.circuit.specs.Sheet.{Sheet, Item, Spread, defer, renew, forget, size, itemAt, parentsOf, parents, spreadOf, isChild, evaluate, Ordered}
+use Rattle.circuit.specs.Table.{Table, Cell, Mark, unmarked, refresh, notice, unk, held, upd, isStored, isNotice, noticeIf, markOf}
+use Rattle.circuit.specs.Owed.{owed, leans}
 use Rattle.circuit.specs.Machine.{Looked, workOut, renewed, refreshCleared, tellStored, tellCell, tellChild, tellIf, tellBelow, tell, clearCell, clearMark, stepCell, stepItem}
 use Rattle.circuit.proofs.Solution.{map-listed}
 use Rattle.circuit.proofs.RuleLaws.{same-true}
 use Rattle.circuit.proofs.View.{never, Seen, Flagged, seenCell, view, result, strong, any-true, any-find, view-is, view-at, result-below}
-use Rattle.circuit.proofs.Fill.{upd-same, upd-other, notice-is, Filling, stays, fills, Fill, fill-refl, fill-result, Looks, work-right}
-use Rattle.circuit.proofs.Invariant.{Justified, exact, due, awaits, Invariant, Change, remarked, noticed, changes-kept, store-changes, renewed-changes}
-use Rattle.circuit.proofs.Closure.{member-listed}
+use Rattle.circuit.proofs.Fill.{upd-same, upd-other, upd-self, notice-is, Filling, stays, fills, Fill, fill-refl, fill-result, Looks, work-right}
+use Rattle.circuit.proofs.Invariant.{Justified, exact, due, awaits, Invariant, Change, unchanged, remarked, noticed, changes-kept, store-changes, renewed-changes}
+use Rattle.circuit.proofs.Closure.{member-listed, listed-member, parent-within}
+use Rattle.circuit.proofs.Owed.{Within, stored-leans, false-before, within-refl, within-upd, within-owed, work-within, parent-leans}
 
 -- how the cell x of a told child c stands
 pub data Told (S : Sheet) (T : Table) (c : ℕ) (x : Cell) : Type 0 where
   waiting : x ≡ unk true → Told S T c x
   refreshed : (v : Value) → x ≡ held v refresh → Told S T c x
   current : (v : Value) (m : Mark) → x ≡ held v m → v ≡ result S T c .value → Told S T c x
+  passed : isStored x ≡ false → owed S T c ≡ false → Told S T c x
 
--- A telling of one child: a fill, and then a store of a told cell.
+-- A telling of one child: a fill, and then a store of a told cell. What it stores leaned already.
 pub record TellsOne (S : Sheet) (T : Table) (c : ℕ) (U : Table) : Type 0 where
   pub between : Table
   pub cell : Cell
   pub fill : Fill S T between
   pub change : Change S T c cell
   pub told : Told S T c cell
+  pub within : Within S T between
+  pub leant : isStored cell ≡ true → leans S T c ≡ true
   pub after : U ≡ upd between c cell
-
-pub listed-member : (i : ℕ) (ps : List ℕ) → Listed i ps → member i ps ≡ true
-unfolding member
-listed-member i [] l = absurd l
-listed-member i (p ∷ ps) (inl e) = rw (eq-eqb i p e)
-listed-member i (p ∷ ps) (inr l) = rw (listed-member i ps l) (or-true (eqb i p))
-
--- a figure lists a parent only within the sheet
-parent-within : (S : Sheet) (i c : ℕ) → Listed i (parents S c) → c < size S
-parent-within S i c l = go (lib.Dec.ltb c (size S)) refl
-  where
-    go : (b : Bool) → lib.Dec.ltb c (size S) ≡ b → c < size S
-    go true e = ltb-true c (size S) e
-    go false e = absurd (rw (List·getD-eq-default S entry {n = c} (ltb-false c (size S) e)) at l)
 
 cleared-notice : (m : Mark) → isNotice (refreshCleared m) ≡ isNotice m
 cleared-notice unmarked = refl
@@ -67,11 +56,16 @@ module _ (S : Sheet) (ordered : Ordered S) where
         fill = right .fill;
         change = rw (upd-same (r .table) c (cond (same v (r .value)) (held v n) (held (r .value) notice))) at (renewed-changes S ordered T c v m n e q c);
         told = go (same v (r .value)) refl;
+        within = work-within S ordered T c leant T (within-refl S T);
+        leant = λ s. leant;
         after = refl;
       }
     where
       r : Looked
       r = workOut S T c
+
+      leant : leans S T c ≡ true
+      leant = rw e
 
       right : Looks S T (result S T c) r
       right = work-right S ordered T c
@@ -83,15 +77,46 @@ module _ (S : Sheet) (ordered : Ordered S) where
   defers-one : (T : Table) (c : ℕ) (v : Value) (m : Mark) → T c ≡ held v m → isNotice m ≡ false
       → TellsOne S T c (upd T c (held v refresh))
   defers-one T c v m e q =
-      record { between = T; cell = held v refresh; fill = fill-refl S T; change = remarked v m refresh e refl (sym q) (λ k. due refl); told = refreshed v refl; after = refl }
+      record {
+        between = T;
+        cell = held v refresh;
+        fill = fill-refl S T;
+        change = remarked v m refresh e refl (sym q) (λ k. due refl);
+        told = refreshed v refl;
+        within = within-refl S T;
+        leant = λ s. rw e;
+        after = refl;
+      }
 
   notices-one : (T : Table) (c : ℕ) → TellsOne S T c (upd T c (unk true))
   notices-one T c =
-      record { between = T; cell = unk true; fill = fill-refl S T; change = noticed refl; told = waiting refl; after = refl }
+      record {
+        between = T;
+        cell = unk true;
+        fill = fill-refl S T;
+        change = noticed refl;
+        told = waiting refl;
+        within = within-refl S T;
+        leant = λ s. never (cc);
+        after = refl;
+      }
+
+  passes-one : (T : Table) (c : ℕ) (f : Bool) → T c ≡ unk f → owed S T c ≡ false → TellsOne S T c T
+  passes-one T c f e o =
+      record {
+        between = T;
+        cell = T c;
+        fill = fill-refl S T;
+        change = unchanged refl;
+        told = passed (rw e) o;
+        within = within-refl S T;
+        leant = λ s. stored-leans (T c) (owed S T c) s;
+        after = upd-self T c;
+      }
 
   pub tells-one : (T : Table) (c : ℕ) → TellsOne S T c (tellChild S T c)
   unfolding tellChild
-  tells-one T c = go (T c) refl
+  tells-one T c = go (owed S T c) (T c) refl refl
     where
       by : (s : Spread) (v : Value) (m : Mark) → T c ≡ held v m → TellsOne S T c (tellStored s S T c v m)
       by defer v unmarked e = defers-one T c v unmarked e refl
@@ -100,9 +125,10 @@ module _ (S : Sheet) (ordered : Ordered S) where
       by renew v m e = renews-one T c v m (refreshCleared m) e (cleared-notice m)
       by forget v m e = notices-one T c
 
-      go : (x : Cell) → T c ≡ x → TellsOne S T c (tellCell S T c x)
-      go (unk f) e = notices-one T c
-      go (held v m) e = by (spreadOf (itemAt S c)) v m e
+      go : (b : Bool) (x : Cell) → owed S T c ≡ b → T c ≡ x → TellsOne S T c (tellCell b S T c x)
+      go true (unk f) o e = notices-one T c
+      go false (unk f) o e = passes-one T c f e o
+      go b (held v m) o e = by (spreadOf (itemAt S c)) v m e
 
   -- a store at k, after a fill, leaves the results at and below k
   one-result : (T F : Table) (k : ℕ) (y : Cell) → Fill S T F → (c : ℕ) → c ≤ k → result S (upd F k y) c ≡ result S T c
@@ -110,11 +136,13 @@ module _ (S : Sheet) (ordered : Ordered S) where
       result-below S ordered (upd F k y) F k (λ j m. upd-other F k y j (λ e. omega arith)) c l
       ∙ fill-result S ordered T F fill c
 
-  -- a told cell stays told
-  told-result : (T U : Table) (c : ℕ) (x : Cell) → result S U c ≡ result S T c → Told S T c x → Told S U c x
-  told-result T U c x same (waiting e) = waiting e
-  told-result T U c x same (refreshed v e) = refreshed v e
-  told-result T U c x same (current v m e q) = current v m e (q ∙ sym (ap (λ s. s .value) same))
+  -- a told cell stays told, where nothing becomes owed
+  told-result : (T U : Table) (c : ℕ) (x : Cell) → result S U c ≡ result S T c → (owed S U c ≡ true → owed S T c ≡ true) → Told S T c x
+      → Told S U c x
+  told-result T U c x same less (waiting e) = waiting e
+  told-result T U c x same less (refreshed v e) = refreshed v e
+  told-result T U c x same less (current v m e q) = current v m e (q ∙ sym (ap (λ s. s .value) same))
+  told-result T U c x same less (passed n o) = passed n (false-before (owed S T c) (owed S U c) less o)
 
   told-filled : (T F : Table) (c : ℕ) → Filling S T c (F c) → Told S T c (T c) → Told S T c (F c)
   told-filled T F c (stays e) told = rw e told
@@ -154,16 +182,19 @@ module _ (S : Sheet) (ordered : Ordered S) where
       low : i < k
       low = ordered k i child
 
+      less : (c : ℕ) → owed S U c ≡ true → owed S T c ≡ true
+      less c = within-owed S ordered T U (within-upd S T F k y (one .leant) (one .within)) c
+
       toldAt : (c : ℕ) → c < suc k → Listed i (parents S c) → Told S U c (U c)
       toldAt c l listed = go (eqb c k) refl
         where
           go : (b : Bool) → eqb c k ≡ b → Told S U c (cond b y (F c))
           go true e =
               let same : c ≡ k = eqb-true c k e in
-              rw same (told-result T U k y (one-result T F k y (one .fill) k (omega arith)) (one .told))
+              rw same (told-result T U k y (one-result T F k y (one .fill) k (omega arith)) (less k) (one .told))
           go false e =
               let other : c ≢ k = eqb-false c k e in
-              told-result T U c (F c) (one-result T F k y (one .fill) c (omega arith))
+              told-result T U c (F c) (one-result T F k y (one .fill) c (omega arith)) (less c)
               (told-filled T F c (one .fill c) (before .told c (omega arith) listed))
 
       next : Telling i U (suc k)
@@ -238,17 +269,17 @@ module _ (S : Sheet) (ordered : Ordered S) where
       ap (evaluate (itemAt S k) null)
       (map-listed (parents S k) (λ p l. clear-value U i p))
 
-  -- where every child has been told, it changes no flag but the item's own
-  clear-flag : (U : Table) (i : ℕ) → ((c : ℕ) → Listed i (parents S c) → Told S U c (U c)) → (p : ℕ)
+  -- where every child has been told, it changes no flag of an item that leans but the item's own
+  clear-flag : (U : Table) (i : ℕ) → ((c : ℕ) → Listed i (parents S c) → Told S U c (U c)) → (p : ℕ) → leans S U p ≡ true
       → view S U p .flag ≡ true → (p ≡ i) ⊎ (view S (clearMark U i) p .flag ≡ true)
-  clear-flag U i told = strong (λ p. view S U p .flag ≡ true → (p ≡ i) ⊎ (view S X p .flag ≡ true)) rise
+  clear-flag U i told = strong (λ p. leans S U p ≡ true → view S U p .flag ≡ true → (p ≡ i) ⊎ (view S X p .flag ≡ true)) rise
     where
       X : Table
       X = clearMark U i
 
-      rise : (p : ℕ) → ((q : ℕ) → q < p → view S U q .flag ≡ true → (q ≡ i) ⊎ (view S X q .flag ≡ true))
-          → view S U p .flag ≡ true → (p ≡ i) ⊎ (view S X p .flag ≡ true)
-      rise p lower flag = which (eqb p i) refl
+      rise : (p : ℕ) → ((q : ℕ) → q < p → leans S U q ≡ true → view S U q .flag ≡ true → (q ≡ i) ⊎ (view S X q .flag ≡ true))
+          → leans S U p ≡ true → view S U p .flag ≡ true → (p ≡ i) ⊎ (view S X p .flag ≡ true)
+      rise p lower leant flag = which (eqb p i) refl
         where
           which : (b : Bool) → eqb p i ≡ b → (p ≡ i) ⊎ (view S X p .flag ≡ true)
           which true e = inl (eqb-true p i e)
@@ -258,7 +289,8 @@ module _ (S : Sheet) (ordered : Ordered S) where
               stands h = clear-other U i p (eqb-false p i e) ∙ h
 
               through : Flagged (view S U) (parents S p) → U p ≡ unk false → result S X p .flag ≡ true
-              through r h = by (lower (r .item) (ordered p (r .item) (r .listed)) (r .flagged))
+              through r h =
+                  by (lower (r .item) (ordered p (r .item) (r .listed)) (parent-leans S ordered U (r .item) p (r .listed) leant) (r .flagged))
                 where
                   by : (r .item ≡ i) ⊎ (view S X (r .item) .flag ≡ true) → result S X p .flag ≡ true
                   by (inr f) = any-true (view S X) (r .item) (parents S p) (r .listed) f
@@ -268,6 +300,7 @@ module _ (S : Sheet) (ordered : Ordered S) where
                       stored (waiting t) = never (cc)
                       stored (refreshed v t) = never (cc)
                       stored (current v m t o) = never (cc)
+                      stored (passed n o) = let own : owed S U p ≡ true = rw h at leant in never (cc)
 
               go : (c : Cell) → U p ≡ c → view S X p .flag ≡ true
               go (held v m) h =
@@ -289,9 +322,10 @@ module _ (S : Sheet) (ordered : Ordered S) where
       X : Table
       X = clearMark U i
 
-      -- a flag among the parents of k is a flag still, or i is a parent
-      parentFlag : result S U k .flag ≡ true → Listed i (parents S k) ⊎ (result S X k .flag ≡ true)
-      parentFlag f = by (clear-flag U i told (r .item) (r .flagged))
+      -- a flag among the parents of k, which is stored, is a flag still, or i is a parent
+      parentFlag : isStored (U k) ≡ true → result S U k .flag ≡ true → Listed i (parents S k) ⊎ (result S X k .flag ≡ true)
+      parentFlag s f =
+          by (clear-flag U i told (r .item) (parent-leans S ordered U (r .item) k (r .listed) (stored-leans (U k) (owed S U k) s)) (r .flagged))
         where
           r : Flagged (view S U) (parents S k)
           r = any-find (view S U) (parents S k) f
@@ -307,20 +341,21 @@ module _ (S : Sheet) (ordered : Ordered S) where
         where
           value : v ≡ w
           value = cc
+      toldWhy h (passed n o) = let s : isStored (held v m) ≡ false = rw h at n in never (cc)
 
       otherWhy : U k ≡ held v m → Justified S U k v m → Justified S X k v m
       otherWhy h (exact q) = exact (q ∙ sym (clear-result U i k))
       otherWhy h (due q) = due q
-      otherWhy h (awaits f) = by (parentFlag f)
+      otherWhy h (awaits f) = by (parentFlag (rw h) f)
         where
           by : Listed i (parents S k) ⊎ (result S X k .flag ≡ true) → Justified S X k v m
           by (inl child) = toldWhy h (told k child)
           by (inr g) = awaits g
 
-      ownWhy : (n : Mark) → isNotice n ≡ true → k ≡ i → Justified S U k v n → Justified S X k v m
-      ownWhy n o q (exact r) = exact (r ∙ sym (clear-result U i k))
-      ownWhy n o q (due r) = let t : isNotice refresh ≡ true = rw r at o in never (cc)
-      ownWhy n o q (awaits f) = by (parentFlag f)
+      ownWhy : (n : Mark) → U k ≡ held v n → isNotice n ≡ true → k ≡ i → Justified S U k v n → Justified S X k v m
+      ownWhy n h o q (exact r) = exact (r ∙ sym (clear-result U i k))
+      ownWhy n h o q (due r) = let t : isNotice refresh ≡ true = rw r at o in never (cc)
+      ownWhy n h o q (awaits f) = by (parentFlag (rw h) f)
         where
           by : Listed i (parents S k) ⊎ (result S X k .flag ≡ true) → Justified S X k v m
           by (inl child) = absurd (omega (arith, ordered k i child, q))
@@ -330,7 +365,8 @@ module _ (S : Sheet) (ordered : Ordered S) where
       ownCell (unk f) h g q = never (cc)
       ownCell (held w n) h g q =
           let value : w ≡ v = cc in
-          ownWhy n (rw (h) at (rw (← q) at own)) q (kept k fig v n (rw value at h))
+          let held-is : U k ≡ held v n = rw value at h in
+          ownWhy n held-is (rw (h) at (rw (← q) at own)) q (kept k fig v n held-is)
 
       which : (b : Bool) → eqb k i ≡ b → Justified S X k v m
       which true q =

@@ -1,6 +1,6 @@
 -- Looking up, working out, catching up and the fresh office recurse with a bound on the depth or on the number of steps,
--- which 01 does not have. Here are their equations without a bound, and those of telling and of the season-close run, in the papers'
--- words, for every sheet whose parents have lower numbers, every table and every item. Proved in proofs/Equations. Assumes nothing.
+-- which 01 does not have, and owed has one that 02 does not have. Here are their equations without a bound, and those of telling and of the
+-- season-close run, in the papers' words, for every sheet whose parents have lower numbers, every table and every item. Proved in proofs/Equations. Assumes nothing.
 use Prim.Native.Nat.{ℕ, suc, _<_, _≤_}
 use mathlib.Core.Path.{_≡_}
 use mathlib.Core.Logic.{_⊎_, _↔_}
@@ -9,13 +9,14 @@ use mathlib.Core.List.{List, [], _∷_, map}
 use mathlib.Core.Option.{none, some}
 use Rattle.circuit.specs.Value.{Value}
 use Rattle.circuit.specs.Rules.{Operation, apply}
-use Rattle.circuit.specs.Sheet.{Sheet, Spread, defer, renew, forget, entry, figure, size, itemAt, parents, spreadOf, Ordered, Entries}
-use Rattle.circuit.specs.Table.{Table, Mark, unmarked, refresh, notice, unk, held, upd, valueIn, isNotice, noticeIf, isMarked}
+use Rattle.circuit.specs.Sheet.{Sheet, Spread, defer, renew, forget, entry, figure, size, itemAt, parents, spreadOf, Ordered, Entries, circuitOf}
+use Rattle.circuit.specs.Table.{Table, Mark, unmarked, refresh, notice, unk, held, upd, isStored, valueIn, isNotice, noticeIf, isMarked}
+use Rattle.circuit.specs.Owed.{owed}
 use Rattle.circuit.specs.Machine.{Looked, looked, Gathered, gathered, gather, lookUp, workOut, refreshCleared, tellChild, tellBelow, tell, lowestMarked, catchUp}
 use Rattle.circuit.specs.Closing.{closeBelow, closeAll}
-use Rattle.circuit.specs.Circuit.{Listed}
+use Rattle.circuit.specs.Circuit.{Listed, LeadsTo}
 use Rattle.circuit.specs.Fresh.{give, freshAsk}
-use Rattle.circuit.specs.Words.{Quiet, CaughtUp}
+use Rattle.circuit.specs.Words.{Quiet, CaughtUp, CaughtUpBy}
 
 -- 01's "looking up" and "working out". `gather (lookUp S) T ps` looks the items ps up, one after the other.
 pub record LookingUp (S : Sheet) (T : Table) : Type 0 where
@@ -47,10 +48,30 @@ pub record LookingUp (S : Sheet) (T : Table) : Type 0 where
       let g : Gathered = gather (lookUp S) (r .table) ps in
       gather (lookUp S) T (p ∷ ps) ≡ gathered (g .table) (r .value ∷ g .values) (r .flag || g .flag)
 
+-- a child makes its parent owed: it "is stored, or is UNK and itself owed", where w says what is owed
+abbrev pub Leaning : (ℕ → Bool) → Table → ℕ → Type 0
+Leaning w T c = (isStored (T c) ≡ true) ⊎ ((isStored (T c) ≡ false) × (w c ≡ true))
+
+abbrev pub SomeChild : (ℕ → Bool) → Sheet → Table → ℕ → Type 0
+SomeChild w S T i = (c : ℕ) × (Listed i (parents S c) × Leaning w T c)
+
+-- 02's "owed": "1 if some child is stored, or is UNK and itself owed; else 0".
+pub record Owing (S : Sheet) (T : Table) : Type 0 where
+  pub some-child : (i : ℕ) → (owed S T i ≡ true) ↔ SomeChild (owed S T) S T i
+  -- this says it of no other
+  pub only : (w : ℕ → Bool) → ((i : ℕ) → (w i ≡ true) ↔ SomeChild w S T i) → (i : ℕ) → w i ≡ owed S T i
+  -- an item is owed exactly if it leads to one that is stored
+  pub leads : (i : ℕ) → (owed S T i ≡ true) ↔ ((k : ℕ) × (LeadsTo (circuitOf S) i k × (isStored (T k) ≡ true)))
+  -- Telling goes by the table as it then is; in one telling that is the table at its start.
+  pub when-told : (i k : ℕ) → Listed i (parents S k) → owed S (tellBelow S i T k) k ≡ owed S T k
+  -- where i is not owed, telling changes nothing
+  pub none-called : (i : ℕ) → owed S T i ≡ false → tell S T i ≡ T
+
 -- 01's "telling" a child c, by its cell and its spread; `r` is what working it out gives.
 pub record TellingChild (S : Sheet) (T : Table) (c : ℕ) : Type 0 where
-  -- An UNK child gets notice.
-  pub unstored : (f : Bool) → T c ≡ unk f → tellChild S T c ≡ upd T c (unk true)
+  -- An UNK child gets notice if it is owed, and is passed over if it is not.
+  pub owes : (f : Bool) → T c ≡ unk f → owed S T c ≡ true → tellChild S T c ≡ upd T c (unk true)
+  pub owes-not : (f : Bool) → T c ≡ unk f → owed S T c ≡ false → tellChild S T c ≡ T
   -- Forget makes it UNK with notice.
   pub forgets : (v : Value) (m : Mark) → T c ≡ held v m → spreadOf (itemAt S c) ≡ forget → tellChild S T c ≡ upd T c (unk true)
   -- Defer sets refresh, unless its mark is notice, when it acts as renew.
@@ -106,14 +127,17 @@ pub record LowestFound (T : Table) (n : ℕ) : Type 0 where
   pub item : (i : ℕ) → (lowestMarked T n ≡ some i) ↔ MarkedFirst T n i
 
 -- Catching up: "step the lowest marked item until none is marked" (`CaughtUp`) leads to this table and to no other, and no
--- mark stands on it.
+-- mark stands on it. It leads to the same table, whichever UNK children are called on besides the owed (`CaughtUpBy`): also if all of
+-- them are, as before 02's job 5.
 pub record CatchingUp (S : Sheet) (T : Table) : Type 0 where
   pub reached : CaughtUp S T (catchUp S T)
   pub only : (U : Table) → CaughtUp S T U → U ≡ catchUp S T
   pub quiet : Quiet S (catchUp S T)
+  pub whoever : (w : ℕ → Bool) → ((c : ℕ) → owed S T c ≡ true → w c ≡ true) → (U : Table) → CaughtUpBy w S T U → U ≡ catchUp S T
 
 pub record Equations : Type 0 where
   pub looking : (S : Sheet) → Ordered S → (T : Table) → LookingUp S T
+  pub owing : (S : Sheet) → Ordered S → (T : Table) → Owing S T
   pub telling-child : (S : Sheet) (T : Table) (c : ℕ) → TellingChild S T c
   pub telling : (S : Sheet) (i : ℕ) (T : Table) → Telling S i T
   pub closing : (S : Sheet) → Ordered S → (T : Table) → Closing S T

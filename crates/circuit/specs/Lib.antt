@@ -5,6 +5,7 @@ pub mod Sheet
 pub mod Call
 pub mod Board
 pub mod Table
+pub mod Owed
 pub mod Machine
 pub mod Ascending
 pub mod Closing

@@ -8,6 +8,7 @@ use mathlib.Core.Option.{Option, none, some}
 use Rattle.circuit.specs.Value.{Value, null, same}
 use Rattle.circuit.specs.Sheet.{Sheet, Item, Spread, defer, renew, forget, size, itemAt, parents, keptOf, spreadOf, isChild, evaluate}
 use Rattle.circuit.specs.Table.{Table, Cell, Mark, unmarked, refresh, notice, unk, held, upd, isNotice, noticeIf, isMarked}
+use Rattle.circuit.specs.Owed.{owed}
 
 -- what looking up or working out an item gives: the table afterwards, the value, and whether it is flagged
 pub record Looked : Type 0 where
@@ -128,13 +129,18 @@ tellStored defer S T c v m = deferChild S T c v m
 tellStored renew S T c v m = renewChild S T c v m
 tellStored forget S T c v m = upd T c (unk true)
 
--- Telling one child: an UNK child gets notice, a stored one goes by its spread.
-abbrev pub tellCell : Sheet → Table → ℕ → Cell → Table
-tellCell S T c (unk f) = upd T c (unk true)
-tellCell S T c (held v m) = tellStored (spreadOf (itemAt S c)) S T c v m
+-- an UNK child that is called on gets notice; another is passed over
+abbrev pub tellUnk : Bool → Table → ℕ → Table
+tellUnk true T c = upd T c (unk true)
+tellUnk false T c = T
 
+abbrev pub tellCell : Bool → Sheet → Table → ℕ → Cell → Table
+tellCell called S T c (unk f) = tellUnk called T c
+tellCell called S T c (held v m) = tellStored (spreadOf (itemAt S c)) S T c v m
+
+-- Telling one child: an UNK child is called on if it is owed, by the table as it then is; a stored one goes by its spread.
 unfoldable pub tellChild : Sheet → Table → ℕ → Table
-tellChild S T c = tellCell S T c (T c)
+tellChild S T c = tellCell (owed S T c) S T c (T c)
 
 abbrev pub tellIf : Bool → Sheet → Table → ℕ → Table
 tellIf true S T c = tellChild S T c

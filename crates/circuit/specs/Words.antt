@@ -8,6 +8,7 @@ use mathlib.Core.Option.{none, some}
 use Rattle.circuit.specs.Sheet.{Sheet, Entries, size, itemAt, isFigure}
 use Rattle.circuit.specs.Table.{Table, isStored, isMarked, cellForm, valueIn}
 use Rattle.circuit.specs.Machine.{stepItem, lowestMarked}
+use Rattle.circuit.specs.Ascending.{stepBy}
 use Rattle.circuit.specs.Call.{Call}
 use Rattle.circuit.specs.Calls.{perform, drops}
 
@@ -23,6 +24,11 @@ Quiet S T = (i : ℕ) → i < size S → isMarked (T i) ≡ false
 pub data CaughtUp (S : Sheet) : Table → Table → Type 0 where
   still : {T : Table} → lowestMarked T (size S) ≡ none → CaughtUp S T T
   stepped : {T U : Table} (i : ℕ) → lowestMarked T (size S) ≡ some i → CaughtUp S (stepItem S T i) U → CaughtUp S T U
+
+-- the same, where w says which UNK children are called on; with w true of every item it is catching up as it was before 02's job 5
+pub data CaughtUpBy (w : ℕ → Bool) (S : Sheet) : Table → Table → Type 0 where
+  still-by : {T : Table} → lowestMarked T (size S) ≡ none → CaughtUpBy w S T T
+  stepped-by : {T U : Table} (i : ℕ) → lowestMarked T (size S) ≡ some i → CaughtUpBy w S (stepBy w S T i) U → CaughtUpBy w S T U
 
 -- the entries of the table hold E
 abbrev pub Holds : Sheet → Table → Entries → Type 0

@@ -16,7 +16,7 @@ use Rattle.circuit.specs.Calls.{perform, effect, postIt}
 use Rattle.circuit.specs.Words.{Quiet}
 use Rattle.circuit.proofs.RuleLaws.{same-true, same-refl}
 use Rattle.circuit.proofs.Fill.{Fill, upd-same, upd-other, looks-right}
-use Rattle.circuit.proofs.Equations.{caught-unique}
+use Rattle.circuit.proofs.CalledOn.{caught-unique}
 use Rattle.circuit.proofs.CatchUp.{fill-quiet, asked-quiet, catchUp-quiet, catchUp-ends}
 use Rattle.circuit.proofs.Accepted.{accepted-effect, effect-number}
 use Rattle.layout.specs.Opened.{sheetOf}
