@@ -62,6 +62,23 @@ both-true true true e = (refl, refl)
 both-true true false e = never (cc e)
 both-true false b e = never (cc e)
 
+-- it depends on the numbers below n only
+pub any-same : (p q : ℕ → Bool) (n : ℕ) → ((k : ℕ) → k < n → p k ≡ q k) → anyBelow p n ≡ anyBelow q n
+unfolding anyBelow
+any-same p q zero e = refl
+any-same p q (suc n) e = rw (any-same p q n (λ k l. e k (omega arith)), e n (omega arith))
+
+-- and owed on the sheet's items
+owedFor-ext : (S : Sheet) (T U : Table) → ((i : ℕ) → i < size S → T i ≡ U i) → (fuel i : ℕ) → owedFor fuel S T i ≡ owedFor fuel S U i
+unfolding owedFor
+owedFor-ext S T U e zero i = refl
+owedFor-ext S T U e (suc fuel) i =
+    any-same _ _ (size S) (λ c l. rw (e c l, owedFor-ext S T U e fuel c))
+
+pub owed-ext : (S : Sheet) (T U : Table) → ((i : ℕ) → i < size S → T i ≡ U i) → (i : ℕ) → owed S T i ≡ owed S U i
+unfolding owed
+owed-ext S T U e i = owedFor-ext S T U e (size S) i
+
 -- two that are true together are equal
 pub true-both : (a b : Bool) → (a ≡ true → b ≡ true) → (b ≡ true → a ≡ true) → a ≡ b
 true-both true b f g = sym (f refl)

@@ -7,18 +7,18 @@ use native.Mathlib.Omega.{arith}
 use lib.Dec.{leb, lit<}
 use borrow.Author.Tests.{leb-true, eqb-true}
 use lib.IntN.{ℤ, pos, negsuc}
-use lib.ListN.{length}
-use lib.Seq.{take-all}
+use lib.ListN.{length, take}
+use lib.Seq.{getD-take}
 use mir.Syntax.{w64}
 use mir.Val.{SFits, toZ, ofZ}
 use Rattle.field.specs.Bytes.{Bytes}
 use Rattle.word.specs.Word.{bytes64}
-use Rattle.word.proofs.Bytes.{leAt-drop, signed-again, bytes-again, length-bytes64, bytes-cons, bytes-leBytes}
+use Rattle.word.proofs.Bytes.{leAt-drop, leAt-take, signed-again, bytes-again, length-bytes64, bytes-cons, bytes-leBytes}
 use Rattle.circuit.proofs.Parts.{kind-small}
 use Rattle.circuit.proofs.RuleLaws.{and-left, and-right}
 use Rattle.circuit.specs.Value.{Value, null, out, num, limit, inRange, sameNumber, kindOf, numberOf, isOut, wellFormed}
 use Rattle.circuit.specs.Table.{Mark, unmarked, refresh, notice, Cell, unk, held, noticeIf, valueIn, entryForm}
-use Rattle.table.specs.Record.{width, kindIn, markIn, numberIn, recordOf, markCode, markCoded, cellCoded, encodeCell, decodeCell, allowed, codesForm, numberForm, recordForm, mayHold}
+use Rattle.table.specs.Record.{width, owedPlace, kindIn, markIn, numberIn, recordOf, markCode, markCoded, cellCoded, encodeCell, decodeCell, allowed, codesForm, numberForm, recordForm, mayHold}
 
 -- a number within the range is one of 64 bits
 pub range-fits : (z : ℤ) → inRange z ≡ true → SFits w64 z
@@ -87,6 +87,26 @@ parts figure r t =
     both : leb (kindIn r) 3 && leb (markIn r) 2 ≡ true
     both = and-left (leb (kindIn r) 3 && leb (markIn r) 2) (allowed figure (kindIn r) (markIn r)) coded
 
+-- ---- the parts of a record are those of its first bytes
+
+module _ (r : List ℕ) where
+  pub kind-front : kindIn (take owedPlace r) ≡ kindIn r
+  kind-front = getD-take owedPlace r 0 0 (omega arith)
+
+  pub mark-front : markIn (take owedPlace r) ≡ markIn r
+  mark-front = getD-take owedPlace r 1 0 (omega arith)
+
+  pub number-front : numberIn (take owedPlace r) ≡ numberIn r
+  number-front = ap (λ (x : ℕ). toZ w64 x) (leAt-take 8 r 2 owedPlace (omega arith))
+
+  pub decode-front : decodeCell (take owedPlace r) ≡ decodeCell r
+  unfolding decodeCell
+  decode-front = rw (kind-front, mark-front, number-front)
+
+  pub form-front : (figure : Bool) → recordForm figure (take owedPlace r) ≡ recordForm figure r
+  unfolding recordForm
+  form-front figure = rw (kind-front, mark-front, number-front)
+
 -- ---- decoding what was encoded
 
 mark-again : (m : Mark) → markCoded (markCode m) ≡ m
@@ -106,7 +126,7 @@ decode-encode (held null m) t = ap (held null) (mark-again m)
 decode-encode (held out m) t = ap (held out) (mark-again m)
 decode-encode (held (num z) m) t = cc (mark-again m, number-again 3 (markCode m) z (range-fits z t))
 
-pub length-encodeCell : (c : Cell) → length (encodeCell c) ≡ width
+pub length-encodeCell : (c : Cell) → length (encodeCell c) ≡ owedPlace
 unfolding encodeCell
 length-encodeCell (unk b) = ap (λ (n : ℕ). suc (suc n)) (length-bytes64 (pos 0))
 length-encodeCell (held v m) = ap (λ (n : ℕ). suc (suc n)) (length-bytes64 (numberOf v))
@@ -145,14 +165,13 @@ encoded-parts figure z number none may n = refl
 encoded-parts figure z number again may n = refl
 encoded-parts figure z number told may n = refl
 
--- ten bytes are their parts
-record-again : (r : List ℕ) → Bytes r → length r ≡ width → recordOf (kindIn r) (markIn r) (numberIn r) ≡ r
+-- the bytes before the owed byte are their parts
+record-again : (r : List ℕ) → Bytes r → length r ≡ width → recordOf (kindIn r) (markIn r) (numberIn r) ≡ take owedPlace r
 record-again [] bytes e = absurd (omega arith)
 record-again (a ∷ []) bytes e = absurd (omega arith)
-record-again (a ∷ b ∷ r) bytes e =
-    ap (λ (n : List ℕ). a ∷ b ∷ n) (bytes-again (a ∷ b ∷ r) 2 bytes (omega arith) ∙ take-all 8 r (omega arith))
+record-again (a ∷ b ∷ r) bytes e = ap (λ (n : List ℕ). a ∷ b ∷ n) (bytes-again (a ∷ b ∷ r) 2 bytes (omega arith))
 
-pub encode-decode : (figure : Bool) (r : List ℕ) → Bytes r → length r ≡ width → recordForm figure r ≡ true → encodeCell (decodeCell r) ≡ r
+pub encode-decode : (figure : Bool) (r : List ℕ) → Bytes r → length r ≡ width → recordForm figure r ≡ true → encodeCell (decodeCell r) ≡ take owedPlace r
 unfolding decodeCell
 encode-decode figure r bytes e t =
     let p : Parts figure (kindIn r) (markIn r) (numberIn r) = parts figure r t in

@@ -8,7 +8,7 @@ use native.Mathlib.Nat.{mul-zero, mul-suc, mul-le-mul-left}
 use lib.Dec.{eqb, ltb}
 use borrow.Author.Tests.{eqb-true, eqb-false, ltb-true, ltb-false}
 use lib.ListN.{length, getD, take, drop, set, length-append, length-take, length-drop}
-use lib.Seq.{sets, sets-eq, length-sets, take-add, take-at, drop-at, take-all, take-append-le, drop-append-le, getD-set-other, getD-take, getD-drop, ext-getD, length-take-le}
+use lib.Seq.{sets, sets-eq, length-sets, take-add, take-take, take-at, drop-at, take-all, take-append-le, drop-append-le, getD-set-other, getD-take, getD-drop, ext-getD, length-take-le}
 use Rattle.circuit.proofs.RuleLaws.{and-left, and-right}
 use Rattle.field.specs.Bytes.{Bytes}
 use Rattle.word.proofs.Bytes.{none-bytes, bytes-append}
@@ -91,7 +91,14 @@ row-setRow w bs i r h e =
     rw (sets-eq r bs (w * i) (omega arith), append-assoc, drop-at (take (w * i) bs) (r ++ drop (w * i + length r) bs) (w * i) (length-take-le (w * i) bs (omega arith)))
     (take-at r (drop (w * i + length r) bs) w e)
 
-pub row-setRow-other : (w : ℕ) (bs : List ℕ) (i j : ℕ) (r : List ℕ) → length r ≡ w → (j ≡ i → ⊥) → row w (setRow w bs i r) j ≡ row w bs j
+-- a store of the first elements of a row
+pub row-front : (w : ℕ) (bs : List ℕ) (i : ℕ) (r : List ℕ) → w * i + w ≤ length bs → length r ≤ w
+    → take (length r) (row w (setRow w bs i r) i) ≡ r
+row-front w bs i r h l =
+    rw (sets-eq r bs (w * i) (omega arith), append-assoc, drop-at (take (w * i) bs) (r ++ drop (w * i + length r) bs) (w * i) (length-take-le (w * i) bs (omega arith)), take-take (length r) w (r ++ drop (w * i + length r) bs) l)
+    (take-at r (drop (w * i + length r) bs) (length r) refl)
+
+pub row-setRow-other : (w : ℕ) (bs : List ℕ) (i j : ℕ) (r : List ℕ) → length r ≤ w → (j ≡ i → ⊥) → row w (setRow w bs i r) j ≡ row w bs j
 row-setRow-other w bs i j r e apart =
     ext-getD 0 (row w (setRow w bs i r) j) (row w bs j) (simp (length-take, length-drop, length-sets)) at
   where
@@ -123,7 +130,7 @@ rows-setRow w f n i r e len h =
         go : (b : Bool) → eqb j i ≡ b → cond b r (f j) ≡ row w (setRow w (rowsBelow f n) i r) j
         go true t =
             rw (eqb-true j i t) (sym (row-setRow w (rowsBelow f n) i r (rw (length-rows w f n e) (row-before w h)) len))
-        go false t = sym (row-setRow-other w (rowsBelow f n) i j r len (eqb-false j i t) ∙ row-rows w f n e j hj)
+        go false t = sym (row-setRow-other w (rowsBelow f n) i j r (omega arith) (eqb-false j i t) ∙ row-rows w f n e j hj)
 
 -- ---- a test of every row
 

@@ -1,31 +1,38 @@
--- The work table in bytes: encoding and decoding are inverse on the tables in form, and storing a record is storing a cell.
--- Assumes nothing.
+-- The work table in bytes: encoding and decoding are inverse on the tables in form with true owed bytes, and storing a record is storing a
+-- cell. Assumes nothing.
 use Prim.Native.Nat.{ℕ, _+_, _*_, _≤_, _<_}
-use mathlib.Core.Path.{_≡_, refl, ap, _∙_, fun-ext}
+use mathlib.Core.Path.{_≡_, refl, sym, ap, _∙_, fun-ext}
 use mathlib.Core.Bool.{Bool, true, false, cond, not, _&&_}
-use mathlib.Core.List.{List}
+use mathlib.Core.List.{List, [], _∷_, _++_}
 use native.Mathlib.Omega.{arith}
-use lib.Dec.{eqb}
-use borrow.Author.Tests.{eqb-true, eqb-false, not-true}
-use lib.ListN.{length, drop}
+use lib.Dec.{eqb, ltb}
+use borrow.Author.Tests.{eqb-true, eqb-false, eq-eqb, ltb-true, ltb-false, not-true}
+use lib.ListN.{length, getD, take, drop, length-append}
+use lib.Seq.{take-at, take-suc, take-all, getD-at}
 use Rattle.field.specs.Bytes.{Bytes}
 use Rattle.word.proofs.Bytes.{bytes-take, bytes-drop}
 use Rattle.circuit.proofs.RuleLaws.{and-left, and-right}
 use Rattle.circuit.specs.Value.{null, wellFormed, isOut}
-use Rattle.circuit.specs.Sheet.{Sheet, Item, entry, figure, size, itemAt, isFigure}
-use Rattle.circuit.specs.Table.{Table, Cell, held, unmarked, upd, valueIn, entryForm, cellForm, openBare, openFull, bareCell}
+use Rattle.circuit.specs.Sheet.{Sheet, Item, entry, figure, size, itemAt, isFigure, Ordered}
+use Rattle.circuit.specs.Table.{Table, Cell, held, unmarked, upd, isStored, valueIn, entryForm, cellForm, openBare, openFull, bareCell}
+use Rattle.circuit.specs.Owed.{owed}
 use Rattle.circuit.specs.Words.{Formed}
+use Rattle.circuit.proofs.Fill.{upd-cases}
+use Rattle.circuit.proofs.Owed.{owed-ext, owed-stored}
 use Rattle.table.specs.Rows.{row, setRow}
-use Rattle.table.specs.Record.{width, encodeCell, decodeCell, mayHold}
-use Rattle.table.specs.Bytes.{tableLength, encodeRecord, encodeTable, decodeTable, recordInForm, tableForm, Holdable}
-use Rattle.table.proofs.Rows.{row-before, length-row, rows-ext, length-rows, row-rows, rows-row, row-setRow, row-setRow-other, rows-setRow, below-true, true-below}
-use Rattle.table.proofs.Records.{decode-encode, encode-decode, length-encodeCell, decoded-holds, encoded-form, holds-wellFormed}
+use Rattle.table.specs.Record.{width, owedPlace, owedIn, owedCode, encodeCell, decodeCell, recordForm, mayHold}
+use Rattle.table.specs.Bytes.{tableLength, encodeRecord, encodeTable, decodeTable, recordInForm, tableForm, owedTrueAt, owedTrue, Holdable}
+use Rattle.table.proofs.Rows.{row-before, length-row, getD-row, rows-ext, length-rows, row-rows, rows-row, length-setRow, row-front, row-setRow-other, getD-sets-below, getD-sets-above, below-true, true-below}
+use Rattle.table.proofs.Records.{decode-encode, encode-decode, decode-front, form-front, length-encodeCell, decoded-holds, encoded-form, holds-wellFormed}
 
 -- ---- lengths and bytes
 
+pub length-encodeRecord : (S : Sheet) (T : Table) (i : ℕ) → length (encodeRecord S T i) ≡ width
+length-encodeRecord S T i = length-append (encodeCell (T i)) (owedCode (owed S T i) ∷ []) ∙ ap (λ n. n + 1) (length-encodeCell (T i))
+
 pub length-encodeTable : (S : Sheet) (T : Table) → length (encodeTable S T) ≡ tableLength S
 unfolding encodeTable
-length-encodeTable S T = length-rows width (encodeRecord S T) (size S) (λ i h. length-encodeCell (T i))
+length-encodeTable S T = length-rows width (encodeRecord S T) (size S) (λ i h. length-encodeRecord S T i)
 
 -- item i has its record in a table of the right length
 pub record-fits : (S : Sheet) (bs : List ℕ) (i : ℕ) → length bs ≡ tableLength S → i < size S → width * i + width ≤ length bs
@@ -36,26 +43,46 @@ bytes-row bs i bytes = bytes-take width (drop (width * i) bs) (bytes-drop (width
 
 -- ---- encoding and decoding
 
-pub encoded-record : (S : Sheet) (T : Table) (i : ℕ) → i < size S → row width (encodeTable S T) i ≡ encodeCell (T i)
+pub encoded-record : (S : Sheet) (T : Table) (i : ℕ) → i < size S → row width (encodeTable S T) i ≡ encodeRecord S T i
 unfolding encodeTable
-encoded-record S T i h = row-rows width (encodeRecord S T) (size S) (λ j hj. length-encodeCell (T j)) i h
+encoded-record S T i h = row-rows width (encodeRecord S T) (size S) (λ j hj. length-encodeRecord S T j) i h
+
+-- the cell in it, and the owed byte
+pub encoded-cell : (S : Sheet) (T : Table) (i : ℕ) → i < size S → take owedPlace (row width (encodeTable S T) i) ≡ encodeCell (T i)
+encoded-cell S T i h =
+    ap (take owedPlace) (encoded-record S T i h) ∙ take-at (encodeCell (T i)) (owedCode (owed S T i) ∷ []) owedPlace (length-encodeCell (T i))
+
+pub encoded-owed : (S : Sheet) (T : Table) (i : ℕ) → i < size S → owedIn (row width (encodeTable S T) i) ≡ owedCode (owed S T i)
+encoded-owed S T i h =
+    ap owedIn (encoded-record S T i h) ∙ getD-at (encodeCell (T i)) (owedCode (owed S T i)) [] 0 owedPlace (length-encodeCell (T i))
 
 pub decode-encodeTable : (S : Sheet) (T : Table) (i : ℕ) → i < size S → wellFormed (valueIn (T i)) ≡ true → decodeTable (encodeTable S T) i ≡ T i
-decode-encodeTable S T i h w = rw (encoded-record S T i h) (decode-encode (T i) w)
+decode-encodeTable S T i h w =
+    sym (decode-front (row width (encodeTable S T) i)) ∙ ap decodeCell (encoded-cell S T i h) ∙ decode-encode (T i) w
 
-pub encode-decodeTable : (S : Sheet) (bs : List ℕ) → Bytes bs → length bs ≡ tableLength S → tableForm S bs ≡ true → encodeTable S (decodeTable bs) ≡ bs
+-- the bytes of a table in form, whose owed bytes are those of T, which it decodes to
+pub encoded-as : (S : Sheet) (bs : List ℕ) → Bytes bs → length bs ≡ tableLength S → tableForm S bs ≡ true
+    → ((i : ℕ) → i < size S → owedIn (row width bs i) ≡ owedCode (owed S (decodeTable bs) i)) → encodeTable S (decodeTable bs) ≡ bs
 unfolding encodeTable tableForm
-encode-decodeTable S bs bytes e t = rows-ext (size S) same ∙ rows-row width bs (size S) e
+encoded-as S bs bytes e t owes = rows-ext (size S) same ∙ rows-row width bs (size S) e
   where
-    same : (i : ℕ) → i < size S → encodeCell (decodeCell (row width bs i)) ≡ row width bs i
+    same : (i : ℕ) → i < size S → encodeRecord S (decodeTable bs) i ≡ row width bs i
     same i h =
-        encode-decode (isFigure (itemAt S i)) (row width bs i) (bytes-row bs i bytes) (length-row width bs i (record-fits S bs i e h))
-        (below-true (recordInForm S bs) (size S) t i h)
+        let r : List ℕ = row width bs i in
+        let long : length r ≡ width = length-row width bs i (record-fits S bs i e h) in
+        rw (encode-decode (isFigure (itemAt S i)) r (bytes-row bs i bytes) long (below-true (recordInForm S bs) (size S) t i h), ← owes i h)
+        (sym (take-suc r owedPlace 0 (omega arith)) ∙ take-all width r (omega arith))
+
+pub encode-decodeTable : (S : Sheet) (bs : List ℕ) → Bytes bs → length bs ≡ tableLength S → tableForm S bs ≡ true → owedTrue S bs ≡ true
+    → encodeTable S (decodeTable bs) ≡ bs
+unfolding owedTrue
+encode-decodeTable S bs bytes e t o =
+    encoded-as S bs bytes e t (λ i h. eqb-true _ _ (below-true (owedTrueAt S bs) (size S) o i h))
 
 -- two tables that agree on the sheet's items are the same bytes
 pub encodeTable-ext : (S : Sheet) (T U : Table) → ((i : ℕ) → i < size S → T i ≡ U i) → encodeTable S T ≡ encodeTable S U
 unfolding encodeTable
-encodeTable-ext S T U e = rows-ext (size S) (λ i h. ap encodeCell (e i h))
+encodeTable-ext S T U e = rows-ext (size S) (λ i h. rw (e i h, owed-ext S T U e i))
 
 -- ---- the form
 
@@ -71,7 +98,20 @@ unfolding tableForm
 encoded-tableForm S T holds = true-below (recordInForm S (encodeTable S T)) (size S) each
   where
     each : (i : ℕ) → i < size S → recordInForm S (encodeTable S T) i ≡ true
-    each i h = rw (encoded-record S T i h) (encoded-form (isFigure (itemAt S i)) (T i) (holds i h))
+    each i h =
+        sym (form-front (row width (encodeTable S T) i) (isFigure (itemAt S i))) ∙ ap (recordForm (isFigure (itemAt S i))) (encoded-cell S T i h)
+        ∙ encoded-form (isFigure (itemAt S i)) (T i) (holds i h)
+
+-- with true owed bytes
+pub encoded-owedTrue : (S : Sheet) (T : Table) → Holdable S T → owedTrue S (encodeTable S T) ≡ true
+unfolding owedTrue
+encoded-owedTrue S T holds = true-below (owedTrueAt S (encodeTable S T)) (size S) each
+  where
+    each : (i : ℕ) → i < size S → owedTrueAt S (encodeTable S T) i ≡ true
+    each i h =
+        eq-eqb _ _
+        (encoded-owed S T i h
+        ∙ ap owedCode (sym (owed-ext S (decodeTable (encodeTable S T)) T (λ j l. decode-encodeTable S T j l (holds-wellFormed (isFigure (itemAt S j)) (T j) (holds j l))) i)))
 
 entry-formed : (it : Item) (c : Cell) → mayHold (isFigure it) c ≡ true → cellForm it c ≡ true
 entry-formed entry c t =
@@ -100,17 +140,58 @@ figure-may it c f w = rw f w
 
 -- ---- storing
 
-pub encode-upd : (S : Sheet) (T : Table) (i : ℕ) (c : Cell) → i < size S → encodeTable S (upd T i c) ≡ setRow width (encodeTable S T) i (encodeCell c)
-unfolding encodeTable
-encode-upd S T i c h =
-    rows-ext (size S) same ∙ rows-setRow width (encodeRecord S T) (size S) i (encodeCell c) (λ j hj. length-encodeCell (T j)) (length-encodeCell c) h
+-- a cell stored in its record, which keeps its owed byte
+setRow-cell : (bs : List ℕ) (i : ℕ) (c : Cell) → width * i + width ≤ length bs → take owedPlace (row width (setRow width bs i (encodeCell c)) i) ≡ encodeCell c
+setRow-cell bs i c fits =
+    ap (λ n. take n (row width (setRow width bs i (encodeCell c)) i)) (sym (length-encodeCell c))
+    ∙ row-front width bs i (encodeCell c) fits (omega (arith, length-encodeCell c))
+
+pub setRow-owed : (bs : List ℕ) (i j : ℕ) (c : Cell) → owedIn (row width (setRow width bs i (encodeCell c)) j) ≡ owedIn (row width bs j)
+setRow-owed bs i j c =
+    getD-row width (setRow width bs i (encodeCell c)) j owedPlace (omega arith) ∙ go (ltb i j) refl ∙ sym (getD-row width bs j owedPlace (omega arith))
   where
-    same : (j : ℕ) → j < size S → encodeCell (upd T i c j) ≡ cond (eqb j i) (encodeCell c) (encodeCell (T j))
-    same j hj = go (eqb j i)
+    go : (b : Bool) → ltb i j ≡ b → getD (setRow width bs i (encodeCell c)) (width * j + owedPlace) 0 ≡ getD bs (width * j + owedPlace) 0
+    go true t = getD-sets-above (encodeCell c) bs (width * i) (width * j + owedPlace) (omega (arith, length-encodeCell c, ltb-true i j t))
+    go false t = which (eqb j i) refl
       where
-        go : (b : Bool) → encodeCell (cond b c (T j)) ≡ cond b (encodeCell c) (encodeCell (T j))
-        go true = refl
-        go false = refl
+        le : j ≤ i
+        le = ltb-false i j t
+
+        which : (b : Bool) → eqb j i ≡ b → getD (setRow width bs i (encodeCell c)) (width * j + owedPlace) 0 ≡ getD bs (width * j + owedPlace) 0
+        which true e = getD-sets-above (encodeCell c) bs (width * i) (width * j + owedPlace) (omega (arith, length-encodeCell c, eqb-true j i e))
+        which false e =
+            let other : j ≡ i → ⊥ = eqb-false j i e in
+            getD-sets-below (encodeCell c) bs (width * i) (width * j + owedPlace) (omega (arith, le, other))
+
+setRow-record : (bs : List ℕ) (i : ℕ) (c : Cell) → width * i + width ≤ length bs
+    → row width (setRow width bs i (encodeCell c)) i ≡ encodeCell c ++ owedIn (row width bs i) ∷ []
+setRow-record bs i c fits =
+    let r : List ℕ = row width (setRow width bs i (encodeCell c)) i in
+    let long : length r ≡ width = length-row width (setRow width bs i (encodeCell c)) i (rw (length-setRow width bs i (encodeCell c)) fits) in
+    sym (take-all width r (omega arith)) ∙ take-suc r owedPlace 0 (omega arith) ∙ rw (setRow-cell bs i c fits, setRow-owed bs i i c)
+
+-- A store that leaves stored what was, and UNK what was, changes no owed byte.
+pub encode-upd : (S : Sheet) → Ordered S → (T : Table) (i : ℕ) (c : Cell) → i < size S → isStored c ≡ isStored (T i)
+    → encodeTable S (upd T i c) ≡ setRow width (encodeTable S T) i (encodeCell c)
+unfolding encodeTable
+encode-upd S ordered T i c h stored =
+    rows-ext (size S) same ∙ rows-row width (setRow width (encodeTable S T) i (encodeCell c)) (size S) (length-setRow width (encodeTable S T) i (encodeCell c) ∙ length-encodeTable S T)
+  where
+    owes : (j : ℕ) → owed S (upd T i c) j ≡ owed S T j
+    owes = owed-stored S ordered (upd T i c) T (upd-cases (λ j x. isStored x ≡ isStored (T j)) T i c stored (λ j n. refl))
+
+    same : (j : ℕ) → j < size S → encodeRecord S (upd T i c) j ≡ row width (setRow width (encodeTable S T) i (encodeCell c)) j
+    same j hj = rw (owes j) (go (eqb j i) refl)
+      where
+        bs : List ℕ
+        bs = encodeTable S T
+
+        go : (b : Bool) → eqb j i ≡ b → encodeCell (cond b c (T j)) ++ owedCode (owed S T j) ∷ [] ≡ row width (setRow width bs i (encodeCell c)) j
+        go true t =
+            let here : j ≡ i = eqb-true j i t in
+            rw here (sym (setRow-record bs i c (record-fits S bs i (length-encodeTable S T) h) ∙ ap (λ o. encodeCell c ++ o ∷ []) (encoded-owed S T i h)))
+        go false t =
+            sym (row-setRow-other width bs i j (encodeCell c) (omega (arith, length-encodeCell c)) (eqb-false j i t) ∙ encoded-record S T j hj)
 
 pub decode-setRow : (bs : List ℕ) (i : ℕ) (c : Cell) → width * i + width ≤ length bs → wellFormed (valueIn c) ≡ true
     → decodeTable (setRow width bs i (encodeCell c)) ≡ upd (decodeTable bs) i c
@@ -120,8 +201,10 @@ decode-setRow bs i c fits w = fun-ext each
     each j = go (eqb j i) refl
       where
         go : (b : Bool) → eqb j i ≡ b → decodeTable (setRow width bs i (encodeCell c)) j ≡ cond b c (decodeTable bs j)
-        go true t = rw (eqb-true j i t, row-setRow width bs i (encodeCell c) fits (length-encodeCell c)) (decode-encode c w)
-        go false t = rw (row-setRow-other width bs i j (encodeCell c) (length-encodeCell c) (eqb-false j i t))
+        go true t =
+            rw (eqb-true j i t)
+            (sym (decode-front (row width (setRow width bs i (encodeCell c)) i)) ∙ ap decodeCell (setRow-cell bs i c fits) ∙ decode-encode c w)
+        go false t = rw (row-setRow-other width bs i j (encodeCell c) (omega (arith, length-encodeCell c)) (eqb-false j i t))
 
 -- a stored cell that the item may hold keeps the form
 pub setRow-form : (S : Sheet) (bs : List ℕ) (i : ℕ) (c : Cell) → length bs ≡ tableLength S → tableForm S bs ≡ true → i < size S
@@ -134,9 +217,11 @@ setRow-form S bs i c e t h holds = true-below (recordInForm S (setRow width bs i
       where
         go : (b : Bool) → eqb j i ≡ b → recordInForm S (setRow width bs i (encodeCell c)) j ≡ true
         go true u =
-            rw (eqb-true j i u, row-setRow width bs i (encodeCell c) (record-fits S bs i e h) (length-encodeCell c)) (encoded-form (isFigure (itemAt S i)) c holds)
+            rw (eqb-true j i u)
+            (sym (form-front (row width (setRow width bs i (encodeCell c)) i) (isFigure (itemAt S i)))
+            ∙ ap (recordForm (isFigure (itemAt S i))) (setRow-cell bs i c (record-fits S bs i e h)) ∙ encoded-form (isFigure (itemAt S i)) c holds)
         go false u =
-            rw (row-setRow-other width bs i j (encodeCell c) (length-encodeCell c) (eqb-false j i u)) (below-true (recordInForm S bs) (size S) t j hj)
+            rw (row-setRow-other width bs i j (encodeCell c) (omega (arith, length-encodeCell c)) (eqb-false j i u)) (below-true (recordInForm S bs) (size S) t j hj)
 
 -- ---- the openings
 

@@ -1,4 +1,4 @@
--- A record of the work table: the bytes of one item's cell, and their form. Assumes nothing.
+-- A record of the work table: the bytes of one item's cell with their form, and 02's owed byte. Assumes nothing.
 use Prim.Native.Nat.{ℕ}
 use mathlib.Core.Bool.{Bool, true, false, cond, not, _&&_}
 use mathlib.Core.List.{List, _∷_}
@@ -11,9 +11,13 @@ use Rattle.circuit.specs.Table.{Mark, unmarked, refresh, notice, Cell, unk, hel
 
 -- how many bytes an item has
 abbrev pub width : ℕ
-width = 10
+width = 11
 
--- the parts of a record: kind, mark, number
+-- where the owed byte stands, after those of the cell
+abbrev pub owedPlace : ℕ
+owedPlace = 10
+
+-- the parts of a record: kind, mark, number, owed
 abbrev pub kindIn : List ℕ → ℕ
 kindIn r = getD r 0 0
 
@@ -23,6 +27,10 @@ markIn r = getD r 1 0
 abbrev pub numberIn : List ℕ → ℤ
 numberIn r = le64At r 2
 
+abbrev pub owedIn : List ℕ → ℕ
+owedIn r = getD r owedPlace 0
+
+-- the bytes of a cell
 abbrev pub recordOf : ℕ → ℕ → ℤ → List ℕ
 recordOf kind mark number = kind ∷ mark ∷ bytes64 number
 
@@ -34,6 +42,11 @@ markCode notice = 2
 
 abbrev pub markCoded : ℕ → Mark
 markCoded m = cond (eqb m 1) refresh (cond (eqb m 2) notice unmarked)
+
+-- owed: 1 or 0
+abbrev pub owedCode : Bool → ℕ
+owedCode false = 0
+owedCode true = 1
 
 -- kind: 0 UNK, else a value's
 abbrev pub cellCoded : ℕ → ℕ → ℤ → Cell
@@ -59,7 +72,7 @@ codesForm figure k m = leb k 3 && leb m 2 && allowed figure k m
 unfoldable pub numberForm : ℕ → ℤ → Bool
 numberForm k z = cond (eqb k 3) (inRange z) (sameNumber z (pos 0))
 
--- 01's "form" of one record
+-- 01's "form" of one record; the owed byte is a matter of the whole table
 unfoldable pub recordForm : Bool → List ℕ → Bool
 recordForm figure r = codesForm figure (kindIn r) (markIn r) && numberForm (kindIn r) (numberIn r)
 

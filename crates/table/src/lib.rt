@@ -11,7 +11,7 @@ ghost use Rattle.table.specs.Meaning.{markMeaning, cellMeaning};
 use value::Value;
 
 // How many bytes an item has.
-pub const WIDTH: usize = 10;
+pub const WIDTH: usize = 11;
 
 pub enum Mark {
     Unmarked,
