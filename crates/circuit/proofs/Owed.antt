@@ -57,7 +57,7 @@ any-passing p (suc n) e = go (p n) refl (λ h. any-passing p n h)
         let r : Passing p n = rest (sym (or-false (anyBelow p n)) ∙ (rw h at e)) in
         record { number = r .number; below = omega (arith, r .below); passes = r .passes }
 
-both-true : (a b : Bool) → (a && b) ≡ true → (a ≡ true) × (b ≡ true)
+pub both-true : (a b : Bool) → (a && b) ≡ true → (a ≡ true) × (b ≡ true)
 both-true true true e = (refl, refl)
 both-true true false e = never (cc e)
 both-true false b e = never (cc e)
@@ -178,6 +178,24 @@ module _ (S : Sheet) (ordered : Ordered S) where
   owed-finds T i e =
       let c : ChildFor (size S) T i = finds-for (size S) T i (more T (size S) (suc (size S)) i (omega arith) e) in
       record { item = c .item; listed = c .listed; leans-on = c .leans-on }
+
+  -- so it is a search over the items
+  pub owed-any : (T : Table) (i : ℕ) → owed S T i ≡ anyBelow (λ c. isChild S i c && leans S T c) (size S)
+  owed-any T i = true-both (owed S T i) (anyBelow p (size S)) there back
+    where
+      p : ℕ → Bool
+      p c = isChild S i c && leans S T c
+
+      there : owed S T i ≡ true → anyBelow p (size S) ≡ true
+      there e =
+          let c : Child S T i = owed-finds T i e in
+          any-holds p (size S) (c .item) (parent-within S i (c .item) (c .listed)) (rw (listed-member i (parents S (c .item)) (c .listed)) (c .leans-on))
+
+      back : anyBelow p (size S) ≡ true → owed S T i ≡ true
+      back e =
+          let r : Passing p (size S) = any-passing p (size S) e in
+          let both = both-true (isChild S i (r .number)) _ (r .passes) in
+          owed-child T i (r .number) (member-listed i (parents S (r .number)) (both .0)) (both .1)
 
   -- If what is stored in U, from k on, leans in T, then what leans in U, from k on, leans in T.
   pub leans-within : (T U : Table) (k : ℕ) → ((j : ℕ) → k ≤ j → isStored (U j) ≡ true → leans S T j ≡ true)

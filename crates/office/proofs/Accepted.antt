@@ -14,8 +14,8 @@ use Rattle.layout.specs.Index.{indexWidth, indexBytes}
 use Rattle.layout.proofs.Scan.{opened-ordered}
 use Rattle.layout.proofs.Causes.{opens-faultless}
 use Rattle.layout.proofs.IndexLaws.{index-length}
-use Rattle.table.specs.Bytes.{encodeTable}
-use Rattle.table.proofs.Tables.{length-encodeTable, encoded-tableForm}
+use Rattle.table.specs.Bytes.{encodeTable, Holdable}
+use Rattle.table.proofs.Tables.{length-encodeTable, encoded-tableForm, encoded-owedTrue}
 use Rattle.office.specs.Office.{Office, openOn, runOn}
 use Rattle.office.specs.Demand3Words.{OfficeAccepted}
 use Rattle.office.specs.Demand1Words.{TableBroken, NoneHolds, lentCauses, AcceptedLent}
@@ -47,7 +47,10 @@ module _ (s : List ℕ) (edition : ℕ) (ps : List Placed) (reads : readSheet s 
 
       formed : ¬ TableBroken S (encodeTable S T)
       formed =
-          form-unbroken S _ (encoded-tableForm S _ (run-holdable S (opened-ordered s edition ps reads) cs _ (start-holdable s edition ps reads o)))
+          form-unbroken S (opened-ordered s edition ps reads) _ (encoded-tableForm S _ holdable) (encoded-owedTrue S _ holdable)
+        where
+          holdable : Holdable S T
+          holdable = run-holdable S (opened-ordered s edition ps reads) cs _ (start-holdable s edition ps reads o)
 
 -- An office's index and table are never refused.
 pub office-accepted : (s : List ℕ) (kept : Office) (o : Opening) → openOn o s kept .number ≡ 0 → (cs : List Call) → OfficeAccepted s (openOn o s kept .after) cs

@@ -40,7 +40,7 @@ use Rattle.field.specs.declared.Cut.the-variants.{Field, Short, Absent}
 use Rattle.table.specs.Rows.{row}
 use Rattle.table.specs.Record.{width, kindIn, markIn, numberIn, markCode}
 use Rattle.table.specs.Bytes.{encodeTable, Holdable}
-use Rattle.table.proofs.Tables.{encoded-record, encodeTable-ext, bare-holdable, full-holdable}
+use Rattle.table.proofs.Tables.{encoded-kind, encoded-mark, encoded-number, encodeTable-ext, bare-holdable, full-holdable}
 use Rattle.office.specs.Office.{Office, keeping, Given, resultsLent, accepted, openingTests, unlessRefused, callOn, openRead, openOn, runOn, kindRead, numberRead}
 use Rattle.office.specs.Demand2Words.{answerOf}
 use Rattle.office.specs.Demand3Words.{Posted, postOf, ifAccepted, acceptedPosts, freshAnswer, SameReading, Shown, shown, boardAfter, freshShown, freshBoard, SameBoard, SameAnswers}
@@ -374,10 +374,10 @@ module _ (s : List ℕ) (edition : ℕ) (ps : List Placed) (reads : readSheet s 
 
   -- the words of what stays stored, on the encoding of a table
   stored-is : (T : Table) (k : ℕ) → k < size (sheetRead edition ps) → not (eqb (kindIn (row width (encodeTable (sheetRead edition ps) T) k)) 0) ≡ isStored (T k)
-  stored-is T k low = ap (λ r. not (eqb (kindIn r) 0)) (encoded-record (sheetRead edition ps) T k low) ∙ kind-cell (T k)
+  stored-is T k low = ap (λ x. not (eqb x 0)) (encoded-kind (sheetRead edition ps) T k low) ∙ kind-cell (T k)
 
   pub mark-is : (T : Table) (k : ℕ) → k < size (sheetRead edition ps) → markIn (row width (encodeTable (sheetRead edition ps) T) k) ≡ markCode (markOf (T k))
-  mark-is T k low = ap markIn (encoded-record (sheetRead edition ps) T k low) ∙ mark-cell (T k)
+  mark-is T k low = encoded-mark (sheetRead edition ps) T k low ∙ mark-cell (T k)
 
   pub quiet-is : (T : Table) → ((k : ℕ) → k < size (sheetRead edition ps) → markIn (row width (encodeTable (sheetRead edition ps) T) k) ≡ 0) → Quiet (sheetRead edition ps) T
   quiet-is T h k low = code-unmarked (markOf (T k)) (sym (mark-is T k low) ∙ h k low)
@@ -387,8 +387,8 @@ module _ (s : List ℕ) (edition : ℕ) (ps : List Placed) (reads : readSheet s 
       → (kindIn (row width (at U .table) k) ≡ kindIn (row width (at T .table) k)) × (numberIn (row width (at U .table) k) ≡ numberIn (row width (at T .table) k))
   held-same T U k low a b same =
       let p = parts-same (T k) (U k) a b same in (
-        ap kindIn (encoded-record (sheetRead edition ps) U k low) ∙ p .0 ∙ ap kindIn (sym (encoded-record (sheetRead edition ps) T k low)),
-        ap numberIn (encoded-record (sheetRead edition ps) U k low) ∙ p .1 ∙ ap numberIn (sym (encoded-record (sheetRead edition ps) T k low)),
+        encoded-kind (sheetRead edition ps) U k low ∙ p .0 ∙ sym (encoded-kind (sheetRead edition ps) T k low),
+        encoded-number (sheetRead edition ps) U k low ∙ p .1 ∙ sym (encoded-number (sheetRead edition ps) T k low),
       )
 
   stays : (T : Table) (ds : List Call) (U : Table) (k : ℕ) → k < size (sheetRead edition ps) → Retained (sheetRead edition ps) T ds U k

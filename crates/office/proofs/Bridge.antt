@@ -28,7 +28,7 @@ use Rattle.layout.specs.Index.{indexWidth, indexBytes}
 use Rattle.item.proofs.Offsets.{same-refl}
 use Rattle.table.specs.Record.{width, decodeCell}
 use Rattle.table.specs.Bytes.{encodeTable, decodeTable, Holdable, tableLength}
-use Rattle.table.proofs.Tables.{length-encodeTable, decode-encodeTable, encoded-tableForm, holdable-wellFormed}
+use Rattle.table.proofs.Tables.{length-encodeTable, decode-encodeTable, encoded-tableForm, encoded-owedTrue, holdable-wellFormed}
 use Rattle.office.specs.Office.{keeping, Given, kindRead, numberRead, resultsLent, resultsOf, lengthsWrong, indexWrong, tableWrong, callTests, unlessRefused, effectOn, callRead, callOn, runOn}
 use Rattle.office.proofs.Holdable.{perform-holdable}
 
@@ -191,7 +191,7 @@ module _ (s : List ℕ) (edition : ℕ) (ps : List Placed) (opening : readSheet 
       causes =
           pass-over 8 (lengthsWrong ps x t) _ lengths
           ∙ pass-over 9 (indexWrong ps x) _ (ap not (same-refl x))
-          ∙ pass-over 10 (tableWrong S t) _ (ap not (encoded-tableForm S T h))
+          ∙ pass-over 10 (tableWrong S t) _ (rw (encoded-tableForm S T h, encoded-owedTrue S T h))
           ∙ ap (λ U. firstCause (tests S U c)) again
 
       passed : callRead (opens edition ps) (keeping x t) c ≡ unlessRefused (firstCause (tests S T c)) (resultsLent c) (keeping x t) (effectOn S (keeping x t) (effect S T c))

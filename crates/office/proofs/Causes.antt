@@ -11,7 +11,7 @@ use lib.IntN.{ℤ, pos, negsuc, natAbs}
 use lib.ListN.{length, getD}
 use borrow.Author.Tests.{leb-true, leb-false}
 use Rattle.circuit.specs.Value.{null, out, num, limit, inRange, sameNumber, partsOf, ofParts}
-use Rattle.circuit.specs.Sheet.{Sheet, size, itemAt, isFigure, beyond}
+use Rattle.circuit.specs.Sheet.{Sheet, Ordered, size, itemAt, isFigure, beyond}
 use Rattle.circuit.specs.Table.{unmarked, refresh, notice, unk, held, isMarked}
 use Rattle.circuit.specs.Board.{listedWidth, resultWidth, mostListed, listed, listsOff, listsWrong}
 use Rattle.circuit.specs.Calls.{postedValue, isNone, someNoItem}
@@ -19,12 +19,13 @@ use Rattle.circuit.proofs.Board.{listed-count, listed-at}
 use Rattle.layout.specs.Read.{Placed}
 use Rattle.layout.specs.Index.{indexWidth, indexBytes}
 use Rattle.layout.proofs.Tests.{Tells, holds, fails, tells-if, tells-or, tells-and, Refutes, right, wrong, refutes-if, refutes-and, tells-not, refutes-tells, tells-eq, refutes-le}
-use Rattle.table.specs.Rows.{row, allBelow}
+use Rattle.table.specs.Rows.{row}
 use Rattle.table.specs.Record.{width, kindIn, markIn, numberIn, decodeCell, allowed, codesForm, numberForm, recordForm}
 use Rattle.table.specs.Bytes.{tableForm, recordInForm}
 use Rattle.office.specs.Office.{Office, lengthsWrong, indexWrong, tableWrong}
 use Rattle.office.specs.Demand1Words.{LengthsWrong, IndexNotAsOpened, BeyondRange, RecordBroken, kindUnknown, markUnknown, entryUnk, entryOut, entryRefresh, unkRefresh, numberNotZero}
-use Rattle.office.specs.Demand1Words.{beyondRange, RecordBrokenAt, TableBroken, NoSuchItem, ListsWrong, odd, long, other, SomeNoItem, NotPostable, kindOther, nullNotZero, numberBeyond}
+use Rattle.office.specs.Demand1Words.{beyondRange, RecordBrokenAt, OwedFalse, TableBroken, NoSuchItem, ListsWrong, odd, long, other, SomeNoItem, NotPostable, kindOther, nullNotZero, numberBeyond}
+use Rattle.office.proofs.OwedBytes.{refutes-below, refutes-owed}
 use Rattle.item.specs.Offsets.{sameBytes}
 use Rattle.item.proofs.Offsets.{same-refl, same-equal}
 
@@ -109,23 +110,6 @@ refutes-record figure r =
     back (numberNotZero e h) = inr (inr (e, h))
     back (beyondRange e h) = inr (inl (e, h))
 
--- some number below n fails a test
-refutes-below : (p : ℕ → Bool) (P : ℕ → Type 0) → ((i : ℕ) → Refutes (P i) (p i)) → (n : ℕ) → Refutes ((i : ℕ) × (i < n) × P i) (allBelow p n)
-unfolding allBelow
-refutes-below p P h zero = right (λ a. let l : a .0 < 0 = a .1 in omega arith)
-refutes-below p P h (suc n) = refutes-if into back (refutes-and (refutes-below p P h n) (h n))
-  where
-    into : ((i : ℕ) × (i < n) × P i) ⊎ P n → (i : ℕ) × (i < suc n) × P i
-    into (inl a) = let l : a .0 < n = a .1 in (a .0, omega arith, a .2)
-    into (inr b) = (n, omega arith, b)
-
-    back : (i : ℕ) × (i < suc n) × P i → ((i : ℕ) × (i < n) × P i) ⊎ P n
-    back a = go (tells-eq (a .0) n)
-      where
-        go : {b : Bool} → Tells (a .0 ≡ n) b → ((i : ℕ) × (i < n) × P i) ⊎ P n
-        go (holds e) = inr (subst P e (a .2))
-        go (fails e) = let l : a .0 < suc n = a .1 in inl (a .0, omega arith, a .2)
-
 -- 8
 pub tells-lengths : (S : Sheet) (ps : List Placed) (o : Office) → size S ≡ length ps → Tells (LengthsWrong (size S) o) (lengthsWrong ps (o .index) (o .table))
 tells-lengths S ps o e =
@@ -140,9 +124,16 @@ tells-index ps x = go (sameBytes x (indexBytes ps)) refl
     go false e = holds (λ q. let s : sameBytes x (indexBytes ps) ≡ true = ap (sameBytes x) (sym q) ∙ same-refl x in let bad : _≡_ {A = ℕ} 0 1 = cc in omega arith)
 
 -- 10
-pub tells-table : (S : Sheet) (t : List ℕ) → Tells (TableBroken S t) (tableWrong S t)
+pub tells-table : (S : Sheet) → Ordered S → (t : List ℕ) → Tells (TableBroken S t) (tableWrong S t)
 unfolding tableForm
-tells-table S t = tells-not (refutes-below (recordInForm S t) (RecordBrokenAt limit S t) (λ i. refutes-record (isFigure (itemAt S i)) (row width t i)) (size S))
+tells-table S ordered t =
+    tells-not
+    (refutes-if (⊎-elim (λ a. (a .0, a .1, inl (a .2))) (λ a. (a .0, a .1, inr (a .2)))) back
+    (refutes-and (refutes-below (recordInForm S t) (RecordBrokenAt limit S t) (λ i. refutes-record (isFigure (itemAt S i)) (row width t i)) (size S)) (refutes-owed S ordered t)))
+  where
+    back : TableBroken S t → ((i : ℕ) × (i < size S) × RecordBrokenAt limit S t i) ⊎ ((i : ℕ) × (i < size S) × OwedFalse S t i)
+    back (i, l, inl b) = inl (i, l, b)
+    back (i, l, inr b) = inr (i, l, b)
 
 -- 11
 pub tells-beyond : (S : Sheet) (i : ℕ) → Tells (NoSuchItem S i) (beyond S i)

@@ -6,6 +6,7 @@ use mathlib.Core.Path.{_≡_, refl, sym, ap, _∙_, subst}
 use mathlib.Core.Bool.{Bool, true, false}
 use mathlib.Core.List.{List, [], _∷_, _++_, map}
 use mathlib.Core.Option.{none, some}
+use lib.ListN.{take}
 use borrow.Author.Tests.{lt-leb}
 use Rattle.circuit.specs.Value.{Value, wellFormed}
 use Rattle.circuit.specs.Rules.{Operation, apply}
@@ -33,9 +34,10 @@ use Rattle.layout.specs.Opened.{sheetRead, sheetOf}
 use Rattle.layout.specs.Index.{indexBytes}
 use Rattle.word.specs.Word.{Bytes}
 use Rattle.table.specs.Rows.{row}
-use Rattle.table.specs.Record.{width, kindIn, markIn, numberIn, encodeCell}
+use Rattle.table.specs.Record.{width, owedPlace, kindIn, markIn, numberIn, encodeCell}
 use Rattle.table.specs.Bytes.{encodeTable, decodeTable, Holdable}
-use Rattle.table.proofs.Tables.{encoded-record, encodeTable-ext, holdable-wellFormed, holdable-formed}
+use Rattle.table.proofs.Records.{kind-by, number-by}
+use Rattle.table.proofs.Tables.{encoded-cell, encoded-kind, encoded-mark, encoded-number, encodeTable-ext, holdable-wellFormed, holdable-formed}
 use Rattle.office.specs.Office.{Office, keeping, resultsLent, callOn, openOn, runOn}
 use Rattle.office.specs.Demand1Words.{AcceptedLent}
 use Rattle.office.specs.Demand2Words.{answerOf, reading, valueOf, entriesIn, Stores, NoMarkStands, readingIn, CloseLeaves}
@@ -75,14 +77,14 @@ module _ {s x : List ℕ} {S : Sheet} {E : Entries} {T : Table} (keep : Keeps s 
   unfolding perform tests firstCause effect
   closed-within = perform-within S (keep .ordered) T close (keep .within)
 
-  closed-record : (i : ℕ) → i < size S → row width (encodeTable S U) i ≡ encodeCell (held (give S E i) unmarked)
-  closed-record i low = encoded-record S U i low ∙ ap encodeCell (close-at S (keep .ordered) E T (keep .holds) i low)
+  closed-record : (i : ℕ) → i < size S → take owedPlace (row width (encodeTable S U) i) ≡ encodeCell (held (give S E i) unmarked)
+  closed-record i low = encoded-cell S U i low ∙ ap encodeCell (close-at S (keep .ordered) E T (keep .holds) i low)
 
   -- each record holds the fresh office's value
   closed-stores : (i : ℕ) → i < size S → Stores (encodeTable S U) i (give S E i)
   closed-stores i low = (
-    ap kindIn (closed-record i low) ∙ held-kind (give S E i) unmarked,
-    ap numberIn (closed-record i low) ∙ held-number (give S E i) unmarked formed,
+    kind-by (row width (encodeTable S U) i) (closed-record i low) ∙ held-kind (give S E i) unmarked,
+    number-by (row width (encodeTable S U) i) (closed-record i low) ∙ held-number (give S E i) unmarked formed,
   )
     where
       formed : wellFormed (give S E i) ≡ true
@@ -95,7 +97,7 @@ module _ {s x : List ℕ} {S : Sheet} {E : Entries} {T : Table} (keep : Keeps s 
 
   closed-unmarked : NoMarkStands S (encodeTable S U)
   closed-unmarked i low =
-      ap markIn (encoded-record S U i low) ∙ mark-cell (U i) ∙ unmarked-code (markOf (U i)) (close-quiet S (keep .ordered) E T (keep .holds) i low)
+      encoded-mark S U i low ∙ mark-cell (U i) ∙ unmarked-code (markOf (U i)) (close-quiet S (keep .ordered) E T (keep .holds) i low)
 
   -- an ask then looks up a stored item, and catches up nothing
   closed-asked : (i : ℕ) → i < size S → callOn s (office U) (ask i) ≡ givenBy S x [] (outcome 0 (some (give S E i)) U)
@@ -178,10 +180,10 @@ module _ (s : List ℕ) (kept : Office) (lent : AcceptedLent s kept) (bytes : By
       entry-kept : (i : ℕ) → i < size S → isFigure (itemAt S i) ≡ false
           → (kindIn (row width u i) ≡ kindIn (row width t i)) × (numberIn (row width u i) ≡ numberIn (row width t i))
       entry-kept i low e =
-          let was = ap (λ b. row width b i) (sym again) ∙ encoded-record S T i low in
+          let was = ap (λ b. take owedPlace (row width b i)) (sym again) ∙ encoded-cell S T i low in
           let same = parts-same (T i) (U i) (stored-entry (itemAt S i) (T i) (holdable-formed S T (holdable s kept lent) i low) e) (ap isStored (at i low))
           (ap valueIn (at i low) ∙ entry-value S E (give-solves S lower E) i low e) in
-          (ap kindIn (encoded-record S U i low) ∙ same .0 ∙ ap kindIn (sym was), ap numberIn (encoded-record S U i low) ∙ same .1 ∙ ap numberIn (sym was))
+          (encoded-kind S U i low ∙ same .0 ∙ sym (kind-by (row width t i) was), encoded-number S U i low ∙ same .1 ∙ sym (number-by (row width t i) was))
 
       -- the value in a record that the run left
       value-left : (p : ℕ) → p < size S → valueOf u p ≡ values p

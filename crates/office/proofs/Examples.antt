@@ -17,7 +17,7 @@ use Rattle.circuit.specs.Value.{limit, inRange, partsOf}
 use Rattle.circuit.specs.Call.{Call, post, keep, drop, step, ask, board, close, bare, full}
 use Rattle.circuit.specs.Board.{listed, listsOff}
 use Rattle.circuit.specs.Calls.{firstCause, tests, someNoItem, postedValue, effect}
-use Rattle.circuit.specs.Sheet.{Sheet}
+use Rattle.circuit.specs.Sheet.{Sheet, member}
 use Rattle.circuit.specs.Table.{Table}
 use Rattle.layout.specs.Layout.{spreadMeant, machineItem}
 use Rattle.layout.specs.Read.{refused, readSheet}
@@ -26,7 +26,8 @@ use Rattle.layout.specs.Index.{indexBytes}
 use Rattle.layout.proofs.Examples.{reading, writing, exampleBytes, head, entryA, end, figureOf, chain, gives-1, gives-2, gives-3, gives-4, gives-5, gives-6, gives-7}
 use Rattle.table.specs.Rows.{rowsBelow, allBelow}
 use Rattle.table.specs.Record.{encodeCell, decodeCell, codesForm, numberForm, recordForm}
-use Rattle.table.specs.Bytes.{encodeTable, tableForm}
+use Rattle.table.specs.Bytes.{encodeTable, tableForm, owedTrue}
+use Rattle.circuit.specs.Owed.{anyBelow, owedFor, owed}
 use Rattle.item.specs.Offsets.{sameBytes}
 use Rattle.office.specs.Office.{Office, keeping, Given, resultsOf, refusal, accepted, callRead, callOn, openRead, openOn, runOn}
 use Rattle.office.specs.Demand1Words.{Invocation, opening, calling, serve, resultsLentTo, FitsArguments, Gets}
@@ -70,15 +71,23 @@ nullRecord = 1 ∷ 0 ∷ zeros8
 abbrev pub unkRecord : List ℕ
 unkRecord = 0 ∷ 0 ∷ zeros8
 
-unfoldable pub bareTable : List ℕ
-bareTable = nullRecord ++ nullRecord ++ nullRecord ++ unkRecord ++ unkRecord
+-- a record with its owed byte
+abbrev pub unowed : List ℕ → List ℕ
+unowed r = r ++ 0 ∷ []
 
+abbrev pub owing : List ℕ → List ℕ
+owing r = r ++ 1 ∷ []
+
+unfoldable pub bareTable : List ℕ
+bareTable = unowed nullRecord ++ unowed nullRecord ++ unowed nullRecord ++ unowed unkRecord ++ unowed unkRecord
+
+-- every item but the last has a child
 unfoldable pub fullTable : List ℕ
-fullTable = nullRecord ++ nullRecord ++ nullRecord ++ nullRecord ++ nullRecord
+fullTable = owing nullRecord ++ owing nullRecord ++ owing nullRecord ++ owing nullRecord ++ unowed nullRecord
 
 -- to unfold these is to unfold all that a table's form and encoding compute with, and all that the calls do
 unfoldable pub tabling : Sheet → Table → List ℕ
-unfolding tableForm encodeTable rowsBelow allBelow encodeCell decodeCell codesForm numberForm recordForm leAt leBytes limit inRange
+unfolding tableForm owedTrue owed owedFor anyBelow member encodeTable rowsBelow allBelow encodeCell decodeCell codesForm numberForm recordForm leAt leBytes limit inRange
 tabling S T = encodeTable S T
 
 unfoldable pub calls : List ℕ → Office → Call → Given
@@ -105,10 +114,32 @@ abbrev belowLimit : List ℕ
 belowLimit = bytes64 (negsuc limit)
 
 abbrev firstIs : List ℕ → List ℕ
-firstIs r = r ++ nullRecord ++ nullRecord ++ unkRecord ++ unkRecord
+firstIs r = unowed r ++ unowed nullRecord ++ unowed nullRecord ++ unowed unkRecord ++ unowed unkRecord
 
+-- the last item UNK, or stored, so that all the others are owed
 abbrev lastIs : List ℕ → List ℕ
-lastIs r = nullRecord ++ nullRecord ++ nullRecord ++ unkRecord ++ r
+lastIs r = unowed nullRecord ++ unowed nullRecord ++ unowed nullRecord ++ unowed unkRecord ++ unowed r
+
+abbrev lastStored : List ℕ → List ℕ
+lastStored r = owing nullRecord ++ owing nullRecord ++ owing nullRecord ++ owing unkRecord ++ unowed r
+
+-- the bare table with the owed byte o of the first item, and of the last
+abbrev firstOwes : ℕ → List ℕ
+firstOwes o = (nullRecord ++ o ∷ []) ++ unowed nullRecord ++ unowed nullRecord ++ unowed unkRecord ++ unowed unkRecord
+
+abbrev lastOwes : ℕ → List ℕ
+lastOwes o = unowed nullRecord ++ unowed nullRecord ++ unowed nullRecord ++ unowed unkRecord ++ (unkRecord ++ o ∷ [])
+
+-- the last item stored, where the owed byte of its UNK parent is o; and where that is 1 but the first item's is o
+abbrev parentOwes : ℕ → List ℕ
+parentOwes o = owing nullRecord ++ owing nullRecord ++ owing nullRecord ++ (unkRecord ++ o ∷ []) ++ unowed nullRecord
+
+abbrev throughOwes : ℕ → List ℕ
+throughOwes o = (nullRecord ++ o ∷ []) ++ owing nullRecord ++ owing nullRecord ++ owing unkRecord ++ unowed nullRecord
+
+-- ten bytes a record, as before 02's job 5
+abbrev tenWide : List ℕ
+tenWide = nullRecord ++ nullRecord ++ nullRecord ++ unkRecord ++ unkRecord
 
 -- a request on an index and a table, with the example sheet, and the number given
 pub record Lent : Type 0 where
@@ -129,17 +160,28 @@ examples =
     ∷ lend (opening full) exampleIndex unkRecord 8
     ∷ lend (opening full) (0 ∷ exampleIndex) bareTable 8
     ∷ lend (calling (ask 9)) unkRecord bareTable 8
+    ∷ lend (opening bare) exampleIndex tenWide 8
+    ∷ lendTable (ask 0) tenWide 8
     ∷ lend (calling (ask 9)) (31 ∷ 0 ∷ 0 ∷ 0 ∷ 11 ∷ 0 ∷ 0 ∷ 0 ∷ 15 ∷ 0 ∷ 0 ∷ 0 ∷ 19 ∷ 0 ∷ 0 ∷ 0 ∷ 31 ∷ 0 ∷ 0 ∷ 0 ∷ []) (firstIs unkRecord) 9
     ∷ lend (calling (step 0)) (7 ∷ 0 ∷ 0 ∷ 0 ∷ 11 ∷ 0 ∷ 0 ∷ 0 ∷ 15 ∷ 0 ∷ 0 ∷ 0 ∷ 19 ∷ 0 ∷ 0 ∷ 0 ∷ 31 ∷ 0 ∷ 0 ∷ 1 ∷ []) bareTable 9
     ∷ lendTable (ask 9) (firstIs unkRecord) 10
     ∷ lendTable (ask 9) (firstIs (2 ∷ 0 ∷ zeros8)) 10
     ∷ lendTable (ask 9) (firstIs (1 ∷ 1 ∷ zeros8)) 10
     ∷ lendTable (ask 9) (lastIs (0 ∷ 1 ∷ zeros8)) 10
-    ∷ lendTable (ask 9) (lastIs (4 ∷ 0 ∷ zeros8)) 10
+    ∷ lendTable (ask 9) (lastStored (4 ∷ 0 ∷ zeros8)) 10
     ∷ lendTable (ask 9) (lastIs (0 ∷ 3 ∷ zeros8)) 10
-    ∷ lendTable (ask 9) (lastIs (1 ∷ 0 ∷ atLimit)) 10
-    ∷ lendTable (ask 9) (lastIs (3 ∷ 0 ∷ aboveLimit)) 10
-    ∷ lendTable (ask 9) (lastIs (3 ∷ 0 ∷ belowLimit)) 10
+    ∷ lendTable (ask 9) (lastStored (1 ∷ 0 ∷ atLimit)) 10
+    ∷ lendTable (ask 9) (lastStored (3 ∷ 0 ∷ aboveLimit)) 10
+    ∷ lendTable (ask 9) (lastStored (3 ∷ 0 ∷ belowLimit)) 10
+    ∷ lendTable (ask 9) (firstOwes 1) 10
+    ∷ lendTable (ask 9) (firstOwes 2) 10
+    ∷ lendTable (ask 9) (lastOwes 1) 10
+    ∷ lendTable (ask 9) (lastOwes 255) 10
+    ∷ lendTable (ask 9) (parentOwes 0) 10
+    ∷ lendTable (ask 9) (throughOwes 0) 10
+    ∷ lendTable close (throughOwes 2) 10
+    ∷ lendTable (ask 4) (throughOwes 1) 0
+    ∷ lendTable (ask 4) (parentOwes 1) 0
     ∷ lendTable (ask 5) bareTable 11
     ∷ lendTable (keep 5) bareTable 11
     ∷ lendTable (drop 5) bareTable 11
@@ -154,7 +196,7 @@ examples =
     ∷ lendTable (post 2 3 (pos (limit + 1))) bareTable 13
     ∷ lendTable (post 2 3 (negsuc limit)) bareTable 13
     ∷ lendTable (step 0) bareTable 14
-    ∷ lendTable (step 4) (lastIs (2 ∷ 0 ∷ zeros8)) 14
+    ∷ lendTable (step 4) (lastStored (2 ∷ 0 ∷ zeros8)) 14
     ∷ lendTable (board (0 ∷ []) []) bareTable 17
     ∷ lendTable (board [] (0 ∷ [])) bareTable 17
     ∷ lendTable (board (9 ∷ 0 ∷ []) zeros8) bareTable 17
@@ -168,15 +210,15 @@ examples =
     ∷ lendTable (board [] []) bareTable 0
     ∷ lend (calling close) unkRecord (firstIs unkRecord) 8
     ∷ lendTable close (lastIs (0 ∷ 1 ∷ zeros8)) 10
-    ∷ lendTable close (lastIs (3 ∷ 1 ∷ atLimit)) 0
+    ∷ lendTable close (lastStored (3 ∷ 1 ∷ atLimit)) 0
     ∷ lend (opening bare) exampleIndex bareTable 0
     ∷ lendTable (post 2 1 (pos 0)) bareTable 0
     ∷ lendTable (post 2 3 (pos limit)) bareTable 0
     ∷ lendTable (post 2 3 (negsuc (limit - 1))) bareTable 0
     ∷ lendTable (keep 3) bareTable 0
-    ∷ lendTable (drop 4) (lastIs (3 ∷ 1 ∷ atLimit)) 0
-    ∷ lendTable (drop 4) (lastIs (3 ∷ 1 ∷ atLowest)) 0
-    ∷ lendTable (step 4) (lastIs (3 ∷ 1 ∷ atLimit)) 0
+    ∷ lendTable (drop 4) (lastStored (3 ∷ 1 ∷ atLimit)) 0
+    ∷ lendTable (drop 4) (lastStored (3 ∷ 1 ∷ atLowest)) 0
+    ∷ lendTable (step 4) (lastStored (3 ∷ 1 ∷ atLimit)) 0
     ∷ lendTable (ask 4) bareTable 0
     ∷ []
 
@@ -264,8 +306,9 @@ example-board = refl
 -- A season-close run on a table in form that the engine has not written: an entry with a notice, a figure whose number is stale and that
 -- is to be refreshed, and a figure with a notice and nothing stored. Afterwards A is 1000, L is 300, S is NULL, T is 1000 and B is 700.
 pub example-close : callOn exampleBytes
-    (keeping exampleIndex ((3 ∷ 2 ∷ bytes64 (pos 1000)) ++ (3 ∷ 0 ∷ bytes64 (pos 300)) ++ nullRecord ++ (3 ∷ 1 ∷ bytes64 (pos 9)) ++ (0 ∷ 2 ∷ zeros8))) close
+    (keeping exampleIndex
+    (owing (3 ∷ 2 ∷ bytes64 (pos 1000)) ++ unowed (3 ∷ 0 ∷ bytes64 (pos 300)) ++ owing nullRecord ++ unowed (3 ∷ 1 ∷ bytes64 (pos 9)) ++ unowed (0 ∷ 2 ∷ zeros8))) close
     ≡ accepted none [] (keeping exampleIndex
-    ((3 ∷ 0 ∷ bytes64 (pos 1000)) ++ (3 ∷ 0 ∷ bytes64 (pos 300)) ++ nullRecord ++ (3 ∷ 0 ∷ bytes64 (pos 1000)) ++ (3 ∷ 0 ∷ bytes64 (pos 700))))
+    (owing (3 ∷ 0 ∷ bytes64 (pos 1000)) ++ owing (3 ∷ 0 ∷ bytes64 (pos 300)) ++ owing nullRecord ++ owing (3 ∷ 0 ∷ bytes64 (pos 1000)) ++ unowed (3 ∷ 0 ∷ bytes64 (pos 700))))
 unfolding calls machine exampleBytes exampleIndex
 example-close = refl

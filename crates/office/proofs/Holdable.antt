@@ -13,6 +13,7 @@ use Rattle.circuit.specs.WellFormed.{allWellFormed}
 use Rattle.circuit.specs.Circuit.{Listed}
 use Rattle.circuit.specs.Sheet.{Sheet, Item, entry, figure, Spread, defer, renew, forget, size, itemAt, isFigure, parentsOf, parents, spreadOf, isChild, evaluate, Ordered}
 use Rattle.circuit.specs.Table.{Table, Cell, Mark, unmarked, refresh, notice, unk, held, upd, valueIn, entryForm}
+use Rattle.circuit.specs.Owed.{owed}
 use Rattle.circuit.specs.Machine.{gather, lookUp, workOut, storePosting, postCell, keepFigure, dropFigure, dropCell, renewed, tellChild, tellCell, tellStored, tellIf, tellBelow, tell}
 use Rattle.circuit.specs.Machine.{clearMark, clearCell, stepItem, stepCell, catchUp}
 use Rattle.circuit.specs.Call.{Call, post, keep, drop, step, ask, board, close}
@@ -177,13 +178,18 @@ module _ (S : Sheet) (ordered : Ordered S) where
   stored-told renew T c v m k e h = renewed-holdable T c v m _ k e h
   stored-told forget T c v m k e h = upd-holdable T c _ (λ low. figure-unk _ _ k) h
 
-  pub tellChild-holdable : (T : Table) (c : ℕ) → isFigure (itemAt S c) ≡ true → Holdable S T → Holdable S (tellChild S T c)
-  unfolding tellChild
-  tellChild-holdable T c k h = go (T c) refl
+  -- whether an UNK child is called on or not
+  pub tellCell-holdable : (called : Bool) (T : Table) (c : ℕ) → isFigure (itemAt S c) ≡ true → Holdable S T → Holdable S (tellCell called S T c (T c))
+  tellCell-holdable called T c k h = go called (T c) refl
     where
-      go : (x : Cell) → T c ≡ x → Holdable S (tellCell S T c x)
-      go (unk f) e = upd-holdable T c _ (λ low. figure-unk _ _ k) h
-      go (held v m) e = stored-told (spreadOf (itemAt S c)) T c v m k e h
+      go : (b : Bool) (x : Cell) → T c ≡ x → Holdable S (tellCell b S T c x)
+      go true (unk f) e = upd-holdable T c _ (λ low. figure-unk _ _ k) h
+      go false (unk f) e = h
+      go b (held v m) e = stored-told (spreadOf (itemAt S c)) T c v m k e h
+
+  tellChild-holdable : (T : Table) (c : ℕ) → isFigure (itemAt S c) ≡ true → Holdable S T → Holdable S (tellChild S T c)
+  unfolding tellChild
+  tellChild-holdable T c k h = tellCell-holdable (owed S T c) T c k h
 
   -- an item with parents is a figure
   listed-figure : (it : Item) (i : ℕ) → Listed i (parentsOf it) → isFigure it ≡ true

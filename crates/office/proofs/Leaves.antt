@@ -4,11 +4,12 @@ use native.Mathlib.Omega.{arith}
 use mathlib.Core.Path.{_≡_, refl, sym, ap, _∙_, subst}
 use mathlib.Core.Bool.{Bool, true, false, cond}
 use mathlib.Core.List.{List, []}
-use mathlib.Core.Logic.{inl, ⊎-elim}
+use mathlib.Core.Logic.{inl, inr, ⊎-elim}
+use lib.ListN.{take}
 use lib.IntN.{ℤ}
 use Rattle.circuit.specs.Value.{Value, null, out, num, same, kindOf, numberOf, wellFormed}
-use Rattle.circuit.specs.Sheet.{Sheet, Ordered, size}
-use Rattle.circuit.specs.Table.{Table, Cell, Mark, unmarked, refresh, notice, unk, held, upd, noticeIf, markOf, valueIn}
+use Rattle.circuit.specs.Sheet.{Sheet, Ordered, size, itemAt, isFigure}
+use Rattle.circuit.specs.Table.{Table, Cell, Mark, unmarked, refresh, notice, unk, held, upd, isStored, noticeIf, markOf, valueIn}
 use Rattle.circuit.specs.Machine.{gather, lookUp, workOut, storePosting, postCell, keepFigure, keepCell, dropFigure, dropCell, droppedMark, tell, clearMark, stepItem, stepCell, catchUp}
 use Rattle.circuit.specs.Call.{Call, post, keep, drop, step, ask, board}
 use Rattle.circuit.specs.Board.{listed}
@@ -22,15 +23,16 @@ use Rattle.circuit.proofs.Accepted.{accepted-effect, effect-number}
 use Rattle.layout.specs.Opened.{sheetOf}
 use Rattle.layout.proofs.Tests.{Tells, holds, fails, tells-eq}
 use Rattle.word.specs.Word.{Bytes}
-use Rattle.table.specs.Rows.{row}
-use Rattle.table.specs.Record.{width, kindIn, markIn, numberIn, markCode, encodeCell}
+use Rattle.table.specs.Rows.{row, setRow}
+use Rattle.table.specs.Record.{width, owedPlace, kindIn, markIn, numberIn, markCode, encodeCell, mayHold}
 use Rattle.table.specs.Bytes.{encodeTable, decodeTable, Holdable}
-use Rattle.table.proofs.Records.{bytes-encodeCell}
-use Rattle.table.proofs.Rows.{bytes-rows}
-use Rattle.table.proofs.Tables.{length-encodeTable, encoded-record, encodeTable-ext, encoded-tableForm, holdable-wellFormed}
+use Rattle.table.proofs.Records.{length-encodeCell, kind-by, mark-by, number-by}
+use Rattle.table.proofs.Rows.{row-setRow-other}
+use Rattle.table.proofs.Tables.{length-encodeTable, bytes-encodeTable, encoded-cell, encoded-mark, encodeTable-ext, encode-upd, encoded-tableForm, encoded-owedTrue, holdable-wellFormed}
 use Rattle.office.specs.Office.{Office, keeping, effectOn, callOn}
 use Rattle.office.specs.Demand1Words.{calling, NoneHolds, ownCauses, AcceptedLent}
-use Rattle.office.specs.Demand2Words.{valueOf, Stores, PostLeaves, KeepLeaves, DropLeaves, StepLeaves, AskLeaves, BoardLeaves, NoMarkStands, CallsLeave}
+use Rattle.office.specs.Demand2Words.{valueOf, Stores, PostLeaves, KeepLeaves, DropLeaves, StepLeaves, AskLeaves, BoardLeaves, OwedRight, NoMarkStands, CallsLeave}
+use Rattle.office.proofs.OwedBytes.{unfalse-right}
 use Rattle.office.proofs.Holdable.{perform-holdable}
 use Rattle.office.proofs.Lent.{ordered as lent-ordered, holdable as lent-holdable, encoded}
 use Rattle.office.proofs.Boards.{board-leaves, board-asks}
@@ -77,6 +79,12 @@ some-kind null = omega arith
 some-kind out = omega arith
 some-kind (num z) = omega arith
 
+-- the cell of an entry is stored
+entry-there : (f : Bool) (c : Cell) → ¬ (f ≡ true) → mayHold f c ≡ true → isStored c ≡ true
+entry-there true c n h = absurd (n refl)
+entry-there false (held v m) n h = refl
+entry-there false (unk b) n h = let bad : _≡_ {A = ℕ} 0 1 = cc h in absurd (omega arith)
+
 module _ (s : List ℕ) (kept : Office) (lent : AcceptedLent s kept) where
   abbrev t : List ℕ
   t = kept .table
@@ -107,7 +115,7 @@ module _ (s : List ℕ) (kept : Office) (lent : AcceptedLent s kept) where
         sheet = lent .sheet;
         lent = (
           ⊎-elim (λ n. lent .lent .0 (inl n)) (λ n. n (length-encodeTable (sheetOf s) T)),
-          (lent .lent .1 .0, (form-unbroken (sheetOf s) _ (encoded-tableForm (sheetOf s) T h), tt)),
+          (lent .lent .1 .0, (form-unbroken (sheetOf s) ordered _ (encoded-tableForm (sheetOf s) T h) (encoded-owedTrue (sheetOf s) T h), tt)),
         );
       }
 
@@ -118,15 +126,11 @@ module _ (s : List ℕ) (kept : Office) (lent : AcceptedLent s kept) where
       go (holds z) = subst (λ g. AcceptedLent s (g .after)) (sym (is c z)) (lent-again _ (effect-holdable c z))
       go (fails n) = subst (AcceptedLent s) (sym (turned-back (calling c) s kept .left n .0)) lent
 
-  bytes-encoded : (T : Table) → Bytes (encodeTable (sheetOf s) T)
-  unfolding encodeTable
-  bytes-encoded T = bytes-rows (λ i. encodeCell (T i)) (size (sheetOf s)) (λ i. bytes-encodeCell (T i))
-
   stays-bytes : Bytes t → (c : Call) → Bytes (callOn s kept c .after .table)
   stays-bytes bytes c = go (tells-eq (callOn s kept c .number) 0)
     where
       go : {b : Bool} → Tells (callOn s kept c .number ≡ 0) b → Bytes (callOn s kept c .after .table)
-      go (holds z) = subst (λ g. Bytes (g .after .table)) (sym (is c z)) (bytes-encoded _)
+      go (holds z) = subst (λ g. Bytes (g .after .table)) (sym (is c z)) (bytes-encodeTable (sheetOf s) _)
       go (fails n) = subst (λ k. Bytes (k .table)) (sym (turned-back (calling c) s kept .left n .0)) bytes
 
   index-same : (c : Call) → callOn s kept c .after .index ≡ kept .index
@@ -144,19 +148,19 @@ module _ (s : List ℕ) (kept : Office) (lent : AcceptedLent s kept) where
       U : Table
       U = effect (sheetOf s) (decodeTable t) c .table
 
-      record-here : (d : Cell) → U k ≡ d → row width (callOn s kept c .after .table) k ≡ encodeCell d
-      record-here d e = ap (λ g. row width (g .after .table) k) (is c z) ∙ encoded-record (sheetOf s) U k low ∙ ap encodeCell e
+      record-here : (d : Cell) → U k ≡ d → take owedPlace (row width (callOn s kept c .after .table) k) ≡ encodeCell d
+      record-here d e = ap (λ g. take owedPlace (row width (g .after .table) k)) (is c z) ∙ encoded-cell (sheetOf s) U k low ∙ ap encodeCell e
 
       go : (d : Cell) → U k ≡ d → (v : Value) × (m : Mark) × (U k ≡ held v m) × Stores (callOn s kept c .after .table) k v
-      go (unk b) e = absurd (n (ap kindIn (record-here (unk b) e) ∙ unk-kind b))
+      go (unk b) e = absurd (n (kind-by (row width (callOn s kept c .after .table) k) (record-here (unk b) e) ∙ unk-kind b))
       go (held v m) e =
           let formed : wellFormed v ≡ true = subst (λ d. wellFormed (valueIn d) ≡ true) e (holdable-wellFormed (sheetOf s) U (effect-holdable c z) k low) in
-          (v, m, e, (ap kindIn (record-here (held v m) e) ∙ held-kind v m, ap numberIn (record-here (held v m) e) ∙ held-number v m formed))
+          (v, m, e, (kind-by (row width (callOn s kept c .after .table) k) (record-here (held v m) e) ∙ held-kind v m, number-by (row width (callOn s kept c .after .table) k) (record-here (held v m) e) ∙ held-number v m formed))
 
   ask-quiets : (i : ℕ) → callOn s kept (ask i) .number ≡ 0 → NoMarkStands (sheetOf s) (callOn s kept (ask i) .after .table)
   ask-quiets i z k low =
       ap (λ g. markIn (row width (g .after .table) k)) (is (ask i) z)
-      ∙ ap markIn (encoded-record (sheetOf s) U k low) ∙ mark-cell (U k) ∙ unmarked-code (markOf (U k)) (quiet k low)
+      ∙ encoded-mark (sheetOf s) U k low ∙ mark-cell (U k) ∙ unmarked-code (markOf (U k)) (quiet k low)
     where
       U : Table
       U = effect (sheetOf s) (decodeTable t) (ask i) .table
@@ -166,26 +170,48 @@ module _ (s : List ℕ) (kept : Office) (lent : AcceptedLent s kept) where
           subst (λ o. Quiet (sheetOf s) (o .table)) (performs (ask i) z)
           (asked-quiet (sheetOf s) ordered (decodeTable t) i (ap (λ o. o .number) (performs (ask i) z) ∙ effect-number (sheetOf s) (decodeTable t) (ask i)))
 
+  -- the owed bytes that a call leaves
+  owes-right : (c : Call) → OwedRight (sheetOf s) (callOn s kept c .after .table)
+  owes-right c i low =
+      unfalse-right (sheetOf s) ordered (callOn s kept c .after .table) i (λ b. stays-accepted c .lent .1 .1 .0 (i, low, inr b))
+
   module _ (bytes : Bytes t) where
     again : encodeTable (sheetOf s) (decodeTable t) ≡ t
     again = encoded s kept lent bytes
 
-    record-is : (j : ℕ) → j < size (sheetOf s) → row width t j ≡ encodeCell (decodeTable t j)
-    record-is j low = ap (λ u. row width u j) (sym again) ∙ encoded-record (sheetOf s) (decodeTable t) j low
+    record-is : (j : ℕ) → j < size (sheetOf s) → take owedPlace (row width t j) ≡ encodeCell (decodeTable t j)
+    record-is j low = ap (λ u. take owedPlace (row width u j)) (sym again) ∙ encoded-cell (sheetOf s) (decodeTable t) j low
 
     -- the records of a table with one cell stored
-    row-here : (i : ℕ) → i < size (sheetOf s) → (d : Cell) → row width (encodeTable (sheetOf s) (upd (decodeTable t) i d)) i ≡ encodeCell d
-    row-here i low d = encoded-record (sheetOf s) (upd (decodeTable t) i d) i low ∙ ap encodeCell (upd-same (decodeTable t) i d)
+    row-here : (i : ℕ) → i < size (sheetOf s) → (d : Cell) → take owedPlace (row width (encodeTable (sheetOf s) (upd (decodeTable t) i d)) i) ≡ encodeCell d
+    row-here i low d = encoded-cell (sheetOf s) (upd (decodeTable t) i d) i low ∙ ap encodeCell (upd-same (decodeTable t) i d)
 
-    row-other : (i : ℕ) (d : Cell) (j : ℕ) → j < size (sheetOf s) → ¬ (j ≡ i) → row width (encodeTable (sheetOf s) (upd (decodeTable t) i d)) j ≡ row width t j
-    row-other i d j l n = encoded-record (sheetOf s) (upd (decodeTable t) i d) j l ∙ ap encodeCell (upd-other (decodeTable t) i d j n) ∙ sym (record-is j l)
+    here-kind : (i : ℕ) → i < size (sheetOf s) → (d : Cell) → kindIn (row width (encodeTable (sheetOf s) (upd (decodeTable t) i d)) i) ≡ kindIn (encodeCell d)
+    here-kind i low d = kind-by (row width (encodeTable (sheetOf s) (upd (decodeTable t) i d)) i) (row-here i low d)
+
+    here-mark : (i : ℕ) → i < size (sheetOf s) → (d : Cell) → markIn (row width (encodeTable (sheetOf s) (upd (decodeTable t) i d)) i) ≡ markIn (encodeCell d)
+    here-mark i low d = mark-by (row width (encodeTable (sheetOf s) (upd (decodeTable t) i d)) i) (row-here i low d)
+
+    here-number : (i : ℕ) → i < size (sheetOf s) → (d : Cell) → numberIn (row width (encodeTable (sheetOf s) (upd (decodeTable t) i d)) i) ≡ numberIn (encodeCell d)
+    here-number i low d = number-by (row width (encodeTable (sheetOf s) (upd (decodeTable t) i d)) i) (row-here i low d)
+
+    row-other : (i : ℕ) (d : Cell) (j : ℕ) → j < size (sheetOf s) → ¬ (j ≡ i)
+        → take owedPlace (row width (encodeTable (sheetOf s) (upd (decodeTable t) i d)) j) ≡ take owedPlace (row width t j)
+    row-other i d j l n = encoded-cell (sheetOf s) (upd (decodeTable t) i d) j l ∙ ap encodeCell (upd-other (decodeTable t) i d j n) ∙ sym (record-is j l)
+
+    -- a store that leaves stored what was changes no other record
+    row-kept : (i : ℕ) → i < size (sheetOf s) → (d : Cell) → isStored d ≡ isStored (decodeTable t i) → (j : ℕ) → j < size (sheetOf s) → ¬ (j ≡ i)
+        → row width (encodeTable (sheetOf s) (upd (decodeTable t) i d)) j ≡ row width t j
+    row-kept i low d stored j l n =
+        ap (λ u. row width u j) (encode-upd (sheetOf s) ordered (decodeTable t) i d low stored ∙ ap (λ u. setRow width u i (encodeCell d)) again)
+        ∙ row-setRow-other width t i j (encodeCell d) (omega (arith, length-encodeCell d)) n
 
     -- kind and mark of the record of a cell
     kind-of : (i : ℕ) → i < size (sheetOf s) → (c : Cell) → decodeTable t i ≡ c → kindIn (row width t i) ≡ kindIn (encodeCell c)
-    kind-of i low c e = ap kindIn (record-is i low ∙ ap encodeCell e)
+    kind-of i low c e = kind-by (row width t i) (record-is i low ∙ ap encodeCell e)
 
     mark-of : (i : ℕ) → i < size (sheetOf s) → (c : Cell) → decodeTable t i ≡ c → markIn (row width t i) ≡ markCode (markOf c)
-    mark-of i low c e = ap markIn (record-is i low ∙ ap encodeCell e) ∙ mark-cell c
+    mark-of i low c e = mark-by (row width t i) (record-is i low ∙ ap encodeCell e) ∙ mark-cell c
 
     keep-leaves : (i : ℕ) → callOn s kept (keep i) .number ≡ 0 → KeepLeaves (sheetOf s) t i (callOn s kept (keep i) .after .table)
     unfolding effect keepFigure
@@ -218,10 +244,10 @@ module _ (s : List ℕ) (kept : Office) (lent : AcceptedLent s kept) where
             → DropLeaves (size (sheetOf s)) t i (encodeTable (sheetOf s) (upd (decodeTable t) i (unk b)))
         blank b refreshed remains =
             record {
-              kind-0 = ap kindIn (row-here i low (unk b)) ∙ unk-kind b;
-              number-0 = ap numberIn (row-here i low (unk b)) ∙ unk-number b;
-              refresh-noticed = λ h. ap markIn (row-here i low (unk b)) ∙ mark-cell (unk b) ∙ ap (λ x. markCode (noticeIf x)) (refreshed h);
-              other-marks = λ h. ap markIn (row-here i low (unk b)) ∙ mark-cell (unk b) ∙ remains h;
+              kind-0 = here-kind i low (unk b) ∙ unk-kind b;
+              number-0 = here-number i low (unk b) ∙ unk-number b;
+              refresh-noticed = λ h. here-mark i low (unk b) ∙ mark-cell (unk b) ∙ ap (λ x. markCode (noticeIf x)) (refreshed h);
+              other-marks = λ h. here-mark i low (unk b) ∙ mark-cell (unk b) ∙ remains h;
               others = row-other i (unk b);
             }
 
@@ -316,6 +342,10 @@ module _ (s : List ℕ) (kept : Office) (lent : AcceptedLent s kept) where
         table-is : callOn s kept (post i kind z) .after .table ≡ encodeTable S (upd T i (postCell (T i) v))
         table-is = ap (λ g. g .after .table) (is (post i kind z) zero) ∙ ap (λ w. encodeTable S (postIt T i w)) (p .posted)
 
+        -- an entry is stored
+        there : isStored (T i) ≡ true
+        there = entry-there (isFigure (itemAt S i)) (T i) (own (post i kind z) zero .1 .0) (holdable i low)
+
         formed : (d : Cell) → postCell (T i) v ≡ d → wellFormed (valueIn d) ≡ true
         formed d e =
             subst (λ c. wellFormed (valueIn c) ≡ true) (upd-same T i (postCell (T i) v) ∙ e)
@@ -326,22 +356,22 @@ module _ (s : List ℕ) (kept : Office) (lent : AcceptedLent s kept) where
             → PostLeaves (size S) t i kind z (encodeTable S (upd T i (held v notice)))
         new differs w =
             record {
-              kind-is = ap kindIn (row-here i low (held v notice)) ∙ held-kind v notice ∙ p .kind-is;
-              number-is = ap numberIn (row-here i low (held v notice)) ∙ held-number v notice w ∙ p .number-is;
+              kind-is = here-kind i low (held v notice) ∙ held-kind v notice ∙ p .kind-is;
+              number-is = here-number i low (held v notice) ∙ held-number v notice w ∙ p .number-is;
               equal = λ k n. absurd (differs (k, n));
-              noticed = λ n. ap markIn (row-here i low (held v notice)) ∙ mark-cell (held v notice);
-              others = row-other i (held v notice);
+              noticed = λ n. here-mark i low (held v notice) ∙ mark-cell (held v notice);
+              others = row-kept i low (held v notice) (sym there);
             }
 
         -- an equal value changes nothing
         old : (w : Value) (m : Mark) → T i ≡ held w m → w ≡ v → wellFormed w ≡ true → PostLeaves (size S) t i kind z (encodeTable S (upd T i (held w m)))
         old w m e q f =
             record {
-              kind-is = ap kindIn (row-here i low (held w m)) ∙ kind-here;
-              number-is = ap numberIn (row-here i low (held w m)) ∙ number-here;
+              kind-is = here-kind i low (held w m) ∙ kind-here;
+              number-is = here-number i low (held w m) ∙ number-here;
               equal = λ k n. encodeTable-ext S (upd T i (held w m)) T (λ j l. unchanged j) ∙ again;
-              noticed = λ n. absurd (n (ap kindIn here ∙ kind-here, ap numberIn here ∙ number-here));
-              others = row-other i (held w m);
+              noticed = λ n. absurd (n (kind-by (row width t i) here ∙ kind-here, number-by (row width t i) here ∙ number-here));
+              others = row-kept i low (held w m) (sym there);
             }
           where
             kind-here : kindIn (encodeCell (held w m)) ≡ kind
@@ -350,7 +380,7 @@ module _ (s : List ℕ) (kept : Office) (lent : AcceptedLent s kept) where
             number-here : numberIn (encodeCell (held w m)) ≡ z
             number-here = held-number w m f ∙ ap numberOf q ∙ p .number-is
 
-            here : row width t i ≡ encodeCell (held w m)
+            here : take owedPlace (row width t i) ≡ encodeCell (held w m)
             here = record-is i low ∙ ap encodeCell e
 
             unchanged : (j : ℕ) → upd T i (held w m) j ≡ T j
@@ -363,7 +393,7 @@ module _ (s : List ℕ) (kept : Office) (lent : AcceptedLent s kept) where
         pick : (c : Cell) → T i ≡ c → PostLeaves (size S) t i kind z (encodeTable S (upd T i (postCell (T i) v)))
         pick (unk f) e =
             subst (λ d. PostLeaves (size S) t i kind z (encodeTable S (upd T i d))) (sym stores)
-            (new (λ both. omega (arith, both .0, ap kindIn (record-is i low ∙ ap encodeCell e), unk-kind f, p .kind-is, some-kind v)) (formed (held v notice) stores))
+            (new (λ both. omega (arith, both .0, kind-by (row width t i) (record-is i low ∙ ap encodeCell e), unk-kind f, p .kind-is, some-kind v)) (formed (held v notice) stores))
           where
             stores : postCell (T i) v ≡ held v notice
             stores = ap (λ c. postCell c v) e
@@ -383,7 +413,7 @@ module _ (s : List ℕ) (kept : Office) (lent : AcceptedLent s kept) where
                 stores : postCell (T i) v ≡ held v notice
                 stores = ap (λ c. postCell c v) e ∙ ap (λ b. cond b (held w m) (held v notice)) q
 
-                here : row width t i ≡ encodeCell (held w m)
+                here : take owedPlace (row width t i) ≡ encodeCell (held w m)
                 here = record-is i low ∙ ap encodeCell e
 
                 stored : wellFormed w ≡ true
@@ -391,8 +421,8 @@ module _ (s : List ℕ) (kept : Office) (lent : AcceptedLent s kept) where
 
                 differs : ¬ ((kindIn (row width t i) ≡ kind) × (numberIn (row width t i) ≡ z))
                 differs (k, n) =
-                    let kinds : kindOf w ≡ kindOf v = sym (held-kind w m) ∙ ap kindIn (sym here) ∙ k ∙ sym (p .kind-is) in
-                    let numbers : numberOf w ≡ numberOf v = sym (held-number w m stored) ∙ ap numberIn (sym here) ∙ n ∙ sym (p .number-is) in
+                    let kinds : kindOf w ≡ kindOf v = sym (held-kind w m) ∙ sym (kind-by (row width t i) here) ∙ k ∙ sym (p .kind-is) in
+                    let numbers : numberOf w ≡ numberOf v = sym (held-number w m stored) ∙ sym (number-by (row width t i) here) ∙ n ∙ sym (p .number-is) in
                     let same-v : same w v ≡ true = ap (λ u. same u v) (value-same w v kinds numbers) ∙ same-refl v in
                     let bad : _≡_ {A = ℕ} 0 1 = cc in omega arith
 
@@ -400,7 +430,7 @@ module _ (s : List ℕ) (kept : Office) (lent : AcceptedLent s kept) where
         → NoMarkStands (sheetOf s) (callOn s kept (board items results) .after .table)
     board-quiets items results z n k low =
         ap (λ u. markIn (row width u k)) (left .shows n .1)
-        ∙ ap markIn (encoded-record S U k low) ∙ mark-cell (U k) ∙ unmarked-code (markOf (U k)) (fill-quiet S ordered C U (size S) fill quiet k low)
+        ∙ encoded-mark S U k low ∙ mark-cell (U k) ∙ unmarked-code (markOf (U k)) (fill-quiet S ordered C U (size S) fill quiet k low)
       where
         S : Sheet
         S = sheetOf s
@@ -426,6 +456,7 @@ module _ (s : List ℕ) (kept : Office) (lent : AcceptedLent s kept) where
           index-kept = index-same;
           accepted = stays-accepted;
           bytes = stays-bytes bytes;
+          owes = owes-right;
           posts = post-leaves;
           keeps = keep-leaves;
           drops = drop-leaves;

@@ -21,7 +21,7 @@ use Rattle.word.specs.Word.{Bytes}
 use Rattle.item.specs.Offsets.{sameBytes}
 use Rattle.item.proofs.Offsets.{same-refl, same-equal}
 use Rattle.table.specs.Record.{width}
-use Rattle.table.specs.Bytes.{encodeTable, decodeTable, tableForm, Holdable}
+use Rattle.table.specs.Bytes.{encodeTable, decodeTable, tableForm, owedTrue, Holdable}
 use Rattle.table.proofs.Tables.{encode-decodeTable, decoded-holdable}
 use Rattle.office.specs.Office.{Office, keeping, resultsLent, callOn}
 use Rattle.office.specs.Demand1Words.{IndexNotAsOpened, AcceptedLent}
@@ -46,8 +46,8 @@ module _ (s : List ℕ) (kept : Office) (lent : AcceptedLent s kept) where
       go : (edition : ℕ) × (ps : List Placed) × (readSheet s ≡ opens edition ps) → Ordered (sheetOf s)
       go (edition, ps, e) = subst Ordered (sym (opens-sheet s edition ps e)) (opened-ordered s edition ps e)
 
-  form : tableForm (sheetOf s) t ≡ true
-  form = unbroken-form (sheetOf s) t (lent .lent .1 .1 .0)
+  form : (tableForm (sheetOf s) t ≡ true) × (owedTrue (sheetOf s) t ≡ true)
+  form = unbroken-form (sheetOf s) ordered t (lent .lent .1 .1 .0)
 
   pub long : length t ≡ width * size (sheetOf s)
   long = go (tells-eq (length t) (width * size (sheetOf s)))
@@ -57,14 +57,14 @@ module _ (s : List ℕ) (kept : Office) (lent : AcceptedLent s kept) where
       go (fails n) = absurd (lent .lent .0 (inr n))
 
   pub holdable : Holdable (sheetOf s) (decodeTable t)
-  holdable = decoded-holdable (sheetOf s) t form
+  holdable = decoded-holdable (sheetOf s) t (form .0)
 
   pub within : Within (sheetOf s) (decodeTable t)
   within = decoded-beyond (sheetOf s) t long
 
   -- the table is the encoding of what it decodes to
   pub encoded : Bytes t → encodeTable (sheetOf s) (decodeTable t) ≡ t
-  encoded bytes = encode-decodeTable (sheetOf s) t bytes long form
+  encoded bytes = encode-decodeTable (sheetOf s) t bytes long (form .0) (form .1)
 
   -- with this index and the encoding of a table the calls are the machine's
   pub performs : (U : Table) (c : Call) → Holdable (sheetOf s) U → Within (sheetOf s) U

@@ -12,5 +12,6 @@ pub mod Lent
 pub mod Leaves
 pub mod Meaning
 pub mod Older
+pub mod OwedBytes
 pub mod Refusals
 pub mod Words

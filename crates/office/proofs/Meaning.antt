@@ -8,12 +8,13 @@ use mathlib.Core.List.{List, [], _∷_, map}
 use mathlib.Core.Logic.{inl, inr, _↔_}
 use mathlib.Core.Option.{none}
 use lib.Dec.{eqb}
-use lib.ListN.{length, getD, length-map, List·getD-map}
+use lib.ListN.{length, getD, take, length-map, List·getD-map}
 use Rattle.word.specs.Word.{leBytes}
 use Rattle.circuit.specs.Value.{Value, kindOf, numberOf}
-use Rattle.circuit.specs.Circuit.{Circuit, IsSolution}
-use Rattle.circuit.specs.Sheet.{Sheet, Ordered, Entries, itemAt, size, isFigure, circuitOf}
-use Rattle.circuit.specs.Table.{Table, Mark, unk, held, isStored, noticeIf, valueIn, opened}
+use Rattle.circuit.specs.Circuit.{Circuit, Listed, LeadsTo, direct, further, IsSolution}
+use Rattle.circuit.specs.Sheet.{Sheet, Item, entry, figure, Ordered, Entries, itemAt, size, isFigure, parentsOf, parents, circuitOf}
+use Rattle.circuit.specs.Table.{Table, Mark, unk, held, isStored, noticeIf, valueIn, bareCell, openBare, openFull, opened}
+use Rattle.circuit.specs.Owed.{owed}
 use Rattle.circuit.specs.Machine.{Looked, lookUp, catchUp, keepFigure, keepCell}
 use Rattle.circuit.specs.Call.{Call, keep, ask, board, Opening, bare, full}
 use Rattle.circuit.specs.Board.{listed}
@@ -22,6 +23,7 @@ use Rattle.circuit.specs.Words.{Bare}
 use Rattle.circuit.proofs.Solution.{solution, solution-solves, solution-unique, sheet-acyclic, below-listed, figure-below}
 use Rattle.circuit.proofs.View.{view, view-at}
 use Rattle.circuit.proofs.Fill.{Fill, Filling, stays, fills, fill-refl, look-right, looks-right, keep-fill, upd-same}
+use Rattle.circuit.proofs.Owed.{Child, owed-child, owed-finds, owed-leads}
 use Rattle.circuit.proofs.Accepted.{board-passed}
 use Rattle.circuit.proofs.Reading.{bare-look}
 use Rattle.circuit.proofs.Sound.{Sound}
@@ -36,13 +38,14 @@ use Rattle.layout.specs.Index.{indexWidth, bytes32, indexBytes}
 use Rattle.layout.proofs.Tests.{Tells, holds, fails, tells-eq}
 use Rattle.layout.proofs.Exactly.{written-opens, places-layout, places-offset, opened-written, layout-unique}
 use Rattle.layout.proofs.Causes.{opens-faultless}
+use Rattle.layout.proofs.Scan.{opened-ordered}
 use Rattle.layout.proofs.IndexLaws.{index-length, opened-entry}
 use Rattle.layout.proofs.WrittenBytes.{Bytes-append}
 use Rattle.table.specs.Rows.{row}
-use Rattle.table.specs.Record.{width, kindIn, markIn, numberIn, cellCoded, encodeCell, decodeCell}
+use Rattle.table.specs.Record.{width, owedPlace, kindIn, markIn, numberIn, owedIn, owedCode, cellCoded, encodeCell, decodeCell}
 use Rattle.table.specs.Bytes.{encodeTable, decodeTable, Holdable}
-use Rattle.table.proofs.Records.{number-fits, number-again}
-use Rattle.table.proofs.Tables.{length-encodeTable, encoded-record, holdable-formed}
+use Rattle.table.proofs.Records.{kind-by, number-by, number-fits, number-again}
+use Rattle.table.proofs.Tables.{length-encodeTable, encoded-cell, encoded-owed, holdable-formed}
 use Rattle.office.specs.Office.{Office, keeping, resultsOf, accepted, effectOn, callOn, openOn, runOn}
 use Rattle.office.specs.Demand1Words.{opening, calling, LengthsWrong, NoneHolds, ownCauses, AcceptedLent}
 use Rattle.office.specs.Demand2Words.{answerOf, FollowsLayout, openedRecord, Writes, NoneStored, entriesIn, reading, OnlySolution, Stores, StoredRight, Gives}
@@ -93,6 +96,9 @@ module _ (s : List ℕ) (kept : Office) (f : FollowsLayout s kept) where
 
   pub fits-sheet : sheetOf s ≡ machineSheet (f .layout)
   fits-sheet = opens-sheet s (f .layout .edition) (places (f .layout)) fits-reads ∙ ap machineSheet (places-layout (f .layout))
+
+  layout-ordered : Ordered (machineSheet (f .layout))
+  layout-ordered = subst (λ l. Ordered (machineSheet l)) (places-layout (f .layout)) (opened-ordered s (f .layout .edition) (places (f .layout)) fits-reads)
 
   places-counted : length (places (f .layout)) ≡ length (f .layout .items)
   places-counted = sym (length-map (places (f .layout)) (λ p. p .item)) ∙ ap (λ l. length (l .items)) (places-layout (f .layout))
@@ -148,6 +154,33 @@ item-at : (l : Layout) (i : ℕ) → itemAt (machineSheet l) i ≡ machineItem (
 unfolding machineItem
 item-at l i = List·getD-map machineItem (l .items) i (entryField [])
 
+-- opened bare, nothing is owed: what an item leads to is a figure
+bare-unowed : (S : Sheet) → Ordered S → (j : ℕ) → owed S (openBare S) j ≡ false
+bare-unowed S ordered j = go (owed S (openBare S) j) refl
+  where
+    unstored : (it : Item) (p : ℕ) → Listed p (parentsOf it) → isStored (bareCell it) ≡ false
+    unstored entry p l = absurd l
+    unstored (figure op kept spread ps) p l = refl
+
+    last : (k : ℕ) → LeadsTo (circuitOf S) j k → isStored (openBare S k) ≡ false
+    last k (direct l) = unstored (itemAt S k) j l
+    last k (further {b} p l) = unstored (itemAt S k) b l
+
+    go : (b : Bool) → owed S (openBare S) j ≡ b → b ≡ false
+    go false e = refl
+    go true e =
+        let k = owed-leads S ordered (openBare S) j e in
+        let none : isStored (openBare S (k .0)) ≡ false = last (k .0) (k .1 .0) in
+        sym (k .1 .1) ∙ none
+
+-- opened full, an item without a child is not owed
+full-unowed : (S : Sheet) → Ordered S → (j : ℕ) → ((c : ℕ) → ¬ Listed j (parents S c)) → owed S (openFull S) j ≡ false
+full-unowed S ordered j childless = go (owed S (openFull S) j) refl
+  where
+    go : (b : Bool) → owed S (openFull S) j ≡ b → b ≡ false
+    go false e = refl
+    go true e = let c : Child S (openFull S) j = owed-finds S ordered (openFull S) j e in absurd (childless (c .item) (c .listed))
+
 pub opening-writes : (how : Opening) (s : List ℕ) (kept : Office) (f : FollowsLayout s kept) → Writes how (f .layout) (openOn how s kept)
 opening-writes how s kept f = subst (Writes how l) (sym (fits-gives s kept f how)) wrote
   where
@@ -163,12 +196,18 @@ opening-writes how s kept f = subst (Writes how l) (sym (fits-gives s kept f how
     sized : size S ≡ length (l .items)
     sized = length-map (l .items) machineItem
 
-    record-at : (j : ℕ) → j < length (l .items) → row width (encodeTable S (opened how S)) j ≡ openedRecord how (getD (l .items) j (entryField []))
+    record-at : (j : ℕ) → j < length (l .items) → take owedPlace (row width (encodeTable S (opened how S)) j) ≡ openedRecord how (getD (l .items) j (entryField []))
     record-at j low =
-        encoded-record S (opened how S) j (omega (arith, sized))
+        encoded-cell S (opened how S) j (omega (arith, sized))
         ∙ ap encodeCell (opened-at how S j)
         ∙ ap (λ it. encodeCell (opened how (it ∷ []) 0)) (item-at l j)
         ∙ record-opened how (getD (l .items) j (entryField []))
+
+    ordered-here : Ordered S
+    ordered-here = layout-ordered s kept f
+
+    owed-at : (j : ℕ) → j < length (l .items) → owedIn (row width (encodeTable S (opened how S)) j) ≡ owedCode (owed S (opened how S) j)
+    owed-at j low = encoded-owed S (opened how S) j (omega (arith, sized))
 
     wrote : Writes how l (accepted none [] (keeping (indexBytes ps) (encodeTable S (opened how S))))
     wrote =
@@ -180,6 +219,9 @@ opening-writes how s kept f = subst (Writes how l) (sym (fits-gives s kept f how
           offsets = λ j low. opened-entry s (l .edition) ps (fits-reads s kept f) j (omega (arith, places-counted s kept f)) ∙ places-offset l j low;
           table-long = length-encodeTable S (opened how S) ∙ ap (λ n. width * n) sized;
           records = record-at;
+          bare-owed = λ e j low. owed-at j low ∙ ap owedCode (ap (λ h. owed S (opened h S) j) e ∙ bare-unowed S ordered-here j);
+          full-owed = λ e j low c listed. owed-at j low ∙ ap owedCode (ap (λ h. owed S (opened h S) j) e ∙ owed-child S ordered-here (openFull S) j c listed refl);
+          full-unowed = λ e j low childless. owed-at j low ∙ ap owedCode (ap (λ h. owed S (opened h S) j) e ∙ full-unowed S ordered-here j childless);
         }
 
 -- opened bare, no figure is stored
@@ -190,7 +232,7 @@ bare-record (figureField rule kept spread parents name) e = refl
 
 pub bare-unstored : (s : List ℕ) (kept : Office) (f : FollowsLayout s kept) → NoneStored s (openOn bare s kept .after .table)
 bare-unstored s kept f k low fig =
-    ap kindIn (opening-writes bare s kept f .records k (omega (arith, counted s kept f)))
+    kind-by (row width (openOn bare s kept .after .table) k) (opening-writes bare s kept f .records k (omega (arith, counted s kept f)))
     ∙ bare-record (getD (f .layout .items) k (entryField [])) (ap isFigure (sym (ap (λ S. itemAt S k) (fits-sheet s kept f) ∙ item-at (f .layout) k)) ∙ fig)
 
 pub opens-exactly : (how : Opening) (s : List ℕ) (kept : Office) → Bytes s → (openOn how s kept .number ≡ 0) ↔ FollowsLayout s kept
@@ -252,8 +294,8 @@ module _ (s : List ℕ) (kept : Office) (lent : AcceptedLent s kept) (none-store
     keep-gives i low fig = (
       ap (λ g. g .number) done,
       (
-        ap (λ g. kindIn (row width (g .after .table) i)) done ∙ ap kindIn stored ∙ ap kindOf value,
-        ap (λ g. numberIn (row width (g .after .table) i)) done ∙ ap numberIn stored
+        ap (λ g. kindIn (row width (g .after .table) i)) done ∙ kind-by (row width (encodeTable (sheetOf s) (keepFigure (sheetOf s) (decodeTable t) i)) i) stored ∙ ap kindOf value,
+        ap (λ g. numberIn (row width (g .after .table) i)) done ∙ number-by (row width (encodeTable (sheetOf s) (keepFigure (sheetOf s) (decodeTable t) i)) i) stored
             ∙ number-again _ _ _ (number-fits v (look-formed (sheetOf s) sheet-ordered (decodeTable t) i low holdable)) ∙ ap numberOf value,
       ),
     )
@@ -276,8 +318,8 @@ module _ (s : List ℕ) (kept : Office) (lent : AcceptedLent s kept) (none-store
             ap (λ c. keepCell (sheetOf s) (decodeTable t) i c i) (unk-cell (row width t i) (none-stored i low fig))
             ∙ upd-same (looked .table) i (held v (noticeIf (looked .flag)))
 
-        stored : row width (encodeTable (sheetOf s) (keepFigure (sheetOf s) (decodeTable t) i)) i ≡ encodeCell (held v (noticeIf (looked .flag)))
-        stored = encoded-record (sheetOf s) _ i low ∙ ap encodeCell cell
+        stored : take owedPlace (row width (encodeTable (sheetOf s) (keepFigure (sheetOf s) (decodeTable t) i)) i) ≡ encodeCell (held v (noticeIf (looked .flag)))
+        stored = encoded-cell (sheetOf s) _ i low ∙ ap encodeCell cell
 
     -- on a table whose look-ups give the solution, a fill holds the solution's values
     fill-right : (C U : Table) → Fill (sheetOf s) C U → ((k : ℕ) → k < size (sheetOf s) → lookUp (sheetOf s) C k .value ≡ values k)

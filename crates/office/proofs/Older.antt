@@ -5,6 +5,7 @@ use native.Mathlib.Omega.{arith}
 use mathlib.Core.Path.{_≡_, refl}
 use mathlib.Core.Bool.{Bool, true}
 use mathlib.Core.List.{List, [], _∷_, _++_}
+use mathlib.Core.Logic.{inl, inr}
 use lib.Dec.{leb}
 use lib.IntN.{ℤ, pos, natAbs}
 use borrow.Author.Tests.{leb-true}
@@ -22,7 +23,7 @@ use Rattle.office.specs.Office.{Office, keeping, openOn, runOn}
 use Rattle.office.specs.Demand1Words.{BeyondLimit, RecordBroken, kindUnknown, markUnknown, entryUnk, entryOut, entryRefresh, unkRefresh, numberNotZero, beyondRange}
 use Rattle.office.specs.Demand1Words.{TableBrokenUnder, AcceptedUnder, AcceptedLent}
 use Rattle.office.proofs.Refusals.{accepted-lent}
-use Rattle.office.proofs.Examples.{calls, exampleIndex, zeros8, nullRecord, unkRecord, answers, answer}
+use Rattle.office.proofs.Examples.{calls, exampleIndex, zeros8, nullRecord, unkRecord, unowed, owing, answers, answer}
 
 -- a record is broken under another range too, if a number beyond the one is beyond the other
 record-under : {most other : ℕ} {figure : Bool} {k m : ℕ} {z : ℤ} → (BeyondLimit most z → BeyondLimit other z) → RecordBroken most figure k m z
@@ -43,7 +44,8 @@ accepted-under : (most other : ℕ) (s : List ℕ) (o : Office)
 accepted-under most other s o h a = record { sheet = a .sheet; lent = (a .lent .0, (a .lent .1 .0, (unbroken, tt))) }
   where
     unbroken : ¬ TableBrokenUnder other (sheetOf s) (o .table)
-    unbroken (i, low, broken) = a .lent .1 .1 .0 (i, low, record-under (h i low) broken)
+    unbroken (i, low, inl broken) = a .lent .1 .1 .0 (i, low, inl (record-under (h i low) broken))
+    unbroken (i, low, inr false-byte) = a .lent .1 .1 .0 (i, low, inr false-byte)
 
 -- what is accepted under a lower limit is accepted
 pub lower-accepted : (most : ℕ) → most ≤ limit → (s : List ℕ) (o : Office) → AcceptedUnder most s o → AcceptedLent s o
@@ -64,7 +66,8 @@ older-accepted s o a = lower-accepted formerLimit former-lower s o a
 -- A table from before, of the example sheet: A holds the former limit and S holds 1; T, which sums them, is stored as OUT and has no
 -- mark.
 unfoldable pub olderTable : List ℕ
-olderTable = (3 ∷ 0 ∷ bytes64 (pos formerLimit)) ++ nullRecord ++ (3 ∷ 0 ∷ bytes64 (pos 1)) ++ (2 ∷ 0 ∷ zeros8) ++ unkRecord
+olderTable =
+    owing (3 ∷ 0 ∷ bytes64 (pos formerLimit)) ++ unowed nullRecord ++ owing (3 ∷ 0 ∷ bytes64 (pos 1)) ++ unowed (2 ∷ 0 ∷ zeros8) ++ unowed unkRecord
 
 -- its numbers lie within the former range
 abbrev inFormer : ℕ → Bool
@@ -92,7 +95,7 @@ older-out = (
   accepted-under limit formerLimit exampleBytes older within (accepted-lent exampleBytes older (ask 3) refl),
   refl,
   refl,
-  λ a. a .lent .1 .1 .0 (3, low, beyondRange refl above),
+  λ a. a .lent .1 .1 .0 (3, low, inl (beyondRange refl above)),
 )
   where
     within : (i : ℕ) → i < size (sheetOf exampleBytes) → BeyondLimit formerLimit (numberIn (row width olderTable i)) → BeyondLimit limit (numberIn (row width olderTable i))

@@ -2,7 +2,7 @@
 use Prim.Native.Nat.{ℕ, zero, suc, _<_, _≤_}
 use native.Mathlib.Omega.{arith}
 use mathlib.Core.Path.{_≡_, refl, sym, ap, ap₂, _∙_, subst}
-use mathlib.Core.Bool.{Bool, true, cond, not}
+use mathlib.Core.Bool.{Bool, true, cond, not, _&&_}
 use mathlib.Core.List.{List, [], _∷_}
 use mathlib.Core.Logic.{_⊎_, inl, inr, _↔_}
 use mathlib.Core.Option.{Option, none, some}
@@ -10,18 +10,20 @@ use lib.IntN.{ℤ, pos}
 use lib.ListN.{length, length-map}
 use borrow.Author.Tests.{not-false}
 use Rattle.circuit.specs.Value.{Value, kindOf, numberOf}
-use Rattle.circuit.specs.Sheet.{Sheet, size, itemAt, isFigure}
+use Rattle.circuit.specs.Sheet.{Sheet, Ordered, size, itemAt, isFigure}
 use Rattle.circuit.specs.Call.{Call, post, keep, drop, step, ask, board, close}
 use Rattle.circuit.specs.Calls.{Test, firstCause, tests, postedValue, effect, isNone}
 use Rattle.circuit.proofs.Parts.{posted-some}
+use Rattle.circuit.proofs.RuleLaws.{and-left, and-right}
 use Rattle.layout.specs.Read.{Placed, SheetRead, opens, refused, readSheet, layoutOf}
 use Rattle.layout.specs.Opened.{sheetRead, sheetOf, sheetFrom, itemsOf, placedFrom}
 use Rattle.layout.specs.Causes.{Faultless}
 use Rattle.layout.proofs.Tests.{Tells, holds, fails, tells-eq}
+use Rattle.layout.proofs.Scan.{opened-ordered}
 use Rattle.layout.proofs.Causes.{refused-exactly, opens-faultless, refused-number}
 use Rattle.table.specs.Rows.{row}
 use Rattle.table.specs.Record.{width}
-use Rattle.table.specs.Bytes.{decodeTable, tableForm}
+use Rattle.table.specs.Bytes.{decodeTable, tableForm, owedTrue}
 use Rattle.office.specs.Office.{Office, Given, resultsLent, refusal, accepted, openingTests, callTests, unlessRefused, effectOn, callRead, callOn, openRead, openOn}
 use Rattle.office.specs.Demand1Words.{Invocation, opening, calling, serve, resultsLentTo, TableBroken, NotPostable, Row, cause, ownCauses, causesIn, causesOf, First, NoneHolds}
 use Rattle.office.specs.Demand1Words.{HoldsAt, ByNumber, Lowest, Refused, bySheet, byLent, NoCause, ListsWrong, SomeNoItem, AcceptedLent, BoardRefuses, CloseRefuses}
@@ -95,19 +97,19 @@ own-tested S t (post i kind z) form =
 own-tested S t (keep i) form = (refl, omega arith, tells-beyond S i, λ low. (refl, omega arith, tells-is-not (isFigure (itemAt S i)), λ n. tt))
 own-tested S t (drop i) form = (refl, omega arith, tells-beyond S i, λ low. (refl, omega arith, tells-is-not (isFigure (itemAt S i)), λ n. tt))
 own-tested S t (step i) form =
-    (refl, omega arith, tells-beyond S i, λ low. (refl, omega arith, tells-mark (isFigure (itemAt S i)) (row width t i) (λ b. form (i, omega arith, b)), λ n. tt))
+    (refl, omega arith, tells-beyond S i, λ low. (refl, omega arith, tells-mark (isFigure (itemAt S i)) (row width t i) (λ b. form (i, omega arith, inl b)), λ n. tt))
 own-tested S t (ask i) form = (refl, omega arith, tells-beyond S i, λ low. tt)
 own-tested S t (board items results) form = (refl, omega arith, tells-lists items results, λ n. (refl, omega arith, tells-listed S items, λ m. tt))
 own-tested S t close form = tt
 
-tested : (S : Sheet) (ps : List Placed) → size S ≡ length ps → (kept : Office) (r : Invocation) → Tested (causesIn S ps kept r) (testsIn S ps kept r)
+tested : (S : Sheet) → Ordered S → (ps : List Placed) → size S ≡ length ps → (kept : Office) (r : Invocation) → Tested (causesIn S ps kept r) (testsIn S ps kept r)
 unfolding testsIn
-tested S ps e kept (opening o) = (refl, omega arith, tells-lengths S ps kept e, λ n. tt)
-tested S ps e kept (calling c) = (
+tested S ordered ps e kept (opening o) = (refl, omega arith, tells-lengths S ps kept e, λ n. tt)
+tested S ordered ps e kept (calling c) = (
   refl,
   omega arith,
   tells-lengths S ps kept e,
-  λ n. (refl, omega arith, tells-index ps (kept .index), λ m. (refl, omega arith, tells-table S (kept .table), λ form. own-tested S (kept .table) c form)),
+  λ n. (refl, omega arith, tells-index ps (kept .index), λ m. (refl, omega arith, tells-table S ordered (kept .table), λ form. own-tested S (kept .table) c form)),
 )
 
 -- ---- the lowest number
@@ -200,7 +202,7 @@ module _ (s : List ℕ) (kept : Office) (r : Invocation) where
   unfolding sheetOf itemsOf
   tested-read edition ps e =
       subst (λ q. Tested (causesIn (sheetFrom q) (placedFrom q) kept r) (testsIn (sheetRead edition ps) ps kept r)) (sym e)
-      (tested (sheetRead edition ps) ps (length-map (layoutOf edition ps .items) _ ∙ length-map ps _) kept r)
+      (tested (sheetRead edition ps) (opened-ordered s edition ps e) ps (length-map (layoutOf edition ps .items) _ ∙ length-map ps _) kept r)
 
   -- a sheet that opens has no fault
   opens-not-refused : (edition : ℕ) (ps : List Placed) (k at : ℕ) → readSheet s ≡ opens edition ps → readSheet s ≡ refused k at → ⊥
@@ -262,19 +264,21 @@ module _ (s : List ℕ) (kept : Office) (r : Invocation) where
     as-it-was (atLent edition ps j e c q) n = (suc j, 0, q)
     as-it-was (done edition ps e c z o) n = absurd (n z)
 
--- a table that is not broken is in form
-pub unbroken-form : (S : Sheet) (t : List ℕ) → ¬ TableBroken S t → tableForm S t ≡ true
-unbroken-form S t n = go (tells-table S t) refl
+-- a table that is not broken is in form, with true owed bytes
+pub unbroken-form : (S : Sheet) → Ordered S → (t : List ℕ) → ¬ TableBroken S t → (tableForm S t ≡ true) × (owedTrue S t ≡ true)
+unbroken-form S ordered t n = go (tells-table S ordered t) refl
   where
-    go : {b : Bool} → Tells (TableBroken S t) b → not (tableForm S t) ≡ b → tableForm S t ≡ true
+    go : {b : Bool} → Tells (TableBroken S t) b → not (tableForm S t && owedTrue S t) ≡ b → (tableForm S t ≡ true) × (owedTrue S t ≡ true)
     go (holds p) e = absurd (n p)
-    go (fails p) e = not-false (tableForm S t) e
+    go (fails p) e =
+        let both : (tableForm S t && owedTrue S t) ≡ true = not-false (tableForm S t && owedTrue S t) e in
+        (and-left (tableForm S t) (owedTrue S t) both, and-right (tableForm S t) (owedTrue S t) both)
 
-pub form-unbroken : (S : Sheet) (t : List ℕ) → tableForm S t ≡ true → ¬ TableBroken S t
-form-unbroken S t form b = go (tells-table S t) refl
+pub form-unbroken : (S : Sheet) → Ordered S → (t : List ℕ) → tableForm S t ≡ true → owedTrue S t ≡ true → ¬ TableBroken S t
+form-unbroken S ordered t form owes b = go (tells-table S ordered t) refl
   where
-    go : {c : Bool} → Tells (TableBroken S t) c → not (tableForm S t) ≡ c → ⊥
-    go (holds p) e = let bad : _≡_ {A = ℕ} 0 1 = cc in omega arith
+    go : {c : Bool} → Tells (TableBroken S t) c → not (tableForm S t && owedTrue S t) ≡ c → ⊥
+    go (holds p) e = let both : (tableForm S t && owedTrue S t) ≡ true = rw (form, owes) in let bad : _≡_ {A = ℕ} 0 1 = cc in omega arith
     go (fails p) e = p b
 
 pub opens-sheet : (s : List ℕ) (edition : ℕ) (ps : List Placed) → readSheet s ≡ opens edition ps → sheetOf s ≡ sheetRead edition ps

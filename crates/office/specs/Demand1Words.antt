@@ -10,7 +10,8 @@ use lib.ListN.{length}
 use mir.Syntax.{w64}
 use mir.Val.{SFits}
 use Rattle.circuit.specs.Value.{limit}
-use Rattle.circuit.specs.Sheet.{Sheet, Ordered, size, itemAt, isFigure}
+use Rattle.circuit.specs.Circuit.{Listed}
+use Rattle.circuit.specs.Sheet.{Sheet, Ordered, size, itemAt, isFigure, parents}
 use Rattle.circuit.specs.Call.{Call, post, keep, drop, step, ask, board, close, Opening}
 use Rattle.circuit.specs.Board.{listedWidth, resultWidth, mostListed}
 use Rattle.field.specs.Field.{Bytes, le16At}
@@ -19,7 +20,7 @@ use Rattle.layout.specs.Opened.{sheetOf, itemsOf}
 use Rattle.layout.specs.Index.{indexWidth, indexBytes, le32At}
 use Rattle.layout.specs.Causes.{FirstFault, Faultless, item, itemCount, tagOf, offsetOf}
 use Rattle.table.specs.Rows.{row}
-use Rattle.table.specs.Record.{width, kindIn, markIn, numberIn}
+use Rattle.table.specs.Record.{width, kindIn, markIn, numberIn, owedIn}
 use Rattle.office.specs.Office.{Office, Given, resultsLent, openOn, callOn}
 
 -- an opening, or one of the calls with its arguments
@@ -37,7 +38,7 @@ abbrev pub resultsLentTo : Invocation → List ℕ
 resultsLentTo (opening how) = []
 resultsLentTo (calling c) = resultsLent c
 
--- 8: index not 4n bytes, or table not 10n
+-- 8: index not 4n bytes, or table not 11n
 abbrev pub LengthsWrong : ℕ → Office → Type 0
 LengthsWrong n o = (¬ (length (o .index) ≡ indexWidth * n)) ⊎ (¬ (length (o .table) ≡ width * n))
 
@@ -72,11 +73,26 @@ abbrev pub RecordBrokenAt : ℕ → Sheet → List ℕ → ℕ → Type 0
 RecordBrokenAt most S t i =
     RecordBroken most (isFigure (itemAt S i)) (kindIn (row width t i)) (markIn (row width t i)) (numberIn (row width t i))
 
--- the table breaks its form, or a number the range from -most to most
-abbrev pub TableBrokenUnder : ℕ → Sheet → List ℕ → Type 0
-TableBrokenUnder most S t = (i : ℕ) × (i < size S) × RecordBrokenAt most S t i
+-- 02's "is stored, or is UNK and itself owed", by the bytes of a record
+abbrev pub StoredOrOwed : List ℕ → Type 0
+StoredOrOwed r = (¬ (kindIn r ≡ 0)) ⊎ ((kindIn r ≡ 0) × (owedIn r ≡ 1))
 
--- 10: table breaks its form, or a number its range
+-- some child is
+abbrev pub SomeChildOwes : Sheet → List ℕ → ℕ → Type 0
+SomeChildOwes S t i = (c : ℕ) × Listed i (parents S c) × StoredOrOwed (row width t c)
+
+-- The owed byte of item i is false: it is neither 1 nor 0, or 1 without such a child, or 0 with one. The children are judged by their own
+-- bytes: only the true bytes are false nowhere (`Owing`, circuit/specs/Equations).
+pub data OwedFalse (S : Sheet) (t : List ℕ) (i : ℕ) : Type 0 where
+  owedUnknown : 1 < owedIn (row width t i) → OwedFalse S t i
+  noChild : owedIn (row width t i) ≡ 1 → ¬ SomeChildOwes S t i → OwedFalse S t i
+  someChild : owedIn (row width t i) ≡ 0 → SomeChildOwes S t i → OwedFalse S t i
+
+-- the table breaks its form, or a number the range from -most to most, or an owed byte is false
+abbrev pub TableBrokenUnder : ℕ → Sheet → List ℕ → Type 0
+TableBrokenUnder most S t = (i : ℕ) × (i < size S) × (RecordBrokenAt most S t i ⊎ OwedFalse S t i)
+
+-- 10: table breaks its form, or a number its range, or an owed byte is false
 abbrev pub TableBroken : Sheet → List ℕ → Type 0
 TableBroken S t = TableBrokenUnder limit S t
 

@@ -6,11 +6,12 @@ use mathlib.Core.Path.{_≡_}
 use mathlib.Core.Bool.{Bool, true, false}
 use mathlib.Core.List.{List, [], _∷_, _++_, map}
 use lib.IntN.{ℤ, pos}
-use lib.ListN.{length, getD}
+use mathlib.Core.Logic.{_⊎_}
+use lib.ListN.{length, getD, take}
 use Rattle.circuit.specs.Value.{Value, kindOf, numberOf}
 use Rattle.circuit.specs.Rules.{Operation, apply}
-use Rattle.circuit.specs.Circuit.{IsSolution}
-use Rattle.circuit.specs.Sheet.{Sheet, Spread, figure, Ordered, Entries, size, itemAt, isFigure, circuitOf}
+use Rattle.circuit.specs.Circuit.{Listed, IsSolution}
+use Rattle.circuit.specs.Sheet.{Sheet, Spread, figure, Ordered, Entries, size, itemAt, isFigure, parents, circuitOf}
 use Rattle.circuit.specs.Table.{Table, unmarked, notice, held, upd, noticeIf, valueIn}
 use Rattle.circuit.specs.Machine.{Looked, Gathered, gather, lookUp, workOut, tell, clearMark}
 use Rattle.circuit.specs.Call.{Call, post, keep, drop, step, ask, board, close, Opening, bare, full}
@@ -18,16 +19,16 @@ use Rattle.circuit.specs.Board.{listedWidth, resultWidth, listed}
 use Rattle.circuit.specs.Words.{CaughtUp}
 use Rattle.field.specs.Field.{Bytes, le16At}
 use Rattle.word.specs.Word.{le64At}
-use Rattle.layout.specs.Layout.{Layout, LayoutItem, entryField, figureField}
+use Rattle.layout.specs.Layout.{Layout, LayoutItem, entryField, figureField, machineSheet}
 use Rattle.layout.specs.Write.{within, writeSheet}
 use Rattle.layout.specs.Places.{offsetWritten}
 use Rattle.layout.specs.Opened.{sheetOf}
 use Rattle.layout.specs.Index.{indexWidth, le32At}
 use Rattle.table.specs.Rows.{row}
-use Rattle.table.specs.Record.{width, kindIn, markIn, numberIn}
+use Rattle.table.specs.Record.{width, owedPlace, kindIn, markIn, numberIn, owedIn}
 use Rattle.table.specs.Bytes.{encodeTable, decodeTable}
 use Rattle.office.specs.Office.{Office, Given, callOn, resultsOf}
-use Rattle.office.specs.Demand1Words.{AcceptedLent}
+use Rattle.office.specs.Demand1Words.{SomeChildOwes, AcceptedLent}
 
 -- ---- what a call answers
 
@@ -47,7 +48,7 @@ reading v = record { number = 0; offset = 0; kind = kindOf v; value = numberOf v
 
 -- ---- the openings
 
--- The sheet follows the layout: it is the written form of a layout within the limits; and index and table have 4 and 10 bytes for
+-- The sheet follows the layout: it is the written form of a layout within the limits; and index and table have 4 and 11 bytes for
 -- each of its items.
 pub record FollowsLayout (s : List ℕ) (o : Office) : Type 0 where
   pub layout : Layout
@@ -56,7 +57,7 @@ pub record FollowsLayout (s : List ℕ) (o : Office) : Type 0 where
   pub index-long : length (o .index) ≡ indexWidth * length (layout .items)
   pub table-long : length (o .table) ≡ width * length (layout .items)
 
--- a record of a kind, without a mark, with the number 0
+-- the cell of a record of a kind, without a mark, with the number 0
 abbrev pub blankRecord : ℕ → List ℕ
 blankRecord kind = kind ∷ 0 ∷ 0 ∷ 0 ∷ 0 ∷ 0 ∷ 0 ∷ 0 ∷ 0 ∷ 0 ∷ []
 
@@ -66,7 +67,8 @@ openedRecord how (entryField name) = blankRecord 1
 openedRecord bare (figureField rule kept spread parents name) = blankRecord 0
 openedRecord full (figureField rule kept spread parents name) = blankRecord 1
 
--- What an opening of a layout's sheet gives: number 0; for each item the offset of its field, in 4 bytes; for each item its record.
+-- What an opening of a layout's sheet gives: number 0; for each item the offset of its field, in 4 bytes; for each item its record, of
+-- which the owed byte is 0 after a bare opening, and after a full one 1 where there is a child.
 pub record Writes (how : Opening) (l : Layout) (g : Given) : Type 0 where
   pub number-0 : g .number ≡ 0
   pub offset-0 : g .offset ≡ 0
@@ -74,7 +76,12 @@ pub record Writes (how : Opening) (l : Layout) (g : Given) : Type 0 where
   pub index-bytes : Bytes (g .after .index)
   pub offsets : (j : ℕ) → j < length (l .items) → le32At (g .after .index) (indexWidth * j) ≡ offsetWritten l j
   pub table-long : length (g .after .table) ≡ width * length (l .items)
-  pub records : (j : ℕ) → j < length (l .items) → row width (g .after .table) j ≡ openedRecord how (getD (l .items) j (entryField []))
+  pub records : (j : ℕ) → j < length (l .items)
+      → take owedPlace (row width (g .after .table) j) ≡ openedRecord how (getD (l .items) j (entryField []))
+  pub bare-owed : how ≡ bare → (j : ℕ) → j < length (l .items) → owedIn (row width (g .after .table) j) ≡ 0
+  pub full-owed : how ≡ full → (j : ℕ) → j < length (l .items) → (c : ℕ) → Listed j (parents (machineSheet l) c) → owedIn (row width (g .after .table) j) ≡ 1
+  pub full-unowed : how ≡ full → (j : ℕ) → j < length (l .items) → ((c : ℕ) → ¬ Listed j (parents (machineSheet l) c))
+      → owedIn (row width (g .after .table) j) ≡ 0
 
 -- ---- the solution
 
@@ -131,7 +138,13 @@ pub record ResultWords (r : List ℕ) (kind : ℕ) (z : ℤ) : Type 0 where
 
 -- ---- the table
 
--- the table's bytes are those of the cells T
+-- 02's owed byte: it is 1 and some child is stored, or is UNK and itself owed; or it is 0 and there is no such child
+abbrev pub OwedRight : Sheet → List ℕ → Type 0
+OwedRight S t =
+    (i : ℕ) → i < size S
+    → ((owedIn (row width t i) ≡ 1) × SomeChildOwes S t i) ⊎ ((owedIn (row width t i) ≡ 0) × (¬ SomeChildOwes S t i))
+
+-- the table's bytes are those of the cells T, with their owed bytes
 abbrev pub HasCells : Sheet → List ℕ → Table → Type 0
 HasCells S t T = t ≡ encodeTable S T
 
@@ -149,13 +162,13 @@ pub record KeepLeaves (S : Sheet) (t : List ℕ) (i : ℕ) (u : List ℕ) : Type
   pub stored : kindIn (row width t i) ≡ 0
       → let r : Looked = lookUp S (decodeTable t) i in HasCells S u (upd (r .table) i (held (r .value) (noticeIf (r .flag))))
 
--- "UNK; mark refresh becomes notice, other marks remain." The other records are as they were.
+-- "UNK; mark refresh becomes notice, other marks remain." The other records are as they were but for their owed bytes (`OwedRight`).
 pub record DropLeaves (n : ℕ) (t : List ℕ) (i : ℕ) (u : List ℕ) : Type 0 where
   pub kind-0 : kindIn (row width u i) ≡ 0
   pub number-0 : numberIn (row width u i) ≡ pos 0
   pub refresh-noticed : markIn (row width t i) ≡ 1 → markIn (row width u i) ≡ 2
   pub other-marks : ¬ (markIn (row width t i) ≡ 1) → markIn (row width u i) ≡ markIn (row width t i)
-  pub others : (j : ℕ) → j < n → ¬ (j ≡ i) → row width u j ≡ row width t j
+  pub others : (j : ℕ) → j < n → ¬ (j ≡ i) → take owedPlace (row width u j) ≡ take owedPlace (row width t j)
 
 -- "For refresh, work it out anew from its parents; if equal, clear the mark and finish, else store it and set notice. For notice,
 -- tell the children, then clear the mark."
@@ -217,6 +230,8 @@ pub record CallsLeave (s : List ℕ) (o : Office) : Type 0 where
   pub index-kept : (c : Call) → callOn s o c .after .index ≡ o .index
   pub accepted : (c : Call) → AcceptedLent s (callOn s o c .after)
   pub bytes : (c : Call) → Bytes (callOn s o c .after .table)
+  -- 02's "Every call keeps it true"
+  pub owes : (c : Call) → OwedRight (sheetOf s) (callOn s o c .after .table)
   pub posts : (i kind : ℕ) (z : ℤ) → let g : Given = callOn s o (post i kind z) in
       g .number ≡ 0 → PostLeaves (size (sheetOf s)) (o .table) i kind z (g .after .table)
   pub keeps : (i : ℕ) → let g : Given = callOn s o (keep i) in g .number ≡ 0 → KeepLeaves (sheetOf s) (o .table) i (g .after .table)

@@ -52,7 +52,7 @@ pub record Refuses : Type 0 where
 -- every call leaves exactly the table that 01 describes, a board the table and the results, and a season-close run the table, that 02
 -- describes.
 pub record Means : Type 0 where
-  -- a sheet that is lent with an index and a table of 4 and 10 bytes an item
+  -- a sheet that is lent with an index and a table of 4 and 11 bytes an item
   pub opens : (how : Opening) (s : List ℕ) (o : Office) → Bytes s → (openOn how s o .number ≡ 0) ↔ FollowsLayout s o
   -- what the openings write; the circuit is the layout's, and a sheet has one layout only
   pub writes : (how : Opening) (s : List ℕ) (o : Office) (f : FollowsLayout s o) → Writes how (f .layout) (openOn how s o)

@@ -18,7 +18,7 @@ use Rattle.layout.specs.Index.{indexWidth, indexBytes}
 use Rattle.item.specs.Offsets.{sameBytes}
 use Rattle.word.specs.Word.{bytes64}
 use Rattle.table.specs.Record.{width}
-use Rattle.table.specs.Bytes.{encodeTable, decodeTable, tableForm}
+use Rattle.table.specs.Bytes.{encodeTable, decodeTable, tableForm, owedTrue}
 
 -- What an office keeps from call to call: the index and the table.
 pub record Office : Type 0 where
@@ -72,7 +72,7 @@ numberRead (some v) = numberOf v
 abbrev pub accepted : Option Value → List Value → Office → Given
 accepted v vs o = record { number = 0; offset = 0; kind = kindRead v; value = numberRead v; results = resultsOf vs; after = o }
 
--- 8: index not 4n bytes, or table not 10n
+-- 8: index not 4n bytes, or table not 11n
 abbrev pub lengthsOff : ℕ → ℕ → ℕ → Bool
 lengthsOff n index table = not (eqb index (indexWidth * n) && eqb table (width * n))
 
@@ -83,9 +83,9 @@ lengthsWrong ps x t = lengthsOff (length ps) (length x) (length t)
 abbrev pub indexWrong : List Placed → List ℕ → Bool
 indexWrong ps x = not (sameBytes x (indexBytes ps))
 
--- 10: table breaks its form, or a number its range
+-- 10: table breaks its form, or a number its range, or an owed byte is false
 abbrev pub tableWrong : Sheet → List ℕ → Bool
-tableWrong S t = not (tableForm S t)
+tableWrong S t = not (tableForm S t && owedTrue S t)
 
 -- the tests of an opening, after the sheet has been read
 abbrev pub openingTests : List Placed → Office → List Test

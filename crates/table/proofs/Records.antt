@@ -1,6 +1,6 @@
 -- Records: which cells are encoded and decoded, and that the two are inverse. Assumes nothing.
 use Prim.Native.Nat.{ℕ, zero, suc, _<_}
-use mathlib.Core.Path.{_≡_, refl, ap, _∙_}
+use mathlib.Core.Path.{_≡_, refl, sym, ap, _∙_}
 use mathlib.Core.Bool.{Bool, true, false, not, _&&_}
 use mathlib.Core.List.{List, [], _∷_}
 use native.Mathlib.Omega.{arith}
@@ -90,13 +90,13 @@ parts figure r t =
 -- ---- the parts of a record are those of its first bytes
 
 module _ (r : List ℕ) where
-  pub kind-front : kindIn (take owedPlace r) ≡ kindIn r
+  kind-front : kindIn (take owedPlace r) ≡ kindIn r
   kind-front = getD-take owedPlace r 0 0 (omega arith)
 
-  pub mark-front : markIn (take owedPlace r) ≡ markIn r
+  mark-front : markIn (take owedPlace r) ≡ markIn r
   mark-front = getD-take owedPlace r 1 0 (omega arith)
 
-  pub number-front : numberIn (take owedPlace r) ≡ numberIn r
+  number-front : numberIn (take owedPlace r) ≡ numberIn r
   number-front = ap (λ (x : ℕ). toZ w64 x) (leAt-take 8 r 2 owedPlace (omega arith))
 
   pub decode-front : decodeCell (take owedPlace r) ≡ decodeCell r
@@ -106,6 +106,16 @@ module _ (r : List ℕ) where
   pub form-front : (figure : Bool) → recordForm figure (take owedPlace r) ≡ recordForm figure r
   unfolding recordForm
   form-front figure = rw (kind-front, mark-front, number-front)
+
+-- the parts of a record, by its first bytes
+pub kind-by : (r : List ℕ) {q : List ℕ} → take owedPlace r ≡ q → kindIn r ≡ kindIn q
+kind-by r e = sym (kind-front r) ∙ ap kindIn e
+
+pub mark-by : (r : List ℕ) {q : List ℕ} → take owedPlace r ≡ q → markIn r ≡ markIn q
+mark-by r e = sym (mark-front r) ∙ ap markIn e
+
+pub number-by : (r : List ℕ) {q : List ℕ} → take owedPlace r ≡ q → numberIn r ≡ numberIn q
+number-by r e = sym (number-front r) ∙ ap numberIn e
 
 -- ---- decoding what was encoded
 

@@ -10,7 +10,7 @@ use borrow.Author.Tests.{eqb-true, eqb-false, eq-eqb, ltb-true, ltb-false, not-t
 use lib.ListN.{length, getD, take, drop, length-append}
 use lib.Seq.{take-at, take-suc, take-all, getD-at}
 use Rattle.field.specs.Bytes.{Bytes}
-use Rattle.word.proofs.Bytes.{bytes-take, bytes-drop}
+use Rattle.word.proofs.Bytes.{none-bytes, bytes-cons, bytes-append, bytes-take, bytes-drop}
 use Rattle.circuit.proofs.RuleLaws.{and-left, and-right}
 use Rattle.circuit.specs.Value.{null, wellFormed, isOut}
 use Rattle.circuit.specs.Sheet.{Sheet, Item, entry, figure, size, itemAt, isFigure, Ordered}
@@ -20,10 +20,10 @@ use Rattle.circuit.specs.Words.{Formed}
 use Rattle.circuit.proofs.Fill.{upd-cases}
 use Rattle.circuit.proofs.Owed.{owed-ext, owed-stored}
 use Rattle.table.specs.Rows.{row, setRow}
-use Rattle.table.specs.Record.{width, owedPlace, owedIn, owedCode, encodeCell, decodeCell, recordForm, mayHold}
+use Rattle.table.specs.Record.{width, owedPlace, kindIn, markIn, numberIn, owedIn, owedCode, encodeCell, decodeCell, recordForm, mayHold}
 use Rattle.table.specs.Bytes.{tableLength, encodeRecord, encodeTable, decodeTable, recordInForm, tableForm, owedTrueAt, owedTrue, Holdable}
-use Rattle.table.proofs.Rows.{row-before, length-row, getD-row, rows-ext, length-rows, row-rows, rows-row, length-setRow, row-front, row-setRow-other, getD-sets-below, getD-sets-above, below-true, true-below}
-use Rattle.table.proofs.Records.{decode-encode, encode-decode, decode-front, form-front, length-encodeCell, decoded-holds, encoded-form, holds-wellFormed}
+use Rattle.table.proofs.Rows.{row-before, length-row, getD-row, rows-ext, length-rows, row-rows, rows-row, bytes-rows, length-setRow, row-front, row-setRow-other, getD-sets-below, getD-sets-above, below-true, true-below}
+use Rattle.table.proofs.Records.{decode-encode, encode-decode, kind-by, mark-by, number-by, decode-front, form-front, length-encodeCell, bytes-encodeCell, decoded-holds, encoded-form, holds-wellFormed}
 
 -- ---- lengths and bytes
 
@@ -33,6 +33,15 @@ length-encodeRecord S T i = length-append (encodeCell (T i)) (owedCode (owed S T
 pub length-encodeTable : (S : Sheet) (T : Table) → length (encodeTable S T) ≡ tableLength S
 unfolding encodeTable
 length-encodeTable S T = length-rows width (encodeRecord S T) (size S) (λ i h. length-encodeRecord S T i)
+
+pub bytes-encodeTable : (S : Sheet) (T : Table) → Bytes (encodeTable S T)
+unfolding encodeTable
+bytes-encodeTable S T =
+    bytes-rows (encodeRecord S T) (size S) (λ i. bytes-append (encodeCell (T i)) (owedCode (owed S T i) ∷ []) (bytes-encodeCell (T i)) (owed-byte (owed S T i)))
+  where
+    owed-byte : (b : Bool) → Bytes (owedCode b ∷ [])
+    owed-byte false = bytes-cons 0 [] (omega arith) none-bytes
+    owed-byte true = bytes-cons 1 [] (omega arith) none-bytes
 
 -- item i has its record in a table of the right length
 pub record-fits : (S : Sheet) (bs : List ℕ) (i : ℕ) → length bs ≡ tableLength S → i < size S → width * i + width ≤ length bs
@@ -51,6 +60,15 @@ encoded-record S T i h = row-rows width (encodeRecord S T) (size S) (λ j hj. le
 pub encoded-cell : (S : Sheet) (T : Table) (i : ℕ) → i < size S → take owedPlace (row width (encodeTable S T) i) ≡ encodeCell (T i)
 encoded-cell S T i h =
     ap (take owedPlace) (encoded-record S T i h) ∙ take-at (encodeCell (T i)) (owedCode (owed S T i) ∷ []) owedPlace (length-encodeCell (T i))
+
+pub encoded-kind : (S : Sheet) (T : Table) (i : ℕ) → i < size S → kindIn (row width (encodeTable S T) i) ≡ kindIn (encodeCell (T i))
+encoded-kind S T i h = kind-by (row width (encodeTable S T) i) (encoded-cell S T i h)
+
+pub encoded-mark : (S : Sheet) (T : Table) (i : ℕ) → i < size S → markIn (row width (encodeTable S T) i) ≡ markIn (encodeCell (T i))
+encoded-mark S T i h = mark-by (row width (encodeTable S T) i) (encoded-cell S T i h)
+
+pub encoded-number : (S : Sheet) (T : Table) (i : ℕ) → i < size S → numberIn (row width (encodeTable S T) i) ≡ numberIn (encodeCell (T i))
+encoded-number S T i h = number-by (row width (encodeTable S T) i) (encoded-cell S T i h)
 
 pub encoded-owed : (S : Sheet) (T : Table) (i : ℕ) → i < size S → owedIn (row width (encodeTable S T) i) ≡ owedCode (owed S T i)
 encoded-owed S T i h =
