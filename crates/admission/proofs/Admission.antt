@@ -3,14 +3,14 @@
 use Prim.Native.Nat.{ℕ, _*_, _≤_}
 use native.Mathlib.Omega.{arith}
 use mathlib.Core.Path.{_≡_, refl, sym, ap, ap₂, _∙_}
-use mathlib.Core.Bool.{Bool, true, false}
+use mathlib.Core.Bool.{Bool, true, false, _&&_}
 use mathlib.Core.List.{List, [], _∷_}
 use mathlib.Core.Option.{none}
 use lib.Dec.{eqb}
 use lib.ListN.{length}
 use borrow.Author.Tests.{eqb-true, not-false}
 use Rattle.layout.specs.Layout.{indexWidth, mostItems}
-use Rattle.circuit.specs.Sheet.{size}
+use Rattle.circuit.specs.Sheet.{Sheet, size}
 use Rattle.circuit.specs.Call.{Call, Opening}
 use Rattle.circuit.specs.Calls.{Test, test, firstCause, tests, effect}
 use Rattle.circuit.specs.Table.{opened}
@@ -20,7 +20,7 @@ use Rattle.layout.specs.Opened.{itemsOf, sheetRead, sheetFrom, placedFrom, shee
 use Rattle.layout.specs.Index.{indexBytes}
 use Rattle.item.proofs.Located.{sheet-size, size-room}
 use Rattle.table.specs.Record.{width}
-use Rattle.table.specs.Bytes.{encodeTable, decodeTable, tableForm, tableLength}
+use Rattle.table.specs.Bytes.{encodeTable, decodeTable, tableForm, owedTrue, tableLength}
 use Rattle.office.specs.Office.{Given, resultsLent, refusal, accepted, lengthsOff, indexWrong, tableWrong, unlessRefused, effectOn, callOn, openOn, keeping}
 use Rattle.looking.specs.Pass.{Lent}
 use Rattle.admission.specs.Admission.{itemsUnless, measuredBy, measuredOf, admittedBy, admittedOf, callLent, Placing}
@@ -101,6 +101,7 @@ pub record AdmittedCall (s x t : List ℕ) (n : ℕ) : Type 0 where
   pub count-is : n ≡ size (sheetOf s)
   pub table-length : length t ≡ tableLength (sheetOf s)
   pub formed : tableForm (sheetOf s) t ≡ true
+  pub owes : owedTrue (sheetOf s) t ≡ true
   pub call : (c : Call) → callOn s (keeping x t) c ≡ callLent (sheetOf s) x t c
 
 pub admitted : (s x t : List ℕ) (n : ℕ) → Items n ≡ admittedOf s x t → AdmittedCall s x t n
@@ -122,10 +123,12 @@ admitted s x t n e = go (readSheet s) refl e
         let i : length (itemsOf s) ≡ length ps = ap (λ r. length (placedFrom r)) q in
         let m : size (sheetOf s) ≡ length ps = sheet-size s ∙ i in
         let S : sheetOf s ≡ sheetRead edition ps = ap sheetFrom q in
+        let X : Sheet = sheetRead edition ps in
         record {
           count-is = f .3 ∙ sym m;
           table-length = l .1 ∙ ap (λ m. width * m) (sym m);
-          formed = ap (λ S. tableForm S t) S ∙ not-false _ (f .2);
+          formed = ap (λ S. tableForm S t) S ∙ and-left (tableForm X t) (owedTrue X t) (not-false (tableForm X t && owedTrue X t) (f .2));
+          owes = ap (λ S. owedTrue S t) S ∙ and-right (tableForm X t) (owedTrue X t) (not-false (tableForm X t && owedTrue X t) (f .2));
           call = λ c. rw (q, f .0, f .1, f .2);
         }
 

@@ -3,12 +3,12 @@ use Prim.Native.Nat.{ℕ, zero, suc, _+_, _*_, _≤_, _<_}
 use native.Mathlib.Omega.{arith}
 use native.Mathlib.Numerals.{add-one}
 use mathlib.Core.Path.{_≡_, refl, sym, ap, subst, _∙_}
-use mathlib.Core.Bool.{Bool, true, false, cond, not}
+use mathlib.Core.Bool.{Bool, true, false, cond, not, _&&_}
 use mathlib.Core.List.{List, [], _∷_}
 use lib.ListN.{length, getD, take}
 use borrow.Author.Tests.{eq-eqb, ne-eqb, le-leb, lt-leb, leb-false}
 use Rattle.circuit.specs.Sheet.{Sheet, size, itemAt, isFigure}
-use Rattle.circuit.specs.Table.{Table, Cell, upd}
+use Rattle.circuit.specs.Table.{Table, Cell, upd, isStored}
 use Rattle.circuit.specs.Call.{Call}
 use Rattle.circuit.specs.Calls.{Test, test, firstCause, tests, effect, noItem}
 use Rattle.circuit.proofs.RuleLaws.{and-true}
@@ -19,18 +19,18 @@ use Rattle.layout.specs.Layout.{indexWidth, mostItems}
 use Rattle.sheet.specs.declared.Checked.the-variants.{Opens, Refused as Faulty}
 use Rattle.sheet.proofs.Located as checked
 use Rattle.item.specs.Item.{fieldItem}
-use Rattle.item.proofs.Located.{located-item}
+use Rattle.item.proofs.Located.{located-item, sheet-ordered}
 use Rattle.item.specs.Offsets.{sameBytes, offsetBytes}
 use Rattle.item.proofs.Offsets.{located-index}
 use Rattle.field.specs.Bytes.{Bytes}
 use Rattle.table.specs.Rows.{row, setRow, allBelow}
 use Rattle.table.specs.Record.{width, encodeCell, recordForm}
-use Rattle.table.specs.Bytes.{encodeTable, decodeTable, tableForm, tableLength, recordInForm}
+use Rattle.table.specs.Bytes.{encodeTable, decodeTable, tableForm, owedTrue, tableLength, recordInForm}
 use Rattle.table.proofs.Rows.{below-true}
 use Rattle.table.proofs.Tables.{encode-decodeTable, encode-upd}
 use Rattle.office.specs.Office.{refusal, lengthsOff, indexWrong, tableWrong}
 use Rattle.looking.specs.Pass.{Lent}
-use Rattle.admission.specs.Admission.{itemsUnless, measuredBy, measuredOf, admittedOf, callLent}
+use Rattle.admission.specs.Admission.{itemsUnless, measuredBy, measuredOf, admittedOf, callLent, Placing}
 use Rattle.admission.proofs.Admission.{measured}
 use Rattle.admission.specs.Answers.{Answered, Left, wrongItem}
 use Rattle.admission.specs.declared.Answer.{Answer}
@@ -73,22 +73,25 @@ module _ (s offsets t : List ℕ) (located : Located s offsets) (k : ℕ) (low :
   record-here =
       record-is ∙ ap (λ f. recordForm f (row width t k)) (figure-is ∙ ap isFigure (located-item s offsets located k low))
 
-  pub unformed-record : r ≡ false → false ≡ tableForm (sheetOf s) t
+  pub unformed-record : r ≡ false → false ≡ (tableForm (sheetOf s) t && owedTrue (sheetOf s) t)
   unfolding tableForm
   unformed-record e = go (allBelow (recordInForm (sheetOf s) t) (size (sheetOf s))) refl
     where
-      go : (w : Bool) → allBelow (recordInForm (sheetOf s) t) (size (sheetOf s)) ≡ w → false ≡ w
+      go : (w : Bool) → allBelow (recordInForm (sheetOf s) t) (size (sheetOf s)) ≡ w → false ≡ (w && owedTrue (sheetOf s) t)
       go false q = refl
-      go true q = sym e ∙ record-here ∙ below-true (recordInForm (sheetOf s) t) (size (sheetOf s)) q k low
+      go true q =
+          let formed : false ≡ true = sym e ∙ record-here ∙ below-true (recordInForm (sheetOf s) t) (size (sheetOf s)) q k low in
+          let z : _≡_ {A = ℕ} 0 1 = cc in absurd (omega arith)
 
   pub formed-record : r ≡ true → allBelow (recordInForm (sheetOf s) t) k ≡ true → allBelow (recordInForm (sheetOf s) t) (k + 1) ≡ true
   unfolding allBelow
   formed-record e h =
       ap (allBelow (recordInForm (sheetOf s) t)) (add-one k) ∙ and-true _ _ h (sym record-here ∙ e)
 
-pub formed-done : (S : Sheet) (t : List ℕ) (k : ℕ) → k ≡ size S → allBelow (recordInForm S t) k ≡ true → true ≡ tableForm S t
+pub formed-done : (S : Sheet) (t : List ℕ) (k : ℕ) → k ≡ size S → allBelow (recordInForm S t) k ≡ true → (b : Bool) → b ≡ owedTrue S t
+    → b ≡ (tableForm S t && owedTrue S t)
 unfolding tableForm
-formed-done S t k e h = sym (subst (λ m. allBelow (recordInForm S t) m ≡ true) e h)
+formed-done S t k e h b o = o ∙ ap (λ w. w && owedTrue S t) (sym (subst (λ m. allBelow (recordInForm S t) m ≡ true) e h))
 
 -- ---- the tests of an item
 
@@ -154,17 +157,26 @@ module _ (S : Sheet) (x t : List ℕ) (c : Call) (figures : Bool) (item : ℕ) (
   pub item-low : cause ≡ 0 → item < size S
   item-low h = leb-false (size S) item (past-two (noItem S item) (wrongItem figures S item) ts cause cause-is h .0)
 
--- the bytes of a table in form that decodes to U
-pub left-encoded : {s offsets t : List ℕ} → Lent s offsets t → {U : Table} {t′ : List ℕ} → Left s U t′ → Bytes t′ → length t′ ≡ length t → t′ ≡ encodeTable (sheetOf s) U
-left-encoded {s} {offsets} {t} lent {U} {t′} left bytes len =
-    sym (encode-decodeTable (sheetOf s) t′ bytes (len ∙ lent .length-is) (left .formed)) ∙ ap (encodeTable (sheetOf s)) (left .table-is)
+-- the bytes of a table that decodes to U, once its owed bytes are settled
+pub left-settled : {s : List ℕ} {U : Table} {t′ : List ℕ} → Left s U t′ → (t″ : List ℕ) → t″ ≡ encodeTable (sheetOf s) (decodeTable t′) → t″ ≡ encodeTable (sheetOf s) U
+left-settled {s} left t″ e = e ∙ ap (encodeTable (sheetOf s)) (left .table-is)
 
--- what a store leaves
-pub stored-encoded : {s offsets t : List ℕ} → Lent s offsets t → Bytes t → (i : ℕ) (c : Cell) → i < size (sheetOf s)
-    → setRow width t i (encodeCell c) ≡ encodeTable (sheetOf s) (upd (decodeTable t) i c)
-stored-encoded {s} {offsets} {t} lent bytes i c low =
-    sym (encode-upd (sheetOf s) (decodeTable t) i c low
-    ∙ ap (λ l. setRow width l i (encodeCell c)) (encode-decodeTable (sheetOf s) t bytes (lent .length-is) (lent .formed)))
+-- the bytes of a table in form with true owed bytes
+pub lent-encoded : {s offsets t : List ℕ} → Lent s offsets t → Bytes t → owedTrue (sheetOf s) t ≡ true → encodeTable (sheetOf s) (decodeTable t) ≡ t
+lent-encoded {s} {offsets} {t} lent bytes owes = encode-decodeTable (sheetOf s) t bytes (lent .length-is) (lent .formed) owes
+
+-- what a store leaves that changes no owed byte
+pub stored-encoded : {s offsets t : List ℕ} → Lent s offsets t → Bytes t → owedTrue (sheetOf s) t ≡ true → (i : ℕ) (c : Cell) → i < size (sheetOf s)
+    → isStored c ≡ isStored (decodeTable t i) → setRow width t i (encodeCell c) ≡ encodeTable (sheetOf s) (upd (decodeTable t) i c)
+stored-encoded {s} {offsets} {t} lent bytes owes i c low stored =
+    sym (encode-upd (sheetOf s) (sheet-ordered s) (decodeTable t) i c low stored
+    ∙ ap (λ l. setRow width l i (encodeCell c)) (lent-encoded lent bytes owes))
+
+-- what settling is lent after a call has stored its cells
+pub settle-needs : {s offsets t : List ℕ} {n : ℕ} → Placing s offsets n → Lent s offsets t → (t′ : List ℕ) → length t′ ≡ length t → tableForm (sheetOf s) t′ ≡ true
+    → Located s offsets × (n ≡ size (sheetOf s)) × (n ≤ length offsets) × (length t′ ≡ width * n) × (tableForm (sheetOf s) t′ ≡ true)
+settle-needs placing lent t′ len formed =
+    (placing .located, placing .count-is, placing .room, len ∙ lent .length-is ∙ ap (λ m. width * m) (sym (placing .count-is)), formed)
 
 pub cause-fits : (s t : List ℕ) (item cause : ℕ) (figures : Bool) → length t ≡ tableLength (sheetOf s)
     → cause ≡ firstCause (test 11 (noItem (sheetOf s) item) ∷ test 12 (wrongItem figures (sheetOf s) item) ∷ []) → cause ≡ 0 → width * item + width ≤ length t
@@ -202,12 +214,12 @@ module _ (s x t offsets : List ℕ) (n : ℕ) (e : Items n ≡ measuredOf s (len
   unfolding firstCause
   admit-index m h q = admit-by true (tableWrong (sheetOf s) t) (index-is m h ∙ ap not q) refl
 
-  pub admit-table : (m : Bool) → m ≡ sameBytes x (offsetBytes (take n offsets)) → m ≡ true → (f : Bool) → f ≡ tableForm (sheetOf s) t → f ≡ false
+  pub admit-table : (m : Bool) → m ≡ sameBytes x (offsetBytes (take n offsets)) → m ≡ true → (f : Bool) → f ≡ (tableForm (sheetOf s) t && owedTrue (sheetOf s) t) → f ≡ false
       → Refused 10 0 ≡ admittedOf s x t
   unfolding firstCause
   admit-table m h q f g p = admit-by false true (index-is m h ∙ ap not q) (ap not (sym g ∙ p))
 
-  pub admit-items : (m : Bool) → m ≡ sameBytes x (offsetBytes (take n offsets)) → m ≡ true → (f : Bool) → f ≡ tableForm (sheetOf s) t → f ≡ true → Items n ≡ admittedOf s x t
+  pub admit-items : (m : Bool) → m ≡ sameBytes x (offsetBytes (take n offsets)) → m ≡ true → (f : Bool) → f ≡ (tableForm (sheetOf s) t && owedTrue (sheetOf s) t) → f ≡ true → Items n ≡ admittedOf s x t
   unfolding firstCause
   admit-items m h q f g p = admit-by false false (index-is m h ∙ ap not q) (ap not (sym g ∙ p))
 

@@ -1,14 +1,16 @@
--- What is left of a call once what is lent is admitted: the call on the sheet's items and a table in form. Every call's proof
+-- What is left of a call once what is lent is admitted: the call on the sheet's items and a table in form with true owed bytes. Every call's proof
 -- rests on these two. Assumes nothing.
 use Prim.Native.Nat.{ℕ, _≤_}
 use native.Mathlib.Omega.{arith}
 use mathlib.Core.Path.{_≡_}
+use mathlib.Core.Bool.{true}
 use mathlib.Core.List.{List}
 use lib.ListN.{length}
 use Rattle.circuit.specs.Call.{Call}
 use Rattle.layout.specs.Opened.{sheetOf, Located}
 use Rattle.layout.specs.Layout.{mostItems, itemLimit}
 use Rattle.office.specs.Office.{resultsLent, refusal, keeping, callOn}
+use Rattle.table.specs.Bytes.{owedTrue}
 use Rattle.looking.specs.Pass.{Lent}
 use Rattle.admission.specs.Admission.{admittedOf, callLent, Placing}
 use Rattle.admission.specs.declared.Admitted.{Admitted}
@@ -19,6 +21,7 @@ use Rattle.admission.proofs.Admission.{admitted, admitted-lent, admitte
 pub record Admits (s x t offsets : List ℕ) (n : ℕ) : Type 0 where
   pub placing : Placing s offsets n
   pub lent : Lent s offsets t
+  pub owes : owedTrue (sheetOf s) t ≡ true
   pub call : (c : Call) → callOn s (keeping x t) c ≡ callLent (sheetOf s) x t c
 
 pub admits : (s x t offsets : List ℕ) {n : ℕ} {r : Admitted} → r ≡ admittedOf s x t → r ≡ Items n → Located s offsets → mostItems ≤ length offsets → Admits s x t offsets n
@@ -29,6 +32,7 @@ admits s x t offsets {n} answer items located room =
     record {
       placing = admitted-placing s offsets n (g .count-is) located (omega (arith, room));
       lent = admitted-lent s x t offsets n e located (omega (arith, room));
+      owes = g .owes;
       call = g .call;
     }
 

@@ -5,9 +5,9 @@ ghost use lib.ListN.{length};
 ghost use Rattle.layout.specs.Layout.{mostItems};
 ghost use Rattle.layout.specs.Opened.{sheetOf};
 ghost use Rattle.table.specs.Record.{width};
-ghost use Rattle.table.specs.Bytes.{tableForm};
+ghost use Rattle.table.specs.Bytes.{tableForm, owedTrue};
 ghost use Rattle.admission.specs.Admission.{measuredOf, admittedOf, Scanned, Placing};
-ghost use mathlib.Core.Bool.{true, false};
+ghost use mathlib.Core.Bool.{true, false, _&&_};
 ghost use mathlib.Core.List.{[], _∷_};
 ghost use Rattle.circuit.specs.Calls.{firstCause, test, noItem};
 ghost use Rattle.admission.specs.Answers.{wrongItem};
@@ -58,10 +58,10 @@ pub fn measure(
     }
 }
 
-// Whether the table is in form (10).
+// Whether the table is in form, with true owed bytes (10).
 fn table_formed(sheet: &[u8], offsets: &[usize], n: usize, table: &[u8]) -> bool
     requires { ⌜ Placing (now sheet) (now offsets) n ⌝ ∗ ⌜ length (now table) ≡ width * n ⌝ }
-    ensures { λ r. ⌜ r ≡ tableForm (sheetOf (now (sheet .entry))) (now (table .entry)) ⌝ }
+    ensures { λ r. ⌜ r ≡ (tableForm (sheetOf (now (sheet .entry))) (now (table .entry)) && owedTrue (sheetOf (now (sheet .entry))) (now (table .entry))) ⌝ }
 {
     let mut k = 0;
     while k < n {
@@ -71,7 +71,7 @@ fn table_formed(sheet: &[u8], offsets: &[usize], n: usize, table: &[u8]) -> bool
         }
         k += 1;
     }
-    true
+    owing::owed_true(sheet, offsets, n, table)
 }
 
 // All that is lent (1 to 10).

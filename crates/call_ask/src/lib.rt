@@ -1,5 +1,6 @@
 // The call ask.
 ghost use mathlib.Core.Path.{_≡_};
+ghost use mathlib.Core.Bool.{true};
 ghost use mathlib.Core.List.{List};
 ghost use Prim.Native.Nat.{ℕ, _+_, _*_, _<_};
 ghost use Rattle.circuit.specs.Sheet.{size};
@@ -8,7 +9,7 @@ ghost use Rattle.circuit.specs.Machine as machine;
 ghost use Rattle.circuit.specs.Call as machine_call;
 ghost use Rattle.value.specs.Meaning.{meaning};
 ghost use Rattle.layout.specs.Opened.{sheetOf};
-ghost use Rattle.table.specs.Bytes.{decodeTable};
+ghost use Rattle.table.specs.Bytes.{decodeTable, owedTrue};
 ghost use Rattle.office.specs.Office.{callOn, keeping};
 ghost use Rattle.call_ask.specs.Asking.{Asked, ReadingOf, LookedUp};
 ghost use Rattle.admission.specs.Admission.{Placing, callLent};
@@ -27,7 +28,7 @@ pub struct Reading {
 
 // Catches up, and looks item i up in the generation after those of the steps.
 fn caught_up(sheet: &[u8], offsets: &[usize], table: &mut [u8], n: usize, i: usize) -> Value
-    requires { ⌜ Lent (now sheet) (now offsets) (now table) ⌝ ∗ ⌜ n ≡ size (sheetOf (now sheet)) ⌝ ∗ ⌜ i < n ⌝ }
+    requires { ⌜ Lent (now sheet) (now offsets) (now table) ⌝ ∗ ⌜ n ≡ size (sheetOf (now sheet)) ⌝ ∗ ⌜ i < n ⌝ ∗ ⌜ owedTrue (sheetOf (now sheet)) (now table) ≡ true ⌝ }
     ensures { λ r. ⌜ LookedUp (now (sheet .entry)) (machine.lookUp (sheetOf (now (sheet .entry))) (machine.catchUp (sheetOf (now (sheet .entry))) (decodeTable (now (table .entry)))) i) (meaning r) (now (table .exit)) ⌝ }
 {
     let mut tags = [0u64; limits::ITEM_LIMIT];
@@ -69,13 +70,15 @@ fn refuse(number: u64, offset: usize) -> Reading
 }
 
 fn ask_lent(sheet: &[u8], offsets: &[usize], table: &mut [u8], n: usize, item: u64) -> Reading
-    requires { ⌜ Placing (now sheet) (now offsets) n ⌝ ∗ ⌜ Lent (now sheet) (now offsets) (now table) ⌝ }
+    requires { ⌜ Placing (now sheet) (now offsets) n ⌝ ∗ ⌜ Lent (now sheet) (now offsets) (now table) ⌝ ∗ ⌜ owedTrue (sheetOf (now sheet)) (now table) ≡ true ⌝ }
     ensures { λ r. ⌜ ((x : List ℕ) → Asked (callLent (sheetOf (now (sheet .entry))) x (now (table .entry)) (machine_call.ask item)) r (now (table .exit))) ⌝ }
 {
     if item >= n as u64 {
         return refuse(11, 0);
     }
-    read_value(caught_up(sheet, offsets, table, n, item as usize))
+    let value = caught_up(sheet, offsets, table, n, item as usize);
+    owing::settle(sheet, offsets, n, table);
+    read_value(value)
 }
 
 pub fn ask(sheet: &[u8], index: &[u8], table: &mut [u8], item: u64) -> Reading

@@ -1,5 +1,6 @@
 // The call board: the values of up to 64 items, with one catching up and one memo for all of them.
 ghost use mathlib.Core.Path.{_≡_};
+ghost use mathlib.Core.Bool.{true};
 ghost use mathlib.Core.List.{List};
 ghost use Prim.Native.Nat.{ℕ, _+_, _*_, _/_, _<_, _≤_};
 ghost use lib.ListN.{length, getD};
@@ -12,7 +13,7 @@ ghost use Rattle.circuit.specs.Call as machine_call;
 ghost use Rattle.value.specs.Meaning.{meaning};
 ghost use Rattle.layout.specs.Opened.{sheetOf};
 ghost use Rattle.table.specs.Rows.{setRow};
-ghost use Rattle.table.specs.Bytes.{decodeTable};
+ghost use Rattle.table.specs.Bytes.{decodeTable, owedTrue};
 ghost use Rattle.office.specs.Office.{callOn, keeping, resultOf};
 ghost use Rattle.memo.specs.Memo.{Memo};
 ghost use Rattle.looking.specs.Pass.{Lent};
@@ -109,7 +110,7 @@ fn show(
     items: &[u8],
     results: &mut [u8],
 )
-    requires { ⌜ Lent (now sheet) (now offsets) (now table) ⌝ ∗ ⌜ n ≡ size (sheetOf (now sheet)) ⌝ ∗ ⌜ Listed (now sheet) (now items) (now results) ⌝ }
+    requires { ⌜ Lent (now sheet) (now offsets) (now table) ⌝ ∗ ⌜ n ≡ size (sheetOf (now sheet)) ⌝ ∗ ⌜ Listed (now sheet) (now items) (now results) ⌝ ∗ ⌜ owedTrue (sheetOf (now sheet)) (now table) ≡ true ⌝ }
     ensures { λ _. ⌜ Shown (now (sheet .entry)) (machine.gather (machine.lookUp (sheetOf (now (sheet .entry)))) (machine.catchUp (sheetOf (now (sheet .entry))) (decodeTable (now (table .entry)))) (listed (now (items .entry)))) (now (results .exit)) (now (table .exit)) ⌝ }
 {
     let mut tags = [0u64; limits::ITEM_LIMIT];
@@ -136,7 +137,7 @@ fn board_lent(
     items: &[u8],
     results: &mut [u8],
 ) -> Answer
-    requires { ⌜ Placing (now sheet) (now offsets) n ⌝ ∗ ⌜ Lent (now sheet) (now offsets) (now table) ⌝ }
+    requires { ⌜ Placing (now sheet) (now offsets) n ⌝ ∗ ⌜ Lent (now sheet) (now offsets) (now table) ⌝ ∗ ⌜ owedTrue (sheetOf (now sheet)) (now table) ≡ true ⌝ }
     ensures { λ r. ⌜ ((x : List ℕ) → BoardShown (callLent (sheetOf (now (sheet .entry))) x (now (table .entry)) (machine_call.board (now (items .entry)) (now (results .entry)))) r (now (results .exit)) (now (table .exit))) ⌝ }
 {
     if lists_wrong(items.len(), results.len()) {
@@ -149,6 +150,7 @@ fn board_lent(
         return admission::give(0, 0);
     }
     show(sheet, offsets, table, n, items, results);
+    owing::settle(sheet, offsets, n, table);
     admission::give(0, 0)
 }
 

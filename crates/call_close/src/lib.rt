@@ -111,6 +111,7 @@ fn close_lent(sheet: &[u8], offsets: &[usize], table: &mut [u8], n: usize) -> An
     ensures { λ r. ⌜ ((x : List ℕ) → Answered (callLent (sheetOf (now (sheet .entry))) x (now (table .entry)) machine_call.close) r (now (table .exit))) ⌝ }
 {
     close_all(sheet, offsets, table, n);
+    owing::settle(sheet, offsets, n, table);
     admission::give(0, 0)
 }
 

@@ -51,6 +51,7 @@ fn drop_lent(sheet: &[u8], offsets: &[usize], table: &mut [u8], n: usize, item: 
     let i = item as usize;
     let cell = dropped_cell(table::read_cell(table, i));
     table::store_cell(table, i, cell);
+    owing::settle(sheet, offsets, n, table);
     admission::give(0, 0)
 }
 
@@ -96,6 +97,7 @@ fn keep_lent(sheet: &[u8], offsets: &[usize], table: &mut [u8], n: usize, item: 
         return admission::give(cause, 0);
     }
     keep_cell(sheet, offsets, table, item as usize);
+    owing::settle(sheet, offsets, n, table);
     admission::give(0, 0)
 }
 

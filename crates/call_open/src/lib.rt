@@ -43,6 +43,7 @@ fn write_table(sheet: &[u8], offsets: &[usize], n: usize, table: &mut [u8], fill
         table::store_cell(table, k, first_cell(filled, figure));
         k += 1;
     }
+    owing::settle(sheet, offsets, n, table);
 }
 
 fn open_by(sheet: &[u8], index: &mut [u8], table: &mut [u8], filled: bool) -> Answer

@@ -1,6 +1,6 @@
 // The call post.
 ghost use mathlib.Core.Path.{_≡_};
-ghost use mathlib.Core.Bool.{false};
+ghost use mathlib.Core.Bool.{true, false};
 ghost use mathlib.Core.List.{List};
 ghost use Prim.Native.Nat.{ℕ};
 ghost use Rattle.circuit.specs.Machine as machine;
@@ -8,6 +8,7 @@ ghost use Rattle.circuit.specs.Call as machine_call;
 ghost use Rattle.circuit.specs.Calls as machine_calls;
 ghost use Rattle.value.specs.Meaning.{meaning, partsMeaning};
 ghost use Rattle.layout.specs.Opened.{sheetOf};
+ghost use Rattle.table.specs.Bytes.{owedTrue};
 ghost use Rattle.table.specs.Meaning.{cellMeaning};
 ghost use Rattle.office.specs.Office.{callOn, keeping};
 ghost use Rattle.admission.specs.Answers.{Answered};
@@ -56,7 +57,7 @@ fn post_lent(
     kind: u64,
     number: i64,
 ) -> Answer
-    requires { ⌜ Placing (now sheet) (now offsets) n ⌝ ∗ ⌜ Lent (now sheet) (now offsets) (now table) ⌝ }
+    requires { ⌜ Placing (now sheet) (now offsets) n ⌝ ∗ ⌜ Lent (now sheet) (now offsets) (now table) ⌝ ∗ ⌜ owedTrue (sheetOf (now sheet)) (now table) ≡ true ⌝ }
     ensures { λ r. ⌜ ((x : List ℕ) → Answered (callLent (sheetOf (now (sheet .entry))) x (now (table .entry)) (machine_call.post item kind number)) r (now (table .exit))) ⌝ }
 {
     let cause = admission::item_cause(sheet, offsets, n, item, false);

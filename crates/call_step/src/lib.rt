@@ -1,6 +1,6 @@
 // The call step.
 ghost use mathlib.Core.Path.{_≡_};
-ghost use mathlib.Core.Bool.{false};
+ghost use mathlib.Core.Bool.{true, false};
 ghost use mathlib.Core.List.{List, [], _∷_};
 ghost use Prim.Native.Nat.{ℕ, _*_, _<_};
 ghost use lib.ListN.{length};
@@ -13,7 +13,7 @@ ghost use Rattle.circuit.specs.Calls.{firstCause, test};
 ghost use Rattle.circuit.specs.Table.{markOf, isNotice};
 ghost use Rattle.layout.specs.Opened.{sheetOf};
 ghost use Rattle.table.specs.Record.{width};
-ghost use Rattle.table.specs.Bytes.{decodeTable};
+ghost use Rattle.table.specs.Bytes.{decodeTable, owedTrue};
 ghost use Rattle.office.specs.Office.{callOn, keeping};
 ghost use Rattle.admission.specs.Answers.{Answered, Left};
 ghost use Rattle.admission.specs.Admission.{Placing, callLent};
@@ -38,14 +38,16 @@ fn mark_cause(table: &[u8], n: usize, item: u64) -> u64
 
 // The step of a notice: the children are told by their list.
 fn notice_once(sheet: &[u8], offsets: &[usize], table: &mut [u8], n: usize, i: usize)
-    requires { ⌜ Lent (now sheet) (now offsets) (now table) ⌝ ∗ ⌜ n ≡ size (sheetOf (now sheet)) ⌝ ∗ ⌜ i < n ⌝ }
+    requires { ⌜ Lent (now sheet) (now offsets) (now table) ⌝ ∗ ⌜ n ≡ size (sheetOf (now sheet)) ⌝ ∗ ⌜ i < n ⌝ ∗ ⌜ owedTrue (sheetOf (now sheet)) (now table) ≡ true ⌝ }
     ensures { λ _. ⌜ Left (now (sheet .entry)) (machine.clearMark (machine.tell (sheetOf (now (sheet .entry))) (decodeTable (now (table .entry))) i) i) (now (table .exit)) ⌝ }
 {
     let mut tags = [0u64; limits::ITEM_LIMIT];
     let mut numbers = [0i64; limits::ITEM_LIMIT];
     let mut heads = [0u16; limits::ITEM_LIMIT];
     let mut links = [0u16; children::EDGE_LIMIT];
+    let mut owed = [0u8; limits::ITEM_LIMIT];
     children::link(sheet, offsets, n, &mut heads, &mut links);
+    owing::copy_owed(table, n, &mut owed);
     stepping::tell_and_clear(
         sheet,
         offsets,
@@ -54,6 +56,7 @@ fn notice_once(sheet: &[u8], offsets: &[usize], table: &mut [u8], n: usize, i: u
         &mut numbers,
         &heads,
         &links,
+        &owed,
         1,
         i,
     );
@@ -71,7 +74,7 @@ fn refresh_once(sheet: &[u8], offsets: &[usize], table: &mut [u8], i: usize)
 
 // One step.
 fn step_once(sheet: &[u8], offsets: &[usize], table: &mut [u8], n: usize, i: usize)
-    requires { ⌜ Lent (now sheet) (now offsets) (now table) ⌝ ∗ ⌜ n ≡ size (sheetOf (now sheet)) ⌝ ∗ ⌜ i < n ⌝ }
+    requires { ⌜ Lent (now sheet) (now offsets) (now table) ⌝ ∗ ⌜ n ≡ size (sheetOf (now sheet)) ⌝ ∗ ⌜ i < n ⌝ ∗ ⌜ owedTrue (sheetOf (now sheet)) (now table) ≡ true ⌝ }
     ensures { λ _. ⌜ Left (now (sheet .entry)) (machine.stepItem (sheetOf (now (sheet .entry))) (decodeTable (now (table .entry))) i) (now (table .exit)) ⌝ }
 {
     if table::is_noticed(table, i) {
@@ -82,7 +85,7 @@ fn step_once(sheet: &[u8], offsets: &[usize], table: &mut [u8], n: usize, i: usi
 }
 
 fn step_lent(sheet: &[u8], offsets: &[usize], table: &mut [u8], n: usize, item: u64) -> Answer
-    requires { ⌜ Placing (now sheet) (now offsets) n ⌝ ∗ ⌜ Lent (now sheet) (now offsets) (now table) ⌝ }
+    requires { ⌜ Placing (now sheet) (now offsets) n ⌝ ∗ ⌜ Lent (now sheet) (now offsets) (now table) ⌝ ∗ ⌜ owedTrue (sheetOf (now sheet)) (now table) ≡ true ⌝ }
     ensures { λ r. ⌜ ((x : List ℕ) → Answered (callLent (sheetOf (now (sheet .entry))) x (now (table .entry)) (machine_call.step item)) r (now (table .exit))) ⌝ }
 {
     let cause = mark_cause(table, n, item);
@@ -90,6 +93,7 @@ fn step_lent(sheet: &[u8], offsets: &[usize], table: &mut [u8], n: usize, item: 
         return admission::give(cause, 0);
     }
     step_once(sheet, offsets, table, n, item as usize);
+    owing::settle(sheet, offsets, n, table);
     admission::give(0, 0)
 }
 

@@ -164,9 +164,9 @@ module _ (S : Sheet) (ordered : Ordered S) (t : List ℕ) where
       there all =
           true-below (owedTrueAt S t) (size S)
           (λ i low.
-              eq-eqb _ _
-              (eqb-true _ _ (below-true rightAt (size S) all i low)
-              ∙ ap owedCode (judged-same (decodeTable t) said (owed S (decodeTable t)) i (λ c l h. all-right all c h) ∙ sym (owed-any S ordered (decodeTable t) i))))
+          eq-eqb _ _
+          (eqb-true _ _ (below-true rightAt (size S) all i low)
+          ∙ ap owedCode (judged-same (decodeTable t) said (owed S (decodeTable t)) i (λ c l h. all-right all c h) ∙ sym (owed-any S ordered (decodeTable t) i))))
 
       back : owedTrue S t ≡ true → allBelow rightAt (size S) ≡ true
       back all = true-below rightAt (size S) (λ i low. eq-eqb _ _ (byte i low ∙ ap owedCode (sym (same i))))

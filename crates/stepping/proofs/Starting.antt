@@ -1,14 +1,22 @@
 -- What a call starts with: arrays in which nothing is remembered, and child lists. Assumes nothing.
-use Prim.Native.Nat.{ℕ, zero, suc, _*_, _<_}
+use Prim.Native.Nat.{ℕ, zero, suc, _*_, _<_, _≤_}
 use native.Mathlib.Omega.{arith}
-use mathlib.Core.Path.{_≡_, refl}
+use mathlib.Core.Path.{_≡_, refl, _∙_}
+use mathlib.Core.Bool.{true}
 use mathlib.Core.List.{List}
 use lib.IntN.{ℤ}
 use lib.ListN.{length, getD, replicate}
+use borrow.Author.Tests.{eqb-true}
 use Rattle.circuit.specs.Rules.{maxParents}
+use Rattle.circuit.specs.Sheet.{size}
 use Rattle.layout.specs.Layout.{mostItems}
 use Rattle.layout.specs.Opened.{sheetOf}
 use Rattle.item.proofs.Located.{size-room}
+use Rattle.table.specs.Rows.{row}
+use Rattle.table.specs.Record.{width, owedIn}
+use Rattle.table.specs.Bytes.{decodeTable, owedTrueAt, owedTrue}
+use Rattle.table.proofs.Rows.{below-true}
+use Rattle.owing.specs.Owing.{OwedIs}
 use Rattle.looking.specs.Pass.{Lent}
 use Rattle.stepping.specs.Stepping.{Ready}
 use Rattle.children.specs.Children.{lists, linkAll, Linked}
@@ -37,6 +45,16 @@ pub lists-linked : {s offsets t : List ℕ} → Lent s offsets t → (heads link
 unfolding maxParents
 lists-linked {s} {offsets} {t} lent heads links heads₂ links₂ a b empty headed linked =
     rw (headed, linked) (sheet-linked s offsets heads links (lent .located) (omega (arith, size-room s)) (omega (arith, size-room s)) (λ p low. empty p))
+
+-- the owed bytes of a table, copied while they are true
+pub copied-owed : (s t bytes : List ℕ) (n : ℕ) → owedTrue (sheetOf s) t ≡ true → n ≡ size (sheetOf s) → n ≤ length bytes
+    → ((i : ℕ) → i < n → getD bytes i 0 ≡ owedIn (row width t i)) → OwedIs (sheetOf s) (decodeTable t) bytes
+unfolding owedTrue
+copied-owed s t bytes n true-bytes n-is room copied =
+    record {
+      room = omega arith;
+      byte-is = λ i low. copied i (omega arith) ∙ eqb-true _ _ (below-true (owedTrueAt (sheetOf s) t) (size (sheetOf s)) true-bytes i low);
+    }
 
 -- a later generation may begin where the first may
 pub ready-later : {s tags : List ℕ} {numbers : List ℤ} → Ready s tags numbers 1 → (generation : ℕ) → 0 < generation → generation < 2_147_483_648 → Ready s tags numbers generation

@@ -9,7 +9,8 @@ use lib.ListN.{length}
 use Rattle.circuit.specs.Value.{Value}
 use Rattle.circuit.specs.Sheet.{Sheet, size, itemAt, isFigure}
 use Rattle.circuit.specs.Table.{Table, Cell, Mark, unmarked, refresh, notice, unk, held, valueIn, markOf, isNotice}
-use Rattle.circuit.specs.Machine.{workOut, renewed, tell, clearCell, clearMark, stepCell, stepItem}
+use Rattle.circuit.specs.Machine.{workOut, renewed, clearCell, clearMark, stepCell, stepItem}
+use Rattle.circuit.specs.Ascending.{tellBy, stepCellBy, stepBy}
 use Rattle.circuit.proofs.Fill.{upd-same}
 use Rattle.layout.specs.Opened.{sheetOf}
 use Rattle.item.proofs.Located.{sheet-ordered}
@@ -140,19 +141,37 @@ module _ {s offsets t tags : List ℕ} {numbers : List ℤ} {generation i : ℕ}
 pub nothing-above : {s tags : List ℕ} {numbers : List ℤ} {generation : ℕ} → Ready s tags numbers generation → (i : ℕ) → NoneFrom i tags generation
 nothing-above ready i j h = ready .older j (omega arith)
 
--- the step of a notice
-pub noticed-step : (S : Sheet) (T : Table) (i : ℕ) → isNotice (markOf (T i)) ≡ true → stepItem S T i ≡ clearMark (tell S T i) i
-unfolding stepItem
-noticed-step S T i e = go (T i) e
-  where
-    go : (c : Cell) → isNotice (markOf c) ≡ true → stepCell S T i c ≡ clearMark (tell S T i) i
-    go (unk true) q = refl
-    go (unk false) q = let bad : _≡_ {A = ℕ} 0 1 = cc in absurd (omega arith)
-    go (held v unmarked) q = let bad : _≡_ {A = ℕ} 0 1 = cc in absurd (omega arith)
-    go (held v refresh) q = let bad : _≡_ {A = ℕ} 0 1 = cc in absurd (omega arith)
-    go (held v notice) q = refl
+-- the step of a notice, and of an item without one, by what is owed
+module _ (w : ℕ → Bool) (S : Sheet) (T : Table) (i : ℕ) where
+  noticed-step : isNotice (markOf (T i)) ≡ true → stepBy w S T i ≡ clearMark (tellBy w S T i) i
+  unfolding stepBy
+  noticed-step e = go (T i) e
+    where
+      go : (c : Cell) → isNotice (markOf c) ≡ true → stepCellBy w S T i c ≡ clearMark (tellBy w S T i) i
+      go (unk true) q = refl
+      go (unk false) q = let bad : _≡_ {A = ℕ} 0 1 = cc in absurd (omega arith)
+      go (held v unmarked) q = let bad : _≡_ {A = ℕ} 0 1 = cc in absurd (omega arith)
+      go (held v refresh) q = let bad : _≡_ {A = ℕ} 0 1 = cc in absurd (omega arith)
+      go (held v notice) q = refl
 
-pub steps-noticed : (s t : List ℕ) (i : ℕ) {generation : ℕ} (b : Bool) → b ≡ isNotice (markOf (decodeTable t i)) → b ≡ true → {t₂ tags₂ : List ℕ}
-    → Steps s generation (clearMark (tell (sheetOf s) (decodeTable t) i) i) t₂ tags₂ → Steps s generation (stepItem (sheetOf s) (decodeTable t) i) t₂ tags₂
-steps-noticed s t i {generation} b tests e {t₂} {tags₂} steps =
-    subst (λ U. Steps s generation U t₂ tags₂) (sym (noticed-step (sheetOf s) (decodeTable t) i (sym tests ∙ e))) steps
+  unnoticed-step : isNotice (markOf (T i)) ≡ false → stepBy w S T i ≡ stepItem S T i
+  unfolding stepBy stepItem
+  unnoticed-step e = go (T i) e
+    where
+      go : (c : Cell) → isNotice (markOf c) ≡ false → stepCellBy w S T i c ≡ stepCell S T i c
+      go (unk true) q = let bad : _≡_ {A = ℕ} 0 1 = cc in absurd (omega arith)
+      go (unk false) q = refl
+      go (held v unmarked) q = refl
+      go (held v refresh) q = refl
+      go (held v notice) q = let bad : _≡_ {A = ℕ} 0 1 = cc in absurd (omega arith)
+
+module _ (w : ℕ → Bool) (s t : List ℕ) (i : ℕ) {generation : ℕ} (b : Bool) (tests : b ≡ isNotice (markOf (decodeTable t i))) where
+  pub steps-noticed : b ≡ true → {t₂ tags₂ : List ℕ} → Steps s generation (clearMark (tellBy w (sheetOf s) (decodeTable t) i) i) t₂ tags₂
+      → Steps s generation (stepBy w (sheetOf s) (decodeTable t) i) t₂ tags₂
+  steps-noticed e {t₂} {tags₂} steps =
+      subst (λ U. Steps s generation U t₂ tags₂) (sym (noticed-step w (sheetOf s) (decodeTable t) i (sym tests ∙ e))) steps
+
+  pub steps-unnoticed : b ≡ false → {t₂ tags₂ : List ℕ} → Steps s generation (stepItem (sheetOf s) (decodeTable t) i) t₂ tags₂
+      → Steps s generation (stepBy w (sheetOf s) (decodeTable t) i) t₂ tags₂
+  steps-unnoticed e {t₂} {tags₂} steps =
+      subst (λ U. Steps s generation U t₂ tags₂) (sym (unnoticed-step w (sheetOf s) (decodeTable t) i (sym tests ∙ e))) steps

@@ -1,16 +1,17 @@
-// Stepping an item, and stepping every marked item in one ascending pass, which is catching up.
+// Stepping an item, and stepping every marked item in one ascending pass, which is catching up. Telling goes by an array of what is owed.
 ghost use mathlib.Core.Path.{_≡_};
 ghost use mathlib.Core.Bool.{false};
 ghost use Prim.Native.Nat.{_+_, _*_, _<_, _≤_};
 ghost use lib.ListN.{length};
 ghost use Rattle.circuit.specs.Sheet.{size};
-ghost use Rattle.circuit.specs.Machine.{tell, clearCell, clearMark, stepItem, catchUp};
-ghost use Rattle.circuit.specs.Ascending.{stepMarked};
+ghost use Rattle.circuit.specs.Machine.{clearCell, clearMark, stepItem, catchUp};
+ghost use Rattle.circuit.specs.Ascending.{tellBy, stepBy, stepMarkedBy};
 ghost use Rattle.circuit.specs.Table.{markOf, isNotice};
 ghost use Rattle.layout.specs.Opened.{sheetOf};
 ghost use Rattle.table.specs.Bytes.{decodeTable, LowestMarked};
 ghost use Rattle.table.specs.Rows.{setRow};
 ghost use Rattle.table.specs.Record.{width, encodeCell};
+ghost use Rattle.owing.specs.Owing.{owes, OwedIs};
 ghost use Rattle.children.specs.Children.{Linked};
 ghost use Rattle.memo.specs.Memo.{NoneFrom};
 ghost use Rattle.looking.specs.Pass.{Lent};
@@ -41,11 +42,12 @@ pub fn tell_and_clear(
     numbers: &mut [i64],
     heads: &[u16],
     links: &[u16],
+    owed: &[u8],
     generation: u64,
     i: usize,
 )
-    requires { ⌜ Lent (now sheet) (now offsets) (now table) ⌝ ∗ ⌜ Ready (now sheet) (now tags) (now numbers) generation ⌝ ∗ ⌜ Linked (sheetOf (now sheet)) (now heads) (now links) ⌝ ∗ ⌜ i < size (sheetOf (now sheet)) ⌝ }
-    ensures { λ _. ⌜ Steps (now (sheet .entry)) generation (clearMark (tell (sheetOf (now (sheet .entry))) (decodeTable (now (table .entry))) i) i) (now (table .exit)) (now (tags .exit)) ⌝ }
+    requires { ⌜ Lent (now sheet) (now offsets) (now table) ⌝ ∗ ⌜ Ready (now sheet) (now tags) (now numbers) generation ⌝ ∗ ⌜ Linked (sheetOf (now sheet)) (now heads) (now links) ⌝ ∗ ⌜ (i < size (sheetOf (now sheet))) × (size (sheetOf (now sheet)) ≤ length (now owed)) ⌝ }
+    ensures { λ _. ⌜ Steps (now (sheet .entry)) generation (clearMark (tellBy (owes (now (owed .entry))) (sheetOf (now (sheet .entry))) (decodeTable (now (table .entry))) i) i) (now (table .exit)) (now (tags .exit)) ⌝ }
 {
     telling::tell_children(
         sheet,
@@ -55,6 +57,7 @@ pub fn tell_and_clear(
         numbers,
         heads,
         links,
+        owed,
         generation,
         i,
     );
@@ -105,11 +108,12 @@ fn step_item(
     numbers: &mut [i64],
     heads: &[u16],
     links: &[u16],
+    owed: &[u8],
     generation: u64,
     i: usize,
 )
-    requires { ⌜ Lent (now sheet) (now offsets) (now table) ⌝ ∗ ⌜ Ready (now sheet) (now tags) (now numbers) generation ⌝ ∗ ⌜ Linked (sheetOf (now sheet)) (now heads) (now links) ⌝ ∗ ⌜ i < size (sheetOf (now sheet)) ⌝ }
-    ensures { λ _. ⌜ Steps (now (sheet .entry)) generation (stepItem (sheetOf (now (sheet .entry))) (decodeTable (now (table .entry))) i) (now (table .exit)) (now (tags .exit)) ⌝ }
+    requires { ⌜ Lent (now sheet) (now offsets) (now table) ⌝ ∗ ⌜ Ready (now sheet) (now tags) (now numbers) generation ⌝ ∗ ⌜ Linked (sheetOf (now sheet)) (now heads) (now links) ⌝ ∗ ⌜ (i < size (sheetOf (now sheet))) × (size (sheetOf (now sheet)) ≤ length (now owed)) ⌝ }
+    ensures { λ _. ⌜ Steps (now (sheet .entry)) generation (stepBy (owes (now (owed .entry))) (sheetOf (now (sheet .entry))) (decodeTable (now (table .entry))) i) (now (table .exit)) (now (tags .exit)) ⌝ }
 {
     if table::is_noticed(table, i) {
         tell_and_clear(
@@ -120,6 +124,7 @@ fn step_item(
             numbers,
             heads,
             links,
+            owed,
             generation,
             i,
         );
@@ -137,11 +142,12 @@ fn step_marked(
     numbers: &mut [i64],
     heads: &[u16],
     links: &[u16],
+    owed: &[u8],
     generation: u64,
     i: usize,
 )
-    requires { ⌜ Lent (now sheet) (now offsets) (now table) ⌝ ∗ ⌜ Ready (now sheet) (now tags) (now numbers) generation ⌝ ∗ ⌜ Linked (sheetOf (now sheet)) (now heads) (now links) ⌝ ∗ ⌜ i < size (sheetOf (now sheet)) ⌝ }
-    ensures { λ _. ⌜ Steps (now (sheet .entry)) generation (stepMarked (sheetOf (now (sheet .entry))) (decodeTable (now (table .entry))) i) (now (table .exit)) (now (tags .exit)) ⌝ }
+    requires { ⌜ Lent (now sheet) (now offsets) (now table) ⌝ ∗ ⌜ Ready (now sheet) (now tags) (now numbers) generation ⌝ ∗ ⌜ Linked (sheetOf (now sheet)) (now heads) (now links) ⌝ ∗ ⌜ (i < size (sheetOf (now sheet))) × (size (sheetOf (now sheet)) ≤ length (now owed)) ⌝ }
+    ensures { λ _. ⌜ Steps (now (sheet .entry)) generation (stepMarkedBy (owes (now (owed .entry))) (sheetOf (now (sheet .entry))) (decodeTable (now (table .entry))) i) (now (table .exit)) (now (tags .exit)) ⌝ }
 {
     if table::is_marked(table, i) {
         step_item(
@@ -152,6 +158,7 @@ fn step_marked(
             numbers,
             heads,
             links,
+            owed,
             generation,
             i,
         );
@@ -167,11 +174,12 @@ fn step_twice(
     numbers: &mut [i64],
     heads: &[u16],
     links: &[u16],
+    owed: &[u8],
     generation: u64,
     i: usize,
 )
-    requires { ⌜ Lent (now sheet) (now offsets) (now table) ⌝ ∗ ⌜ Ready (now sheet) (now tags) (now numbers) (generation + 1) ⌝ ∗ ⌜ NoneFrom 0 (now tags) generation ⌝ ∗ ⌜ Linked (sheetOf (now sheet)) (now heads) (now links) ⌝ ∗ ⌜ i < size (sheetOf (now sheet)) ⌝ }
-    ensures { λ _. ⌜ Steps (now (sheet .entry)) (generation + 1) (stepMarked (sheetOf (now (sheet .entry))) (stepMarked (sheetOf (now (sheet .entry))) (decodeTable (now (table .entry))) i) i) (now (table .exit)) (now (tags .exit)) ⌝ }
+    requires { ⌜ Lent (now sheet) (now offsets) (now table) ⌝ ∗ ⌜ Ready (now sheet) (now tags) (now numbers) (generation + 1) ⌝ ∗ ⌜ NoneFrom 0 (now tags) generation ⌝ ∗ ⌜ Linked (sheetOf (now sheet)) (now heads) (now links) ⌝ ∗ ⌜ (i < size (sheetOf (now sheet))) × (size (sheetOf (now sheet)) ≤ length (now owed)) ⌝ }
+    ensures { λ _. ⌜ Steps (now (sheet .entry)) (generation + 1) (stepMarkedBy (owes (now (owed .entry))) (sheetOf (now (sheet .entry))) (stepMarkedBy (owes (now (owed .entry))) (sheetOf (now (sheet .entry))) (decodeTable (now (table .entry))) i) i) (now (table .exit)) (now (tags .exit)) ⌝ }
 {
     if table::is_marked(table, i) {
         step_item(
@@ -182,6 +190,7 @@ fn step_twice(
             numbers,
             heads,
             links,
+            owed,
             generation,
             i,
         );
@@ -193,6 +202,7 @@ fn step_twice(
             numbers,
             heads,
             links,
+            owed,
             generation + 1,
             i,
         );
@@ -200,7 +210,8 @@ fn step_twice(
 }
 
 // Catches up: one ascending pass, in which each item is stepped while it is marked. No item below `first` is marked. A step is
-// a generation of the memo, from 1 on.
+// a generation of the memo, from 1 on. The array is of what is owed at the start: later less is, and to call on more UNK children
+// changes nothing in the end.
 pub fn catch_up(
     sheet: &[u8],
     offsets: &[usize],
@@ -209,10 +220,11 @@ pub fn catch_up(
     numbers: &mut [i64],
     heads: &[u16],
     links: &[u16],
+    owed: &[u8],
     first: usize,
     n: usize,
 )
-    requires { ⌜ Lent (now sheet) (now offsets) (now table) ⌝ ∗ ⌜ Ready (now sheet) (now tags) (now numbers) (2 * first + 1) ⌝ ∗ ⌜ Linked (sheetOf (now sheet)) (now heads) (now links) ⌝ ∗ ⌜ n ≡ size (sheetOf (now sheet)) ⌝ ∗ ⌜ LowestMarked (decodeTable (now table)) n first ⌝ }
+    requires { ⌜ Lent (now sheet) (now offsets) (now table) ⌝ ∗ ⌜ Ready (now sheet) (now tags) (now numbers) (2 * first + 1) ⌝ ∗ ⌜ Linked (sheetOf (now sheet)) (now heads) (now links) ⌝ ∗ ⌜ (n ≡ size (sheetOf (now sheet))) × OwedIs (sheetOf (now sheet)) (decodeTable (now table)) (now owed) ⌝ ∗ ⌜ LowestMarked (decodeTable (now table)) n first ⌝ }
     ensures { λ _. ⌜ Steps (now (sheet .entry)) (2 * n) (catchUp (sheetOf (now (sheet .entry))) (decodeTable (now (table .entry)))) (now (table .exit)) (now (tags .exit)) ⌝ }
 {
     let mut i = first;
@@ -226,6 +238,7 @@ pub fn catch_up(
             numbers,
             heads,
             links,
+            owed,
             generation,
             i,
         );

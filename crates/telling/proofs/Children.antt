@@ -3,17 +3,19 @@ use Prim.Native.Nat.{ℕ, zero, suc, _+_, _-_, _/_, _<_, _≤_}
 use native.Mathlib.Omega.{arith}
 use native.Mathlib.Numerals.{add-one}
 use mathlib.Core.Path.{_≡_, refl, sym, ap, subst, _∙_}
-use mathlib.Core.Bool.{true}
+use mathlib.Core.Bool.{Bool, true, false}
 use mathlib.Core.List.{List}
 use lib.IntN.{ℤ}
 use lib.ListN.{length, getD}
+use borrow.Author.Tests.{ne-eqb}
 use Rattle.circuit.specs.Rules.{maxParents}
 use Rattle.circuit.specs.Sheet.{Sheet, Item, entry, figure, size, itemAt, isFigure, parents, parentsOf, member, isChild}
 use Rattle.circuit.specs.Table.{Table}
-use Rattle.circuit.specs.Machine.{tellChild, tellIf, tellBelow, tell}
+use Rattle.circuit.specs.Ascending.{tellChildBy, tellIfBy, tellBelowBy, tellWhere, tellBy}
 use Rattle.layout.specs.Opened.{sheetOf}
 use Rattle.item.proofs.Located.{sheet-ordered}
 use Rattle.table.specs.Bytes.{decodeTable}
+use Rattle.owing.specs.Owing.{owes}
 use Rattle.children.specs.Children.{NoChild, Leads, Linked}
 use Rattle.children.proofs.Linking.{Child, leads-child, leads-end, left, next-less, place-child}
 use Rattle.memo.specs.Memo.{Memo, NoneFrom}
@@ -27,35 +29,36 @@ member-figure entry i e = e
 member-figure (figure op k s ps) i e = refl
 
 -- items that are no children are passed over
-tell-none : (S : Sheet) (i : ℕ) (T : Table) (c j : ℕ) → NoChild S i c (c + j) → tellBelow S i T (c + j) ≡ tellBelow S i T c
-unfolding tellBelow
-tell-none S i T c zero none = let same : c + 0 ≡ c = omega arith in ap (tellBelow S i T) same
-tell-none S i T c (suc j) none =
+tell-none : (w : ℕ → Bool) (S : Sheet) (i : ℕ) (T : Table) (c j : ℕ) → NoChild S i c (c + j) → tellBelowBy w S i T (c + j) ≡ tellBelowBy w S i T c
+unfolding tellBelowBy
+tell-none w S i T c zero none = let same : c + 0 ≡ c = omega arith in ap (tellBelowBy w S i T) same
+tell-none w S i T c (suc j) none =
     let next : c + suc j ≡ suc (c + j) = omega arith in
-    ap (tellBelow S i T) next
-    ∙ ap (λ b. tellIf b S (tellBelow S i T (c + j)) (c + j)) (none (c + j) (omega arith) (omega arith)) ∙ tell-none S i T c j (λ x a b. none x a (omega arith))
+    ap (tellBelowBy w S i T) next
+    ∙ ap (λ b. tellIfBy b (w (c + j)) S (tellBelowBy w S i T (c + j)) (c + j)) (none (c + j) (omega arith) (omega arith))
+    ∙ tell-none w S i T c j (λ x a b. none x a (omega arith))
 
-tell-over : (S : Sheet) (i : ℕ) (T : Table) (c d : ℕ) → c ≤ d → NoChild S i c d → tellBelow S i T d ≡ tellBelow S i T c
-tell-over S i T c d h none =
+tell-over : (w : ℕ → Bool) (S : Sheet) (i : ℕ) (T : Table) (c d : ℕ) → c ≤ d → NoChild S i c d → tellBelowBy w S i T d ≡ tellBelowBy w S i T c
+tell-over w S i T c d h none =
     let sum : d ≡ c + (d - c) = omega arith in
-    ap (tellBelow S i T) sum ∙ tell-none S i T c (d - c) (λ x a b. none x a (omega arith))
+    ap (tellBelowBy w S i T) sum ∙ tell-none w S i T c (d - c) (λ x a b. none x a (omega arith))
 
 -- The loop over the children of item i: those below `from` are told, and the edge leads to the next.
-pub record Telling (s offsets t₀ tags₀ : List ℕ) (numbers₀ : List ℤ) (generation i edge : ℕ) (t tags : List ℕ) (numbers : List ℤ) : Type 0 where
+pub record Telling (w : ℕ → Bool) (s offsets t₀ tags₀ : List ℕ) (numbers₀ : List ℤ) (generation i edge : ℕ) (t tags : List ℕ) (numbers : List ℤ) : Type 0 where
   pub lent : Lent s offsets t
   pub from : ℕ
   pub within : from ≤ size (sheetOf s)
   pub leads : Leads (sheetOf s) i from edge
-  pub moves : Moves s generation from (tellBelow (sheetOf s) i (decodeTable t₀) from) t tags numbers
+  pub moves : Moves s generation from (tellBelowBy w (sheetOf s) i (decodeTable t₀) from) t tags numbers
   pub t-length : length t ≡ length t₀
   pub tags-length : length tags ≡ length tags₀
   pub numbers-length : length numbers ≡ length numbers₀
 
-pub telling-start : {s offsets t tags heads links : List ℕ} {numbers : List ℤ} {generation i : ℕ} → Lent s offsets t → Memo (sheetOf s) (decodeTable t) tags numbers generation
+pub telling-start : (w : ℕ → Bool) {s offsets t tags heads links : List ℕ} {numbers : List ℤ} {generation i : ℕ} → Lent s offsets t → Memo (sheetOf s) (decodeTable t) tags numbers generation
     → NoneFrom 0 tags generation → Linked (sheetOf s) heads links → i < size (sheetOf s) → (edge : ℕ) → edge ≡ getD heads i 0
-    → Telling s offsets t tags numbers generation i edge t tags numbers
-unfolding tellBelow
-telling-start {s} {offsets} {t} {tags} {heads} {links} {numbers} {generation} {i} lent memo none-from linked low edge is =
+    → Telling w s offsets t tags numbers generation i edge t tags numbers
+unfolding tellBelowBy
+telling-start w {s} {offsets} {t} {tags} {heads} {links} {numbers} {generation} {i} lent memo none-from linked low edge is =
     record {
       lent = lent;
       from = 0;
@@ -67,8 +70,8 @@ telling-start {s} {offsets} {t} {tags} {heads} {links} {numbers} {generation} {i
       numbers-length = refl;
     }
 
-module _ {s offsets t₀ tags₀ : List ℕ} {numbers₀ : List ℤ} {generation i edge : ℕ} {t tags : List ℕ} {numbers : List ℤ}
-    (inv : Telling s offsets t₀ tags₀ numbers₀ generation i edge t tags numbers) where
+module _ {w : ℕ → Bool} {s offsets t₀ tags₀ : List ℕ} {numbers₀ : List ℤ} {generation i edge : ℕ} {t tags : List ℕ} {numbers : List ℤ}
+    (inv : Telling w s offsets t₀ tags₀ numbers₀ generation i edge t tags numbers) where
   pub telling-memo : Memo (sheetOf s) (decodeTable t) tags numbers generation
   telling-memo = rw (inv .moves .table-is) (inv .moves .memo)
 
@@ -103,10 +106,10 @@ module _ {s offsets t₀ tags₀ : List ℕ} {numbers₀ : List ℤ} {generation
       telling-less edge₂ is = rw is (next-less links edge-low more (getD links edge 0) leads-on)
 
       pub telling-next : (t₂ tags₂ : List ℕ) (numbers₂ : List ℤ) → length t₂ ≡ length t → length tags₂ ≡ length tags → length numbers₂ ≡ length numbers
-          → Moves s generation (edge / maxParents) (tellChild (sheetOf s) (decodeTable t) (edge / maxParents)) t₂ tags₂ numbers₂
+          → Moves s generation (edge / maxParents) (tellChildBy (w (edge / maxParents)) (sheetOf s) (decodeTable t) (edge / maxParents)) t₂ tags₂ numbers₂
           → (edge₂ : ℕ) → edge₂ ≡ getD links edge 0
-          → Telling s offsets t₀ tags₀ numbers₀ generation i edge₂ t₂ tags₂ numbers₂
-      unfolding tellBelow
+          → Telling w s offsets t₀ tags₀ numbers₀ generation i edge₂ t₂ tags₂ numbers₂
+      unfolding tellBelowBy
       telling-next t₂ tags₂ numbers₂ a b d moves edge₂ is =
           record {
             lent = record { located = inv .lent .located; room = inv .lent .room; length-is = a ∙ inv .lent .length-is; formed = moves .formed };
@@ -125,20 +128,41 @@ module _ {s offsets t₀ tags₀ : List ℕ} {numbers₀ : List ℤ} {generation
             numbers-length = d ∙ inv .numbers-length;
           }
         where
-          told : tellChild (sheetOf s) (decodeTable t) (edge / maxParents) ≡ tellBelow (sheetOf s) i (decodeTable t₀) (edge / maxParents + 1)
-          told =
-              ap (λ T. tellChild (sheetOf s) T (edge / maxParents))
-              (inv .moves .table-is ∙ sym (tell-over (sheetOf s) i (decodeTable t₀) (inv .from) (edge / maxParents) (next .from) (next .none-before)))
-              ∙ ap (λ x. tellIf x (sheetOf s) (tellBelow (sheetOf s) i (decodeTable t₀) (edge / maxParents)) (edge / maxParents)) (sym child-is)
-              ∙ ap (tellBelow (sheetOf s) i (decodeTable t₀)) (sym (add-one (edge / maxParents)))
+          called : Bool
+          called = w (edge / maxParents)
 
-  pub telling-done : edge ≡ 0 → Moves s generation (size (sheetOf s)) (tell (sheetOf s) (decodeTable t₀) i) t tags numbers
-  unfolding tell
-  telling-done end =
-      let all = tell-over (sheetOf s) i (decodeTable t₀) (inv .from) (size (sheetOf s)) (inv .within) (leads-end (sheet-ordered s) (inv .leads) end) in
+          told : tellChildBy called (sheetOf s) (decodeTable t) (edge / maxParents) ≡ tellBelowBy w (sheetOf s) i (decodeTable t₀) (edge / maxParents + 1)
+          told =
+              ap (λ T. tellChildBy called (sheetOf s) T (edge / maxParents))
+              (inv .moves .table-is ∙ sym (tell-over w (sheetOf s) i (decodeTable t₀) (inv .from) (edge / maxParents) (next .from) (next .none-before)))
+              ∙ ap (λ x. tellIfBy x called (sheetOf s) (tellBelowBy w (sheetOf s) i (decodeTable t₀) (edge / maxParents)) (edge / maxParents)) (sym child-is)
+              ∙ ap (tellBelowBy w (sheetOf s) i (decodeTable t₀)) (sym (add-one (edge / maxParents)))
+
+  pub telling-done : w i ≡ true → edge ≡ 0 → Moves s generation (size (sheetOf s)) (tellBy w (sheetOf s) (decodeTable t₀) i) t tags numbers
+  unfolding tellBy
+  telling-done owed end =
+      let all : tellWhere (w i) w (sheetOf s) (decodeTable t₀) i ≡ tellBelowBy w (sheetOf s) i (decodeTable t₀) (inv .from)
+      = ap (λ b. tellWhere b w (sheetOf s) (decodeTable t₀) i) owed
+      ∙ tell-over w (sheetOf s) i (decodeTable t₀) (inv .from) (size (sheetOf s)) (inv .within) (leads-end (sheet-ordered s) (inv .leads) end) in
       record {
         table-is = inv .moves .table-is ∙ sym all;
         formed = inv .moves .formed;
         memo = subst (λ U. Memo (sheetOf s) U tags numbers generation) (sym all) (inv .moves .memo);
         fresh = λ j h. inv .moves .fresh j (omega (arith, inv .within));
       }
+
+-- where the item is not owed, nobody is told
+pub telling-none : (w : ℕ → Bool) {s offsets t tags : List ℕ} {numbers : List ℤ} {generation i : ℕ} → Lent s offsets t
+    → Memo (sheetOf s) (decodeTable t) tags numbers generation → NoneFrom 0 tags generation → w i ≡ false
+    → Moves s generation (size (sheetOf s)) (tellBy w (sheetOf s) (decodeTable t) i) t tags numbers
+unfolding tellBy
+telling-none w {s} {offsets} {t} {tags} {numbers} {generation} {i} lent memo none-from unowed =
+    subst (λ U. Moves s generation (size (sheetOf s)) U t tags numbers) (ap (λ b. tellWhere b w (sheetOf s) (decodeTable t) i) (sym unowed))
+    (record { table-is = refl; formed = lent .formed; memo = memo; fresh = λ j h. none-from j (omega arith) })
+
+-- what the array says of an item, by its byte
+pub byte-owes : (bytes : List ℕ) (i : ℕ) → (getD bytes i 0 ≡ 0 → ⊥) → owes bytes i ≡ true
+byte-owes bytes i n = rw (ne-eqb (getD bytes i 0) 0 n)
+
+pub byte-unowed : (bytes : List ℕ) (i : ℕ) → getD bytes i 0 ≡ 0 → owes bytes i ≡ false
+byte-unowed bytes i e = rw e

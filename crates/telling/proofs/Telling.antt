@@ -9,7 +9,8 @@ use lib.ListN.{getD}
 use Rattle.circuit.specs.Value.{Value, wellFormed}
 use Rattle.circuit.specs.Sheet.{Sheet, Spread, defer, renew, forget, size, itemAt, isFigure, spreadOf}
 use Rattle.circuit.specs.Table.{Table, Cell, Mark, unmarked, refresh, notice, unk, held, upd, valueIn}
-use Rattle.circuit.specs.Machine.{workOut, renewed, refreshCleared, tellStored, tellCell, tellChild}
+use Rattle.circuit.specs.Machine.{workOut, renewed, refreshCleared, tellStored, tellCell}
+use Rattle.circuit.specs.Ascending.{tellChildBy}
 use Rattle.layout.specs.Opened.{sheetOf}
 use Rattle.item.specs.Item.{fieldItem, spreadMeaning}
 use Rattle.item.proofs.Located.{sheet-ordered, located-item}
@@ -57,7 +58,7 @@ figure-may false x e h = let bad : _≡_ {A = ℕ} 0 1 = cc in absurd (omega ari
 
 module _ {s offsets t tags : List ℕ} {numbers : List ℤ} {generation c : ℕ} (lent : Lent s offsets t)
     (memo : Memo (sheetOf s) (decodeTable t) tags numbers generation) (none-from : NoneFrom c tags generation)
-    (low : c < size (sheetOf s)) (figured : isFigure (itemAt (sheetOf s) c) ≡ true) where
+    (low : c < size (sheetOf s)) (figured : isFigure (itemAt (sheetOf s) c) ≡ true) (called : Bool) where
   -- a cell that the figure may hold is stored
   cell-moves : (x : Cell) → wellFormed (valueIn x) ≡ true → (t₂ : List ℕ) → t₂ ≡ setRow width t c (encodeCell x)
       → Moves s generation c (upd (decodeTable t) c x) t₂ tags numbers
@@ -70,13 +71,24 @@ module _ {s offsets t tags : List ℕ} {numbers : List ℤ} {generation c : ℕ}
       }
 
   module _ (cell : Rattle.table.specs.declared.Cell.Cell) (reads : cellMeaning cell ≡ decodeTable t c) where
-    pub told-unk : (noticed : Bool) → cell ≡ Unk noticed → (t₂ : List ℕ) → t₂ ≡ setRow width t c (encodeCell (unk true))
-        → Moves s generation c (tellChild (sheetOf s) (decodeTable t) c) t₂ tags numbers
-    unfolding tellChild
-    told-unk noticed e t₂ stored =
-        subst (λ U. Moves s generation c U t₂ tags numbers)
-        (ap (tellCell (sheetOf s) (decodeTable t) c) (sym (sym reads ∙ ap cellMeaning e)))
-        (cell-moves (unk true) refl t₂ stored)
+    unk-told : (noticed : Bool) → cell ≡ Unk noticed → (b : Bool) → called ≡ b
+        → tellCell b (sheetOf s) (decodeTable t) c (unk noticed) ≡ tellChildBy called (sheetOf s) (decodeTable t) c
+    unfolding tellChildBy
+    unk-told noticed e b called-is =
+        ap (λ x. tellCell x (sheetOf s) (decodeTable t) c (unk noticed)) (sym called-is)
+        ∙ ap (tellCell called (sheetOf s) (decodeTable t) c) (sym (sym reads ∙ ap cellMeaning e))
+
+    -- an UNK child that is called on, and one that is passed over
+    pub told-unk : (noticed : Bool) → cell ≡ Unk noticed → called ≡ true → (t₂ : List ℕ) → t₂ ≡ setRow width t c (encodeCell (unk true))
+        → Moves s generation c (tellChildBy called (sheetOf s) (decodeTable t) c) t₂ tags numbers
+    told-unk noticed e called-is t₂ stored =
+        subst (λ U. Moves s generation c U t₂ tags numbers) (unk-told noticed e true called-is) (cell-moves (unk true) refl t₂ stored)
+
+    pub told-passed : (noticed : Bool) → cell ≡ Unk noticed → called ≡ false
+        → Moves s generation c (tellChildBy called (sheetOf s) (decodeTable t) c) t tags numbers
+    told-passed noticed e called-is =
+        subst (λ U. Moves s generation c U t tags numbers) (unk-told noticed e false called-is)
+        (record { table-is = refl; formed = lent .formed; memo = memo; fresh = none-from })
 
     module _ (v : Rattle.value.specs.declared.Value.Value) (m : Rattle.table.specs.declared.Mark.Mark) (is : cell ≡ Held v m) where
       holds-v : decodeTable t c ≡ held (meaning v) (markMeaning m)
@@ -90,21 +102,21 @@ module _ {s offsets t tags : List ℕ} {numbers : List ℤ} {generation c : ℕ}
 
       module _ (sp : Rattle.item.specs.declared.Spread.Spread) (spreads : spreadMeaning sp ≡ spreadOf (fieldItem s (getD offsets c 0)))
           (told : Told) (tells : told ≡ toldBy (spreadMeaning sp) (markMeaning m)) where
-        child-told : tellChild (sheetOf s) (decodeTable t) c ≡ tellStored (spreadMeaning sp) (sheetOf s) (decodeTable t) c (meaning v) (markMeaning m)
-        unfolding tellChild
+        child-told : tellChildBy called (sheetOf s) (decodeTable t) c ≡ tellStored (spreadMeaning sp) (sheetOf s) (decodeTable t) c (meaning v) (markMeaning m)
+        unfolding tellChildBy
         child-told =
-            ap (tellCell (sheetOf s) (decodeTable t) c) holds-v
+            ap (tellCell called (sheetOf s) (decodeTable t) c) holds-v
             ∙ ap (λ x. tellStored x (sheetOf s) (decodeTable t) c (meaning v) (markMeaning m)) (sym (spreads ∙ ap spreadOf (located-item s offsets (lent .located) c low)))
 
         pub told-forgets : told ≡ Forgets → (t₂ : List ℕ) → t₂ ≡ setRow width t c (encodeCell (unk true))
-            → Moves s generation c (tellChild (sheetOf s) (decodeTable t) c) t₂ tags numbers
+            → Moves s generation c (tellChildBy called (sheetOf s) (decodeTable t) c) t₂ tags numbers
         told-forgets e t₂ stored =
             subst (λ U. Moves s generation c U t₂ tags numbers)
             (sym (child-told ∙ tell-forgets (spreadMeaning sp) (markMeaning m) (sheetOf s) (decodeTable t) c (meaning v) (sym tells ∙ e)))
             (cell-moves (unk true) refl t₂ stored)
 
         pub told-refreshes : told ≡ Refreshes → (t₂ : List ℕ) → t₂ ≡ setRow width t c (encodeCell (held (meaning v) refresh))
-            → Moves s generation c (tellChild (sheetOf s) (decodeTable t) c) t₂ tags numbers
+            → Moves s generation c (tellChildBy called (sheetOf s) (decodeTable t) c) t₂ tags numbers
         told-refreshes e t₂ stored =
             subst (λ U. Moves s generation c U t₂ tags numbers)
             (sym (child-told ∙ tell-refreshes (spreadMeaning sp) (markMeaning m) (sheetOf s) (decodeTable t) c (meaning v) (sym tells ∙ e)))
@@ -112,7 +124,7 @@ module _ {s offsets t tags : List ℕ} {numbers : List ℤ} {generation c : ℕ}
 
         pub told-renews : told ≡ Renews → (k : Mark) → k ≡ refreshCleared (markMeaning m) → (t₂ tags₂ : List ℕ) (numbers₂ : List ℤ)
             → Moves s generation c (renewed c (meaning v) k (workOut (sheetOf s) (decodeTable t) c)) t₂ tags₂ numbers₂
-            → Moves s generation c (tellChild (sheetOf s) (decodeTable t) c) t₂ tags₂ numbers₂
+            → Moves s generation c (tellChildBy called (sheetOf s) (decodeTable t) c) t₂ tags₂ numbers₂
         told-renews e k cleared t₂ tags₂ numbers₂ moves =
             subst (λ U. Moves s generation c U t₂ tags₂ numbers₂)
             (ap (λ x. renewed c (meaning v) x (workOut (sheetOf s) (decodeTable t) c)) cleared

@@ -1,14 +1,17 @@
 // Telling the children of an item.
 ghost use mathlib.Core.Path.{_≡_};
 ghost use mathlib.Core.Bool.{true};
-ghost use Prim.Native.Nat.{_<_};
+ghost use Prim.Native.Nat.{_<_, _≤_};
+ghost use lib.ListN.{length};
 ghost use Rattle.circuit.specs.Sheet.{size, itemAt, isFigure};
-ghost use Rattle.circuit.specs.Machine.{workOut, renewed, refreshCleared, tellChild, tell};
+ghost use Rattle.circuit.specs.Machine.{workOut, renewed, refreshCleared};
+ghost use Rattle.circuit.specs.Ascending.{tellChildBy, tellBy};
 ghost use Rattle.layout.specs.Opened.{sheetOf};
 ghost use Rattle.value.specs.Meaning.{meaning};
 ghost use Rattle.item.specs.Item.{spreadMeaning};
 ghost use Rattle.table.specs.Bytes.{decodeTable};
 ghost use Rattle.table.specs.Meaning.{markMeaning};
+ghost use Rattle.owing.specs.Owing.{owes};
 ghost use Rattle.children.specs.Children.{Linked};
 ghost use Rattle.memo.specs.Memo.{Memo, NoneFrom};
 ghost use Rattle.looking.specs.Pass.{Lent};
@@ -76,7 +79,7 @@ pub fn renew(
     }
 }
 
-// Tells child c that a parent has changed.
+// Tells child c that a parent has changed. If it is UNK, it gets notice where it is called on, and is passed over elsewhere.
 fn tell_child(
     sheet: &[u8],
     offsets: &[usize],
@@ -85,13 +88,16 @@ fn tell_child(
     numbers: &mut [i64],
     generation: u64,
     c: usize,
+    called: bool,
 )
     requires { ⌜ Lent (now sheet) (now offsets) (now table) ⌝ ∗ ⌜ Memo (sheetOf (now sheet)) (decodeTable (now table)) (now tags) (now numbers) generation ⌝ ∗ ⌜ NoneFrom c (now tags) generation ⌝ ∗ ⌜ c < size (sheetOf (now sheet)) ⌝ ∗ ⌜ isFigure (itemAt (sheetOf (now sheet)) c) ≡ true ⌝ }
-    ensures { λ _. ⌜ Moves (now (sheet .entry)) generation c (tellChild (sheetOf (now (sheet .entry))) (decodeTable (now (table .entry))) c) (now (table .exit)) (now (tags .exit)) (now (numbers .exit)) ⌝ }
+    ensures { λ _. ⌜ Moves (now (sheet .entry)) generation c (tellChildBy called (sheetOf (now (sheet .entry))) (decodeTable (now (table .entry))) c) (now (table .exit)) (now (tags .exit)) (now (numbers .exit)) ⌝ }
 {
     match table::read_cell(table, c) {
         Cell::Unk(_) => {
-            table::store_cell(table, c, Cell::Unk(true));
+            if called {
+                table::store_cell(table, c, Cell::Unk(true));
+            }
         }
         Cell::Held(value, mark) => {
             match told_by(item::spread_of(sheet, offsets[c]), mark) {
@@ -125,7 +131,8 @@ fn wide(edge: u16) -> usize
     edge as usize
 }
 
-// Tells the children of item i, lowest first, by their list. They have higher numbers.
+// Tells the children of item i, lowest first, by their list. They have higher numbers. UNK children are called on where the array `owed` says
+// that they are owed. If it does not say so of item i, no child is stored or owed, and there is nobody to tell.
 pub fn tell_children(
     sheet: &[u8],
     offsets: &[usize],
@@ -134,14 +141,19 @@ pub fn tell_children(
     numbers: &mut [i64],
     heads: &[u16],
     links: &[u16],
+    owed: &[u8],
     generation: u64,
     i: usize,
 )
-    requires { ⌜ Lent (now sheet) (now offsets) (now table) ⌝ ∗ ⌜ Memo (sheetOf (now sheet)) (decodeTable (now table)) (now tags) (now numbers) generation ⌝ ∗ ⌜ NoneFrom 0 (now tags) generation ⌝ ∗ ⌜ Linked (sheetOf (now sheet)) (now heads) (now links) ⌝ ∗ ⌜ i < size (sheetOf (now sheet)) ⌝ }
-    ensures { λ _. ⌜ Moves (now (sheet .entry)) generation (size (sheetOf (now (sheet .entry)))) (tell (sheetOf (now (sheet .entry))) (decodeTable (now (table .entry))) i) (now (table .exit)) (now (tags .exit)) (now (numbers .exit)) ⌝ }
+    requires { ⌜ Lent (now sheet) (now offsets) (now table) ⌝ ∗ ⌜ Memo (sheetOf (now sheet)) (decodeTable (now table)) (now tags) (now numbers) generation ⌝ ∗ ⌜ NoneFrom 0 (now tags) generation ⌝ ∗ ⌜ Linked (sheetOf (now sheet)) (now heads) (now links) ⌝ ∗ ⌜ (i < size (sheetOf (now sheet))) × (size (sheetOf (now sheet)) ≤ length (now owed)) ⌝ }
+    ensures { λ _. ⌜ Moves (now (sheet .entry)) generation (size (sheetOf (now (sheet .entry)))) (tellBy (owes (now (owed .entry))) (sheetOf (now (sheet .entry))) (decodeTable (now (table .entry))) i) (now (table .exit)) (now (tags .exit)) (now (numbers .exit)) ⌝ }
 {
+    if owed[i] == 0 {
+        return;
+    }
     let mut edge = wide(heads[i]);
     while edge != 0 {
+        let c = edge / MAX_PARENTS;
         tell_child(
             sheet,
             offsets,
@@ -149,7 +161,8 @@ pub fn tell_children(
             tags,
             numbers,
             generation,
-            edge / MAX_PARENTS,
+            c,
+            owed[c] != 0,
         );
         edge = wide(links[edge]);
     }

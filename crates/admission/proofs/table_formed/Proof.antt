@@ -63,12 +63,18 @@ loop-again c =
           (l .inv .1),
     )
 
+owed-true-requires : tie.Need-owed-true-requires Inv-loop μ-loop
+owed-true-requires c κs =
+    let p = c .before .before .before .before .before .pre in
+    (p .0 .located, (p .0 .count-is, (p .0 .room, p .1)))
+
 returns-2 : tie.Need-returns-2 Inv-loop μ-loop
 returns-2 c =
-    let a = c .before .before .before .before .before .args in
-    let p = c .before .before .before .before .before .pre .0 in
-    let l = c .before .loop in
-    formed-done (sheetOf (a .sheet .now)) (a .table .now) (l .k) (omega (arith, p .count-is, l .inv .0, c .loop-test .left)) (l .inv .1)
+    let a = c .before .before .before .before .before .before .args in
+    let p = c .before .before .before .before .before .before .pre .0 in
+    let l = c .before .before .loop in
+    formed-done (sheetOf (a .sheet .now)) (a .table .now) (l .k) (omega (arith, p .count-is, l .inv .0, c .before .loop-test .left)) (l .inv .1) (c .owed-true .result)
+    (c .owed-true .ensures)
 
 pub table-formed-spec : {M : Type 1} → statement M
 table-formed-spec =
@@ -85,4 +91,5 @@ table-formed-spec =
     add-k
     loop-less
     loop-again
+    owed-true-requires
     returns-2)

@@ -6,7 +6,7 @@ use lib.ListN.{replicate}
 use Rattle.circuit.specs.Rules.{maxParents}
 use Rattle.layout.specs.Layout.{itemLimit, mostItems}
 use Rattle.item.proofs.Located.{size-most, size-room}
-use Rattle.stepping.proofs.Starting.{same-all, ready-later, lists-linked}
+use Rattle.stepping.proofs.Starting.{same-all, ready-later, lists-linked, copied-owed}
 use borrow.Author.Needs.{needs}
 use Rattle.catching.proofs.catch_up_from.Statement.{statement}
 use Rattle.catching.proofs.catch_up_from.Tie as tie
@@ -14,24 +14,39 @@ use Rattle.catching.proofs.catch_up_from.Tie as tie
 link-requires : tie.Need-link-requires
 unfolding mostItems itemLimit maxParents
 link-requires c κs =
-    let a = c .before .before .before .before .before .before .args in
-    let p = c .before .before .before .before .before .before .pre in
-    let most = size-room (a .sheet .now) in
-    (p .0 .located, (p .1 .1 .0, (omega (arith, p .0 .room, p .1 .1 .0), (omega (arith, most, p .1 .1 .0), omega (arith, most, p .1 .1 .0)))))
+    let e = c .before .before .before .before .before .before in
+    let most = size-room (e .args .sheet .now) in
+    let n-is = e .pre .1 .1 .0 .0 in
+    (e .pre .0 .located, (n-is, (omega (arith, e .pre .0 .room, n-is), (omega (arith, most, n-is), omega (arith, most, n-is)))))
+
+copy-owed-requires : tie.Need-copy-owed-requires
+unfolding mostItems itemLimit
+copy-owed-requires c κs =
+    let e = c .before .before .before .before .before .before .before .before .before .before .before in
+    let n-is = e .pre .1 .1 .0 .0 in
+    (omega (arith, e .pre .0 .length-is, n-is), omega (arith, size-room (e .args .sheet .now), n-is))
 
 catch-up-requires : tie.Need-catch-up-requires
 unfolding mostItems itemLimit maxParents
 catch-up-requires c κs =
-    let a = c .before .before .before .before .before .before .before .before .before .before .before .before .before .before .args in
-    let p = c .before .before .before .before .before .before .before .before .before .before .before .before .before .before .pre in
-    let l = c .before .before .before .before .before .before .before .link in
-    let ready = ready-later (p .1 .0) (2 * a .first + 1) (omega arith) (omega (arith, size-most (a .sheet .now), p .1 .1 .0, p .1 .1 .1 .1)) in (
+    let e = c .before .before .before .before .before .before .before .before .before .before .before .before .before .before .before .before .before .before .before in
+    let p = e .pre in
+    let n-is = p .1 .1 .0 .0 in
+    let l = c .before .before .before .before .before .before .before .before .before .before .before .before .link in
+    let ready = ready-later (p .1 .0) (2 * e .args .first + 1) (omega arith) (omega (arith, size-most (e .args .sheet .now), n-is, p .1 .1 .1 .1)) in (
       p .0,
       (
         ready,
         (
           lists-linked (p .0) (replicate mostItems 0) (replicate (maxParents * mostItems) 0) _ _ refl refl (same-all 0 mostItems) (l .ensures .0) (l .ensures .1),
-          (p .1 .1 .0, p .1 .1 .1 .0),
+          (
+            (
+              n-is,
+              copied-owed (e .args .sheet .now) (e .args .table .now) _ (e .args .n) (p .1 .1 .0 .1) n-is (omega (arith, size-room (e .args .sheet .now), n-is))
+                  (c .before .before .before .before .before .before .before .copy-owed .ensures),
+            ),
+            p .1 .1 .1 .0,
+          ),
         ),
       ),
     )
@@ -43,6 +58,9 @@ catch-up-from-spec =
     (λ c. search needs)
     (λ c. search needs)
     link-requires
+    (λ c. search needs)
+    copy-owed-requires
+    (λ c. search needs)
     (λ c. search needs)
     (λ c. search needs)
     catch-up-requires

@@ -1,24 +1,28 @@
 -- `stepping::step_item` meets its contract. Assumes nothing.
 use mathlib.Core.Path.{sym, _∙_}
-use Rattle.stepping.proofs.Stepping.{steps-noticed}
+use Rattle.stepping.proofs.Stepping.{steps-noticed, steps-unnoticed}
+use Rattle.owing.specs.Owing.{owes}
 use borrow.Author.Needs.{needs}
 use Rattle.stepping.proofs.step_item.Statement.{statement}
 use Rattle.stepping.proofs.step_item.Tie as tie
 
 step-refresh-requires : tie.Need-step-refresh-requires
 step-refresh-requires c κs =
-    let q = c .before .before .before .before .before .before .before .before .before .before .before .before .pre in
-    (q .0, (q .1 .0, (q .1 .1 .1, sym (c .before .before .before .before .is-noticed .ensures) ∙ c .before .before .before .if1 .left)))
+    let q = c .before .before .before .before .before .before .before .before .before .before .before .before .before .pre in
+    (q .0, (q .1 .0, (q .1 .1 .1 .0, sym (c .before .before .before .before .is-noticed .ensures) ∙ c .before .before .before .if1 .left)))
 
 returns : tie.Need-returns
 returns c =
-    let a = c .before .before .before .before .before .before .before .before .before .before .before .before .before .before .before .before .before .before .args in
-    steps-noticed (a .sheet .now) (a .table .now) (a .i) _ (c .before .before .before .before .before .before .before .before .before .before .is-noticed .ensures)
+    let a = c .before .before .before .before .before .before .before .before .before .before .before .before .before .before .before .before .before .before .before .args in
+    steps-noticed (owes (a .owed .now)) (a .sheet .now) (a .table .now) (a .i) _ (c .before .before .before .before .before .before .before .before .before .before .is-noticed .ensures)
     (c .before .before .before .before .before .before .before .before .before .if1 .taken) (c .before .before .before .before .before .tell-and-clear .ensures)
 
 returns-2 : tie.Need-returns-2
 returns-2 c =
-    c .before .before .before .before .before .step-refresh .ensures
+    let d = c .before .before .before .before .before in
+    let a = d .before .before .before .before .before .before .before .before .before .before .before .before .before .before .args in
+    steps-unnoticed (owes (a .owed .now)) (a .sheet .now) (a .table .now) (a .i) _ (d .before .before .before .before .before .is-noticed .ensures)
+    (d .before .before .before .before .if1 .left) (d .step-refresh .ensures)
 
 pub step-item-spec : {M : Type 1} → statement M
 step-item-spec =

@@ -1,4 +1,4 @@
-use Rattle.telling.proofs.Telling.{told-renewable, told-unk, told-forgets, told-refreshes, told-renews}
+use Rattle.telling.proofs.Telling.{told-renewable, told-unk, told-passed, told-forgets, told-refreshes, told-renews}
 use Rattle.item.proofs.Located.{located-field}
 use borrow.Author.Needs.{needs}
 use Rattle.telling.proofs.tell_child.Statement.{statement}
@@ -19,7 +19,7 @@ renew-requires c κs =
         q .1 .0,
         (
           q .1 .1 .0,
-          told-renewable (q .0) (q .1 .0) (q .1 .1 .0) (q .1 .1 .1 .0) (q .1 .1 .1 .1)
+          told-renewable (q .0) (q .1 .0) (q .1 .1 .0) (q .1 .1 .1 .0) (q .1 .1 .1 .1) (a .called)
               (c .before .before .before .before .before .before .before .before .before .before .before .before .read-cell .result)
               (c .before .before .before .before .before .before .before .before .before .before .before .before .read-cell .ensures) _ _
               (c .before .before .before .before .before .before .before .before .before .before .value .given .1),
@@ -29,17 +29,24 @@ renew-requires c κs =
 
 returns : tie.Need-returns
 returns c =
-    let q = c .before .before .before .before .before .before .before .before .before .before .before .before .pre in
-    let a = c .before .before .before .before .before .before .before .before .before .before .before .before .args in
-    told-unk (q .0) (q .1 .0) (q .1 .1 .0) (q .1 .1 .1 .0) (q .1 .1 .1 .1) (c .before .before .before .before .before .before .read-cell .result)
-    (c .before .before .before .before .before .before .read-cell .ensures) _ (c .before .before .before .before .enum-told .given .1) _
-    (c .before .before .store-cell .ensures)
+    let d = c .before .before .before .before .before in
+    let q = d .before .before .before .before .before .before .before .before .pre in
+    let a = d .before .before .before .before .before .before .before .before .args in
+    told-unk (q .0) (q .1 .0) (q .1 .1 .0) (q .1 .1 .1 .0) (q .1 .1 .1 .1) (a .called) (d .before .before .read-cell .result) (d .before .before .read-cell .ensures) _
+    (d .enum-told .given .1) (c .before .before .before .before .if1 .taken) _ (c .before .before .store-cell .ensures)
 
 returns-2 : tie.Need-returns-2
 returns-2 c =
+    let q = c .before .before .before .before .before .before .before .before .before .pre in
+    let a = c .before .before .before .before .before .before .before .before .before .args in
+    told-passed (q .0) (q .1 .0) (q .1 .1 .0) (q .1 .1 .1 .0) (q .1 .1 .1 .1) (a .called) (c .before .before .before .read-cell .result)
+    (c .before .before .before .read-cell .ensures) _ (c .before .enum-told .given .1) (c .if1 .left)
+
+returns-3 : tie.Need-returns-3
+returns-3 c =
     let q = c .before .before .before .before .before .before .before .before .before .before .before .before .before .before .before .before .before .before .pre in
     let a = c .before .before .before .before .before .before .before .before .before .before .before .before .before .before .before .before .before .before .args in
-    told-forgets (q .0) (q .1 .0) (q .1 .1 .0) (q .1 .1 .1 .0) (q .1 .1 .1 .1)
+    told-forgets (q .0) (q .1 .0) (q .1 .1 .0) (q .1 .1 .1 .0) (q .1 .1 .1 .1) (a .called)
     (c .before .before .before .before .before .before .before .before .before .before .before .before .read-cell .result)
     (c .before .before .before .before .before .before .before .before .before .before .before .before .read-cell .ensures) _ _
     (c .before .before .before .before .before .before .before .before .before .before .value .given .1)
@@ -47,11 +54,11 @@ returns-2 c =
     (c .before .before .before .before .before .before .told-by .ensures) (c .before .before .before .before .enum-told2 .given .1) _
     (c .before .before .store-cell2 .ensures)
 
-returns-3 : tie.Need-returns-3
-returns-3 c =
+returns-4 : tie.Need-returns-4
+returns-4 c =
     let q = c .before .before .before .before .before .before .before .before .before .before .before .before .before .before .before .before .before .before .pre in
     let a = c .before .before .before .before .before .before .before .before .before .before .before .before .before .before .before .before .before .before .args in
-    told-refreshes (q .0) (q .1 .0) (q .1 .1 .0) (q .1 .1 .1 .0) (q .1 .1 .1 .1)
+    told-refreshes (q .0) (q .1 .0) (q .1 .1 .0) (q .1 .1 .1 .0) (q .1 .1 .1 .1) (a .called)
     (c .before .before .before .before .before .before .before .before .before .before .before .before .read-cell .result)
     (c .before .before .before .before .before .before .before .before .before .before .before .before .read-cell .ensures) _ _
     (c .before .before .before .before .before .before .before .before .before .before .value .given .1)
@@ -59,13 +66,13 @@ returns-3 c =
     (c .before .before .before .before .before .before .told-by .ensures) (c .before .before .before .before .enum-told3 .given .1) _
     (c .before .before .store-cell3 .ensures)
 
-returns-4 : tie.Need-returns-4
-returns-4 c =
+returns-5 : tie.Need-returns-5
+returns-5 c =
     let d = c .before .before .before .before .before .before .before .before .before .before .before .before .before .before .before .before in
     let b = d .before .before .before .before .before .before .before .before in
     let q = b .pre in
     let a = b .args in
-    told-renews (q .0) (q .1 .0) (q .1 .1 .0) (q .1 .1 .1 .0) (q .1 .1 .1 .1)
+    told-renews (q .0) (q .1 .0) (q .1 .1 .0) (q .1 .1 .1 .0) (q .1 .1 .1 .1) (a .called)
     (c .before .before .before .before .before .before .before .before .before .before .before .before .before .before .before .before .before .before .read-cell .result)
     (c .before .before .before .before .before .before .before .before .before .before .before .before .before .before .before .before .before .before .read-cell .ensures)
     _ _ (c .before .before .before .before .before .before .before .before .before .before .before .before .before .before .before .before .value .given .1)
@@ -101,6 +108,8 @@ tell-child-spec =
     (λ c. search needs)
     returns-3
     (λ c. search needs)
+    returns-4
     (λ c. search needs)
     (λ c. search needs)
-    returns-4)
+    (λ c. search needs)
+    returns-5)

@@ -4,98 +4,119 @@ use native.Mathlib.Omega.{arith}
 use borrow.Author.Needs.{needs}
 use Rattle.circuit.specs.Rules.{maxParents}
 use Rattle.item.proofs.Located.{size-most, located-narrow}
+use Rattle.owing.specs.Owing.{owes}
 use Rattle.children.proofs.Linking.{left}
 use Rattle.telling.proofs.Children.{Telling, telling-start, telling-memo, child-low, child-figure, child-fresh, edge-low, telling-less, telling-next, telling-done}
+use Rattle.telling.proofs.Children.{telling-none, byte-owes, byte-unowed}
 use Rattle.telling.proofs.tell_children.Statement.{statement}
 use Rattle.telling.proofs.tell_children.Tie as tie
 
 abbrev Inv-loop : tie.InvT-loop
-Inv-loop sheet offsets table₀ tags₀ numbers₀ heads links generation i edge₀ table tags numbers edge =
-    Telling sheet offsets table₀ tags₀ numbers₀ generation i edge table tags numbers
+Inv-loop sheet offsets table₀ tags₀ numbers₀ heads links owed generation i edge₀ table tags numbers edge =
+    Telling (owes owed) sheet offsets table₀ tags₀ numbers₀ generation i edge table tags numbers
 
 abbrev μ-loop : tie.MeasureT-loop
-μ-loop sheet offsets table₀ tags₀ numbers₀ heads links generation i edge₀ table tags numbers edge = left links edge
+μ-loop sheet offsets table₀ tags₀ numbers₀ heads links owed generation i edge₀ table tags numbers edge = left links edge
+
+shared-slice-read-if1 : tie.Need-shared-slice-read-if1 Inv-loop μ-loop
+shared-slice-read-if1 c =
+    let q = c .before .before .before .before .before .before .before .before .pre in
+    omega (arith, q .1 .1 .1 .1 .0, q .1 .1 .1 .1 .1)
+
+returns : tie.Need-returns Inv-loop μ-loop
+returns c =
+    let q = c .before .before .before .before .before .before .before .before .before .pre in
+    let a = c .before .before .before .before .before .before .before .before .before .args in
+    telling-none (owes (a .owed .now)) (q .0) (q .1 .0) (q .1 .1 .0) (byte-unowed (a .owed .now) (a .i) (c .if1 .taken))
 
 mul-wide : tie.Need-mul-wide Inv-loop μ-loop
 mul-wide c =
-    let a = c .before .before .before .before .before .before in
-    record { fits = omega (arith, size-most (a .args .sheet .now), a .pre .1 .1 .1 .1) }
+    let a = c .before .before .before .before .before .before .before .before .before in
+    record { fits = omega (arith, size-most (a .args .sheet .now), a .pre .1 .1 .1 .1 .0) }
 
 shared-slice-read-wide : tie.Need-shared-slice-read-wide Inv-loop μ-loop
 shared-slice-read-wide c =
-    let a = c .before .before .before .before .before .before .before in
-    omega (arith, a .pre .1 .1 .1 .0 .head-room, a .pre .1 .1 .1 .1)
+    let a = c .before .before .before .before .before .before .before .before .before .before in
+    omega (arith, a .pre .1 .1 .1 .0 .head-room, a .pre .1 .1 .1 .1 .0)
 
 wide-requires : tie.Need-wide-requires Inv-loop μ-loop
-wide-requires c κs =
-    search needs
+wide-requires c κs = search needs
 
 loop-holds : tie.Need-loop-holds Inv-loop μ-loop
 loop-holds c =
-    let q = c .before .before .before .before .before .before .before .before .pre in
-    telling-start (q .0) (q .1 .0) (q .1 .1 .0) (q .1 .1 .1 .0) (q .1 .1 .1 .1) _ (c .wide .ensures)
+    let a = c .before .before .before .before .before .before .before .before .before .before .before .args in
+    let q = c .before .before .before .before .before .before .before .before .before .before .before .pre in
+    telling-start (owes (a .owed .now)) (q .0) (q .1 .0) (q .1 .1 .0) (q .1 .1 .1 .0) (q .1 .1 .1 .1 .0) _ (c .wide .ensures)
+
+shared-slice-read-tell-child : tie.Need-shared-slice-read-tell-child Inv-loop μ-loop
+unfolding maxParents
+shared-slice-read-tell-child c =
+    let q = c .before .before .before .before .before .before .before .before .before .before .before .before .before .before .before .before .before .pre in
+    let inv = c .before .before .before .before .before .loop .inv in
+    let more = c .before .before .before .before .loop-test .taken in
+    omega (arith, q .1 .1 .1 .1 .1, child-low inv more)
 
 tell-child-requires : tie.Need-tell-child-requires Inv-loop μ-loop
 unfolding maxParents
 tell-child-requires c κs =
-    let inv = c .before .before .before .before .loop .inv in
-    let more = c .before .before .before .loop-test .taken in
+    let inv = c .before .before .before .before .before .loop .inv in
+    let more = c .before .before .before .before .loop-test .taken in
     (inv .lent, (telling-memo inv, (child-fresh inv more, (child-low inv more, child-figure inv more))))
 
 mul-wide-2 : tie.Need-mul-wide-2 Inv-loop μ-loop
 unfolding maxParents
 mul-wide-2 c =
-    let a = c .before .before .before .before .before .before .before .before .before .before .before .before .before .before .before .before .before .before .before in
-    let inv = c .before .before .before .before .before .before .before .before .before .before .loop .inv in
-    let more = c .before .before .before .before .before .before .before .before .before .loop-test .taken in
-    let narrow = located-narrow (a .args .sheet .now) (a .args .offsets .now) (inv .lent .located) _ (child-low inv more) in
+    let l = c .before .before .before .before .before .before .before .before .before .before .before in
+    let a = l .before .before .before .before .before .before .before .before .before .before .before .before in
+    let inv = l .loop .inv in
+    let more = c .before .before .before .before .before .before .before .before .before .before .loop-test .taken in
     record { fits = omega (arith, size-most (a .args .sheet .now), child-low inv more) }
 
 shared-slice-read-wide-2 : tie.Need-shared-slice-read-wide-2 Inv-loop μ-loop
 shared-slice-read-wide-2 c =
-    let a = c .before .before .before .before .before .before .before .before .before .before .before .before .before .before .before .before .before .before .before .before in
-    let inv = c .before .before .before .before .before .before .before .before .before .before .before .loop .inv in
-    let more = c .before .before .before .before .before .before .before .before .before .before .loop-test .taken in
+    let l = c .before .before .before .before .before .before .before .before .before .before .before .before in
+    let a = l .before .before .before .before .before .before .before .before .before .before .before .before in
+    let inv = l .loop .inv in
+    let more = c .before .before .before .before .before .before .before .before .before .before .before .loop-test .taken in
     let narrow = located-narrow (a .args .sheet .now) (a .args .offsets .now) (inv .lent .located) _ (child-low inv more) in
     edge-low inv more (a .pre .1 .1 .1 .0) narrow
 
 wide-requires-2 : tie.Need-wide-requires-2 Inv-loop μ-loop
-wide-requires-2 c κs =
-    search needs
+wide-requires-2 c κs = search needs
 
 loop-less : tie.Need-loop-less Inv-loop μ-loop
 loop-less c =
-    let a = c .before .before .before .before .before .before .before .before .before .before .before .before .before .before .before .before .before .before .before .before .before in
-    let inv = c .before .before .before .before .before .before .before .before .before .before .before .before .loop .inv in
-    let more = c .before .before .before .before .before .before .before .before .before .before .before .loop-test .taken in
+    let l = c .before .before .before .before .before .before .before .before .before .before .before .before .before in
+    let a = l .before .before .before .before .before .before .before .before .before .before .before .before in
+    let inv = l .loop .inv in
+    let more = c .before .before .before .before .before .before .before .before .before .before .before .before .loop-test .taken in
     let narrow = located-narrow (a .args .sheet .now) (a .args .offsets .now) (inv .lent .located) _ (child-low inv more) in
     telling-less inv more (a .pre .1 .1 .1 .0) narrow _ (c .wide2 .ensures)
 
 loop-again : tie.Need-loop-again Inv-loop μ-loop
 unfolding maxParents
 loop-again c =
-    let a = c .before .before .before .before .before .before .before .before .before .before .before .before .before .before .before .before .before .before .before .before .before in
-    let inv = c .before .before .before .before .before .before .before .before .before .before .before .before .loop .inv in
-    let more = c .before .before .before .before .before .before .before .before .before .before .before .loop-test .taken in
+    let l = c .before .before .before .before .before .before .before .before .before .before .before .before .before in
+    let a = l .before .before .before .before .before .before .before .before .before .before .before .before in
+    let inv = l .loop .inv in
+    let more = c .before .before .before .before .before .before .before .before .before .before .before .before .loop-test .taken in
     let narrow = located-narrow (a .args .sheet .now) (a .args .offsets .now) (inv .lent .located) _ (child-low inv more) in
-    let l = c .before .before .before .before .before .before .before .tell-child in
-    telling-next inv more (a .pre .1 .1 .1 .0) narrow _ _ _ (l .kept .1 .1 .0) (l .kept .1 .1 .1 .0) (l .kept .1 .1 .1 .1 .0) (l .ensures) _ (c .wide2 .ensures)
+    let told = c .before .before .before .before .before .before .before .tell-child in
+    telling-next inv more (a .pre .1 .1 .1 .0) narrow _ _ _ (told .kept .1 .1 .0) (told .kept .1 .1 .1 .0) (told .kept .1 .1 .1 .1 .0) (told .ensures) _ (c .wide2 .ensures)
 
 same-length : tie.Need-same-length Inv-loop μ-loop
-same-length c =
-    c .before .loop .inv .t-length
+same-length c = c .before .loop .inv .t-length
 
 same-length-2 : tie.Need-same-length-2 Inv-loop μ-loop
-same-length-2 c =
-    c .before .loop .inv .tags-length
+same-length-2 c = c .before .loop .inv .tags-length
 
 same-length-3 : tie.Need-same-length-3 Inv-loop μ-loop
-same-length-3 c =
-    c .before .loop .inv .numbers-length
+same-length-3 c = c .before .loop .inv .numbers-length
 
-returns : tie.Need-returns Inv-loop μ-loop
-returns c =
-    telling-done (c .before .loop .inv) (c .loop-test .left)
+returns-2 : tie.Need-returns-2 Inv-loop μ-loop
+returns-2 c =
+    let a = c .before .before .before .before .before .before .before .before .before .before .before .before .before .args in
+    telling-done (c .before .loop .inv) (byte-owes (a .owed .now) (a .i) (c .before .before .before .before .if1 .left)) (c .loop-test .left)
 
 pub tell-children-spec : {M : Type 1} → statement M
 tell-children-spec =
@@ -103,10 +124,13 @@ tell-children-spec =
     (tie.spec
     Inv-loop
     μ-loop
+    shared-slice-read-if1
+    returns
     mul-wide
     shared-slice-read-wide
     wide-requires
     loop-holds
+    shared-slice-read-tell-child
     tell-child-requires
     mul-wide-2
     shared-slice-read-wide-2
@@ -116,4 +140,4 @@ tell-children-spec =
     same-length
     same-length-2
     same-length-3
-    returns)
+    returns-2)
