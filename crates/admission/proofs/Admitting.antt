@@ -174,9 +174,9 @@ stored-encoded {s} {offsets} {t} lent bytes owes i c low stored =
 
 -- what settling is lent after a call has stored its cells
 pub settle-needs : {s offsets t : List ℕ} {n : ℕ} → Placing s offsets n → Lent s offsets t → (t′ : List ℕ) → length t′ ≡ length t → tableForm (sheetOf s) t′ ≡ true
-    → Located s offsets × (n ≡ size (sheetOf s)) × (n ≤ length offsets) × (length t′ ≡ width * n) × (tableForm (sheetOf s) t′ ≡ true)
+    → Located s offsets × ((n ≡ size (sheetOf s)) × ((n ≤ length offsets) × ((length t′ ≡ width * n) × (tableForm (sheetOf s) t′ ≡ true))))
 settle-needs placing lent t′ len formed =
-    (placing .located, placing .count-is, placing .room, len ∙ lent .length-is ∙ ap (λ m. width * m) (sym (placing .count-is)), formed)
+    (placing .located, (placing .count-is, (placing .room, (len ∙ lent .length-is ∙ ap (λ m. width * m) (sym (placing .count-is)), formed))))
 
 pub cause-fits : (s t : List ℕ) (item cause : ℕ) (figures : Bool) → length t ≡ tableLength (sheetOf s)
     → cause ≡ firstCause (test 11 (noItem (sheetOf s) item) ∷ test 12 (wrongItem figures (sheetOf s) item) ∷ []) → cause ≡ 0 → width * item + width ≤ length t

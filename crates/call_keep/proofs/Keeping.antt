@@ -10,24 +10,23 @@ use lib.IntN.{ℤ}
 use lib.ListN.{length, getD}
 use borrow.Author.Tests.{leb-false, not-false}
 use Rattle.layout.specs.Layout.{mostItems}
-use Rattle.circuit.specs.Value.{Value}
+use Rattle.circuit.specs.Value.{Value, wellFormed}
 use Rattle.circuit.specs.Sheet.{Sheet, size, itemAt, isFigure}
-use Rattle.circuit.specs.Table.{Table, Cell, Mark, unk, held, upd, noticeIf}
+use Rattle.circuit.specs.Table.{Table, Cell, Mark, unk, held, upd, valueIn, noticeIf}
 use Rattle.circuit.specs.Machine.{lookUp, looked, storeResult, keepFigure, keepCell, dropFigure, dropCell}
 use Rattle.circuit.specs.Call.{keep, drop}
 use Rattle.circuit.specs.Calls.{test, firstCause, tests, effect, noItem}
 use Rattle.layout.specs.Opened.{sheetOf}
-use Rattle.field.specs.Bytes.{Bytes}
 use Rattle.table.specs.Rows.{row, setRow}
 use Rattle.table.specs.Record.{width, encodeCell, mayHold, decodeCell}
-use Rattle.table.specs.Bytes.{decodeTable, tableForm, tableLength}
-use Rattle.table.proofs.Tables.{decode-setRow, setRow-form, record-fits}
+use Rattle.table.specs.Bytes.{encodeTable, decodeTable, tableForm, tableLength}
+use Rattle.table.proofs.Tables.{decode-setRow, setRow-form, record-fits, figure-may}
 use Rattle.memo.specs.Memo.{Found, remembered, Memo}
 use Rattle.looking.specs.Pass.{Lent, Leaves}
 use Rattle.admission.specs.Admission.{callLent}
 use Rattle.admission.specs.Answers.{Answered, Left, wrongItem}
 use Rattle.admission.specs.declared.Answer.{Answer}
-use Rattle.admission.proofs.Admitting.{item-refused, item-passed, item-low, accepted-answer, left-encoded, stored-encoded}
+use Rattle.admission.proofs.Admitting.{item-refused, item-passed, accepted-answer, left-settled}
 
 pub fresh-memo : (S : Sheet) (T : Table) (tags : List ℕ) (numbers : List ℤ) → size S ≤ mostItems → length tags ≡ mostItems → length numbers ≡ mostItems
     → ((j : ℕ) → getD tags j 0 ≡ 0) → Memo S T tags numbers 1
@@ -89,18 +88,38 @@ module _ {s offsets t : List ℕ} (lent : Lent s offsets t) (x : List ℕ) (item
   unfolding tests
   drop-item h n = item-refused (sheetOf s) x t (drop item) true item [] refl cause cause-is h r n offset-is
 
-  pub keep-done : cause ≡ 0 → (t′ : List ℕ) → Bytes t′ → length t′ ≡ length t → Left s (keepFigure (sheetOf s) (decodeTable t) item) t′ → r .number ≡ 0
-      → Answered (callLent (sheetOf s) x t (keep item)) r t′
+  pub keep-done : cause ≡ 0 → (t₁ : List ℕ) → Left s (keepFigure (sheetOf s) (decodeTable t) item) t₁ → (t₂ : List ℕ) → t₂ ≡ encodeTable (sheetOf s) (decodeTable t₁)
+      → r .number ≡ 0 → Answered (callLent (sheetOf s) x t (keep item)) r t₂
   unfolding tests firstCause effect
-  keep-done h t′ bytes len l n =
-      accepted-answer (sheetOf s) x t t′ (keep item) r (item-passed (sheetOf s) x t (keep item) true item [] refl cause cause-is h) n offset-is
-      (left-encoded lent l bytes len)
+  keep-done h t₁ l t₂ settled n =
+      accepted-answer (sheetOf s) x t t₂ (keep item) r (item-passed (sheetOf s) x t (keep item) true item [] refl cause cause-is h) n offset-is
+      (left-settled l t₂ settled)
 
-  pub drop-stored : Bytes t → cause ≡ 0 → (t′ : List ℕ) (c : Cell)
-      → c ≡ dropCell (decodeCell (row width t item)) → t′ ≡ setRow width t item (encodeCell c) → r .number ≡ 0
-      → Answered (callLent (sheetOf s) x t (drop item)) r t′
-  unfolding tests firstCause effect dropFigure
-  drop-stored bytes h t′ c f g n =
-      accepted-answer (sheetOf s) x t t′ (drop item) r (item-passed (sheetOf s) x t (drop item) true item [] refl cause cause-is h) n offset-is
-      (g ∙ ap (λ d. setRow width t item (encodeCell d)) f
-      ∙ stored-encoded lent bytes item _ (item-low (sheetOf s) x t (drop item) true item [] refl cause cause-is h))
+  pub drop-done : cause ≡ 0 → (t₁ : List ℕ) → Left s (dropFigure (decodeTable t) item) t₁ → (t₂ : List ℕ) → t₂ ≡ encodeTable (sheetOf s) (decodeTable t₁)
+      → r .number ≡ 0 → Answered (callLent (sheetOf s) x t (drop item)) r t₂
+  unfolding tests firstCause effect
+  drop-done h t₁ l t₂ settled n =
+      accepted-answer (sheetOf s) x t t₂ (drop item) r (item-passed (sheetOf s) x t (drop item) true item [] refl cause cause-is h) n offset-is
+      (left-settled l t₂ settled)
+
+-- a dropped cell holds no number
+dropped-formed : (c : Cell) → wellFormed (valueIn (dropCell c)) ≡ true
+dropped-formed (unk f) = refl
+dropped-formed (held v m) = refl
+
+-- what a drop stores
+pub drop-left : {s offsets t : List ℕ} → Lent s offsets t → (item cause : ℕ)
+    → cause ≡ firstCause (test 11 (noItem (sheetOf s) item) ∷ test 12 (wrongItem true (sheetOf s) item) ∷ []) → cause ≡ 0 → (t₁ : List ℕ) (c : Cell)
+    → c ≡ dropCell (decodeCell (row width t item)) → t₁ ≡ setRow width t item (encodeCell c) → Left s (dropFigure (decodeTable t) item) t₁
+unfolding dropFigure
+drop-left {s} {offsets} {t} lent item cause cause-is h t₁ c f g =
+    let q = cause-figure (sheetOf s) item cause cause-is h in
+    let d : Cell = dropCell (decodeTable t item) in
+    let formed : wellFormed (valueIn d) ≡ true = dropped-formed (decodeTable t item) in
+    let stored : t₁ ≡ setRow width t item (encodeCell d) = g ∙ ap (λ y. setRow width t item (encodeCell y)) f in
+    record {
+      table-is = ap decodeTable stored ∙ decode-setRow t item d (record-fits (sheetOf s) t item (lent .length-is) (q .0)) formed;
+      formed =
+          ap (tableForm (sheetOf s)) stored
+          ∙ setRow-form (sheetOf s) t item d (lent .length-is) (lent .formed) (q .0) (figure-may (itemAt (sheetOf s) item) d (q .1) formed);
+    }

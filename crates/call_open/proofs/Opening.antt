@@ -15,10 +15,11 @@ use Rattle.item.specs.Offsets.{offsetBytes}
 use Rattle.item.proofs.Located.{located-item}
 use Rattle.item.proofs.Offsets.{located-index}
 use Rattle.table.specs.Rows.{row, setRow}
-use Rattle.table.specs.Record.{width, encodeCell}
-use Rattle.table.specs.Bytes.{encodeTable}
-use Rattle.table.proofs.Rows.{rows-ext, rows-row, row-setRow, row-setRow-other}
+use Rattle.table.specs.Record.{width, owedPlace, encodeCell}
+use Rattle.table.specs.Bytes.{encodeTable, decodeTable, tableForm, Holdable}
+use Rattle.table.proofs.Rows.{row-setRow-other}
 use Rattle.table.proofs.Records.{length-encodeCell}
+use Rattle.table.proofs.Tables.{encodeTable-ext, setRow-cell, cells-form, cells-decoded, bare-holdable, full-holdable}
 use Rattle.office.specs.Office.{openOn, keeping}
 use Rattle.admission.specs.Admission.{measuredOf}
 use Rattle.call_open.specs.Opening.{Opened, openingBy, firstCell}
@@ -36,9 +37,9 @@ first-opened false S k = go (itemAt S k)
     go entry = refl
     go (figure op kept spread ps) = refl
 
--- the first k records are those of the opened table
+-- the first k records hold the cells of the opened table
 abbrev pub Written : Bool → List ℕ → List ℕ → ℕ → Type 0
-Written filled s t k = (i : ℕ) → i < k → row width t i ≡ encodeCell (opened (openingBy filled) (sheetOf s) i)
+Written filled s t k = (i : ℕ) → i < k → take owedPlace (row width t i) ≡ encodeCell (opened (openingBy filled) (sheetOf s) i)
 
 pub written-next : (s offsets t t′ : List ℕ) → Located s offsets → (k : ℕ) → k < size (sheetOf s) → (filled b : Bool) (c : Cell)
     → b ≡ isFigure (fieldItem s (getD offsets k 0)) → c ≡ firstCell filled b → t′ ≡ setRow width t k (encodeCell c) → width * k + width ≤ length t
@@ -49,20 +50,31 @@ written-next s offsets t t′ located k low filled b c figure-is cell-is table-i
     here =
         cell-is ∙ ap (firstCell filled) (figure-is ∙ ap isFigure (located-item s offsets located k low)) ∙ first-opened filled (sheetOf s) k
 
-    go : (w : Bool) → eqb i k ≡ w → row width t′ i ≡ encodeCell (opened (openingBy filled) (sheetOf s) i)
+    go : (w : Bool) → eqb i k ≡ w → take owedPlace (row width t′ i) ≡ encodeCell (opened (openingBy filled) (sheetOf s) i)
     go true e =
         let q : i ≡ k = eqb-true i k e in
-        ap₂ (row width) table-is q ∙ row-setRow width t k (encodeCell c) fits (length-encodeCell c)
+        ap₂ (λ l j. take owedPlace (row width l j)) table-is q ∙ setRow-cell t k c fits
         ∙ ap encodeCell here ∙ ap (λ j. encodeCell (opened (openingBy filled) (sheetOf s) j)) (sym q)
     go false e =
         let q = eqb-false i k e in
-        ap (λ l. row width l i) table-is ∙ row-setRow-other width t k i (encodeCell c) (length-encodeCell c) q ∙ before i (omega arith)
+        ap (λ l. take owedPlace (row width l i)) table-is
+        ∙ ap (take owedPlace) (row-setRow-other width t k i (encodeCell c) (omega (arith, length-encodeCell c)) q) ∙ before i (omega arith)
 
-pub written-done : (s t : List ℕ) (filled : Bool) (n k : ℕ) → n ≡ size (sheetOf s) → length t ≡ width * n → n ≤ k → Written filled s t k
-    → t ≡ encodeTable (sheetOf s) (opened (openingBy filled) (sheetOf s))
-unfolding encodeTable
-written-done s t filled n k e l h inv =
-    sym (rows-ext (size (sheetOf s)) (λ i low. sym (inv i (omega arith))) ∙ rows-row width t (size (sheetOf s)) (omega arith))
+opened-holdable : (filled : Bool) (S : Sheet) → Holdable S (opened (openingBy filled) S)
+opened-holdable true S = full-holdable S
+opened-holdable false S = bare-holdable S
+
+module _ (s t : List ℕ) (filled : Bool) (n k : ℕ) (n-is : n ≡ size (sheetOf s)) (h : n ≤ k) (inv : Written filled s t k) where
+  pub written-form : tableForm (sheetOf s) t ≡ true
+  written-form =
+      cells-form (sheetOf s) t (opened (openingBy filled) (sheetOf s)) (opened-holdable filled (sheetOf s)) (λ i low. inv i (omega arith))
+
+  -- the owed bytes are settled last
+  pub written-done : (t₂ : List ℕ) → t₂ ≡ encodeTable (sheetOf s) (decodeTable t) → t₂ ≡ encodeTable (sheetOf s) (opened (openingBy filled) (sheetOf s))
+  written-done t₂ e =
+      e
+      ∙ encodeTable-ext (sheetOf s) (decodeTable t) (opened (openingBy filled) (sheetOf s))
+      (λ i low. cells-decoded (sheetOf s) t (opened (openingBy filled) (sheetOf s)) (opened-holdable filled (sheetOf s)) i low (inv i (omega arith)))
 
 pub opened-refused : (filled : Bool) (s x t : List ℕ) (k at : ℕ) → Refused k at ≡ measuredOf s (length x) (length t) → (r : Answer)
     → r .number ≡ k → r .offset ≡ at → Opened (openOn (openingBy filled) s (keeping x t)) r x t

@@ -2,13 +2,14 @@
 use Prim.Native.Nat.{ℕ}
 use native.Mathlib.Omega.{arith}
 use mathlib.Core.Path.{_≡_, refl, sym, ap, _∙_}
-use mathlib.Core.Bool.{false, cond}
+use mathlib.Core.Bool.{Bool, true, false, cond}
 use mathlib.Core.List.{List, [], _∷_}
 use mathlib.Core.Option.{Option, none, some}
 use lib.IntN.{ℤ}
 use borrow.Author.Tests.{ne-eqb}
-use Rattle.circuit.specs.Value.{Value}
-use Rattle.circuit.specs.Table.{Cell}
+use Rattle.circuit.specs.Value.{Value, same}
+use Rattle.circuit.specs.Sheet.{itemAt, isFigure}
+use Rattle.circuit.specs.Table.{Cell, notice, unk, held, isStored}
 use Rattle.circuit.specs.Machine.{storePosting, postCell}
 use Rattle.circuit.specs.Call.{post}
 use Rattle.circuit.specs.Calls.{test, firstCause, tests, effect, noItem, notPostable, isNone, postedValue, postIt}
@@ -16,8 +17,9 @@ use Rattle.layout.specs.Opened.{sheetOf}
 use Rattle.value.specs.Meaning.{partsOf}
 use Rattle.field.specs.Bytes.{Bytes}
 use Rattle.table.specs.Rows.{row, setRow}
-use Rattle.table.specs.Record.{width, encodeCell, decodeCell}
-use Rattle.table.specs.Bytes.{encodeTable, decodeTable}
+use Rattle.table.specs.Record.{width, encodeCell, decodeCell, mayHold}
+use Rattle.table.specs.Bytes.{encodeTable, decodeTable, owedTrue}
+use Rattle.looking.proofs.Looking.{lent-holdable}
 use Rattle.looking.specs.Pass.{Lent}
 use Rattle.admission.specs.Admission.{callLent}
 use Rattle.admission.specs.Answers.{Answered, wrongItem}
@@ -30,7 +32,24 @@ pub posted-other : (kind : ℕ) (z : ℤ) (r : Option Value) → (kind ≡ 2 →
 unfolding postedValue
 posted-other kind z r h e = e ∙ rw (ne-eqb kind 2 h)
 
-module _ {s offsets t : List ℕ} (lent : Lent s offsets t) (bytes : Bytes t) (x : List ℕ) (item kind : ℕ) (z : ℤ) (cause : ℕ)
+-- the second test does not hold
+second-false : (a b : Bool) (k : ℕ) → k ≡ firstCause (test 11 a ∷ test 12 b ∷ []) → k ≡ 0 → b ≡ false
+unfolding firstCause
+second-false true b k e h = absurd (omega arith)
+second-false false true k e h = absurd (omega arith)
+second-false false false k e h = refl
+
+-- an entry is stored before and after a posting, so that no owed byte changes
+posted-stored : (f : Bool) (c : Cell) (v : Value) → f ≡ false → mayHold f c ≡ true → isStored (postCell c v) ≡ isStored c
+posted-stored true c v e h = let bad : _≡_ {A = ℕ} 0 1 = cc e in absurd (omega arith)
+posted-stored false (unk b) v e h = let bad : _≡_ {A = ℕ} 0 1 = cc h in absurd (omega arith)
+posted-stored false (held w m) v e h = go (same w v)
+  where
+    go : (b : Bool) → isStored (cond b (held w m) (held v notice)) ≡ true
+    go true = refl
+    go false = refl
+
+module _ {s offsets t : List ℕ} (lent : Lent s offsets t) (bytes : Bytes t) (owes : owedTrue (sheetOf s) t ≡ true) (x : List ℕ) (item kind : ℕ) (z : ℤ) (cause : ℕ)
     (cause-is : cause ≡ firstCause (test 11 (noItem (sheetOf s) item) ∷ test 12 (wrongItem false (sheetOf s) item) ∷ [])) (r : Answer) (offset-is : r .offset ≡ 0) where
   pub post-item : (cause ≡ 0 → ⊥) → r .number ≡ cause → Answered (callLent (sheetOf s) x t (post item kind z)) r t
   unfolding tests
@@ -52,5 +71,8 @@ module _ {s offsets t : List ℕ} (lent : Lent s offsets t) (bytes : Bytes t) (x
   post-stored h v e t′ c f g n =
       let low = item-low (sheetOf s) x t (post item kind z) false item (test 13 (notPostable kind z) ∷ []) refl cause cause-is h in
       accepted-answer (sheetOf s) x t t′ (post item kind z) r (value-test h (some v) e) n offset-is
-      (g ∙ ap (λ d. setRow width t item (encodeCell d)) f ∙ stored-encoded lent bytes item _ low
+      (g ∙ ap (λ d. setRow width t item (encodeCell d)) f
+      ∙ stored-encoded lent bytes owes item _ low
+      (posted-stored (isFigure (itemAt (sheetOf s) item)) (decodeTable t item) v
+      (second-false (noItem (sheetOf s) item) (isFigure (itemAt (sheetOf s) item)) cause cause-is h) (lent-holdable lent item low))
       ∙ ap (λ o. encodeTable (sheetOf s) (postIt (decodeTable t) item o)) e)

@@ -4,23 +4,27 @@ use native.Mathlib.Omega.{arith}
 use mathlib.Core.Path.{_≡_, refl, sym, ap, subst, _∙_}
 use mathlib.Core.Bool.{Bool, true, false, cond, not}
 use mathlib.Core.List.{List, [], _∷_}
-use lib.Dec.{leb}
-use lib.ListN.{length}
+use lib.Dec.{eqb, leb}
 use borrow.Author.Tests.{le-leb, lt-leb, leb-false}
-use Rattle.circuit.specs.Sheet.{size}
-use Rattle.circuit.specs.Table.{Table, isMarked, isNotice, markOf}
-use Rattle.circuit.specs.Machine.{tell, clearMark, stepItem}
+use Rattle.circuit.specs.Sheet.{Sheet, size}
+use Rattle.circuit.specs.Table.{Table, Cell, unmarked, refresh, notice, unk, held, isMarked, isNotice, markOf}
+use Rattle.circuit.specs.Owed.{owed}
+use Rattle.circuit.specs.Machine.{tell, clearMark, stepCell, stepItem}
+use Rattle.circuit.specs.Ascending.{tellBy}
+use Rattle.circuit.proofs.CalledOn.{tell-by}
 use Rattle.circuit.specs.Call.{step}
 use Rattle.circuit.specs.Calls.{test, firstCause, tests, effect, noMark}
 use Rattle.layout.specs.Opened.{sheetOf}
-use Rattle.field.specs.Bytes.{Bytes}
-use Rattle.table.specs.Bytes.{decodeTable}
+use Rattle.item.proofs.Located.{sheet-ordered}
+use Rattle.table.specs.Record.{owedCode}
+use Rattle.table.specs.Bytes.{encodeTable, decodeTable}
+use Rattle.owing.specs.Owing.{owes, OwedIs}
 use Rattle.looking.specs.Pass.{Lent}
 use Rattle.admission.specs.Admission.{callLent}
 use Rattle.admission.specs.Answers.{Answered, Left}
 use Rattle.admission.specs.declared.Answer.{Answer}
-use Rattle.admission.proofs.Admitting.{refused-answer, accepted-answer, left-encoded}
-use Rattle.stepping.proofs.Stepping.{noticed-step}
+use Rattle.admission.proofs.Admitting.{refused-answer, accepted-answer, left-settled}
+use Rattle.stepping.specs.Stepping.{Steps}
 
 -- ---- step
 
@@ -58,14 +62,43 @@ module _ {s offsets t : List ℕ} (lent : Lent s offsets t) (x : List ℕ) (n it
   pub step-refused : (cause ≡ 0 → ⊥) → r .number ≡ cause → Answered (callLent (sheetOf s) x t (step item)) r t
   step-refused h k = refused-answer (sheetOf s) x t (step item) r cause step-cause h k offset-is
 
-  pub step-done : cause ≡ 0 → (t′ : List ℕ) → Bytes t′ → length t′ ≡ length t → Left s (stepItem (sheetOf s) (decodeTable t) item) t′ → r .number ≡ 0
-      → Answered (callLent (sheetOf s) x t (step item)) r t′
+  pub step-done : cause ≡ 0 → (t₁ : List ℕ) → Left s (stepItem (sheetOf s) (decodeTable t) item) t₁ → (t₂ : List ℕ)
+      → t₂ ≡ encodeTable (sheetOf s) (decodeTable t₁) → r .number ≡ 0 → Answered (callLent (sheetOf s) x t (step item)) r t₂
   unfolding effect
-  step-done h t′ bytes len l k =
-      accepted-answer (sheetOf s) x t t′ (step item) r (step-cause ∙ h) k offset-is
-      (left-encoded lent l bytes len)
+  step-done h t₁ l t₂ settled k =
+      accepted-answer (sheetOf s) x t t₂ (step item) r (step-cause ∙ h) k offset-is (left-settled l t₂ settled)
 
--- the step of a notice, from what telling and clearing leave
+-- what the array of owed bytes says of an item
+owes-owed : (s t bytes : List ℕ) → OwedIs (sheetOf s) (decodeTable t) bytes → (c : ℕ) → c < size (sheetOf s) → owes bytes c ≡ owed (sheetOf s) (decodeTable t) c
+owes-owed s t bytes is c low = rw (is .byte-is c low) (go (owed (sheetOf s) (decodeTable t) c))
+  where
+    go : (b : Bool) → not (eqb (owedCode b) 0) ≡ b
+    go true = refl
+    go false = refl
+
+-- a telling by that array
+pub left-told : (s t bytes : List ℕ) (i : ℕ) → i < size (sheetOf s) → OwedIs (sheetOf s) (decodeTable t) bytes → {generation : ℕ} {t₂ tags₂ : List ℕ}
+    → Steps s generation (clearMark (tellBy (owes bytes) (sheetOf s) (decodeTable t) i) i) t₂ tags₂
+    → Left s (clearMark (tell (sheetOf s) (decodeTable t) i) i) t₂
+left-told s t bytes i low is steps =
+    record {
+      table-is = steps .table-is ∙ ap (λ U. clearMark U i) (tell-by (sheetOf s) (sheet-ordered s) (decodeTable t) (owes bytes) (owes-owed s t bytes is) i low);
+      formed = steps .formed;
+    }
+
+-- the step of a notice
+noticed-step : (S : Sheet) (T : Table) (i : ℕ) → isNotice (markOf (T i)) ≡ true → stepItem S T i ≡ clearMark (tell S T i) i
+unfolding stepItem
+noticed-step S T i e = go (T i) e
+  where
+    go : (c : Cell) → isNotice (markOf c) ≡ true → stepCell S T i c ≡ clearMark (tell S T i) i
+    go (unk true) q = refl
+    go (unk false) q = let bad : _≡_ {A = ℕ} 0 1 = cc in absurd (omega arith)
+    go (held v unmarked) q = let bad : _≡_ {A = ℕ} 0 1 = cc in absurd (omega arith)
+    go (held v refresh) q = let bad : _≡_ {A = ℕ} 0 1 = cc in absurd (omega arith)
+    go (held v notice) q = refl
+
+-- from what telling and clearing leave
 pub left-noticed : (s t : List ℕ) (i : ℕ) (b : Bool) → b ≡ isNotice (markOf (decodeTable t i)) → b ≡ true → (t₂ : List ℕ)
     → Left s (clearMark (tell (sheetOf s) (decodeTable t) i) i) t₂ → Left s (stepItem (sheetOf s) (decodeTable t) i) t₂
 left-noticed s t i b tests e t₂ left =

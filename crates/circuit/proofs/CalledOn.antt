@@ -1,5 +1,5 @@
 -- Which children telling calls on. In one telling, owed at a child is the same at the start and when the child is told (`told-owed`), so
--- that a step may go by what was owed at its start (`step-by`), and where the item is not owed it tells nobody (`tell-unowed`). Catching up
+-- that it may go by what was owed at its start (`tell-by`), and where the item is not owed it tells nobody (`tell-unowed`). Catching up
 -- may go by what was owed at its start, and call on any other UNK children besides (`ascends-by`): their notices stand on figures that lead
 -- to nothing stored, no look-up for a stored figure meets them, and they are stepped away. Assumes that the sheet is ordered.
 use Prim.Native.Nat.{ℕ, zero, suc, _<_, _≤_}
@@ -124,25 +124,20 @@ module _ (S : Sheet) (ordered : Ordered S) where
   unfolding tell
   tell-unowed T i o = below-unowed T i (size S) o
 
-  -- a telling, and a step, by what is owed at its start
-  tell-by : (T : Table) (i : ℕ) → tellBy (owed S T) S T i ≡ tell S T i
-  unfolding tellBy tell
-  tell-by T i = go (owed S T i) refl
-    where
-      go : (b : Bool) → owed S T i ≡ b → tellWhere b (owed S T) S T i ≡ tell S T i
-      go true o = below-by T i (size S)
-      go false o = sym (tell-unowed T i o)
+  -- by functions that agree on the sheet's items
+  below-ext : (T : Table) (v w : ℕ → Bool) → ((c : ℕ) → c < size S → v c ≡ w c) → (i k : ℕ) → k ≤ size S → tellBelowBy v S i T k ≡ tellBelowBy w S i T k
+  unfolding tellBelowBy
+  below-ext T v w same i zero l = refl
+  below-ext T v w same i (suc k) l = rw (below-ext T v w same i k (omega arith), same k l)
 
-  pub step-by : (T : Table) (i : ℕ) → stepBy (owed S T) S T i ≡ stepItem S T i
-  unfolding stepBy stepItem
-  step-by T i = go (T i)
+  -- a telling by what is owed at its start
+  pub tell-by : (T : Table) (w : ℕ → Bool) → ((c : ℕ) → c < size S → w c ≡ owed S T c) → (i : ℕ) → i < size S → tellBy w S T i ≡ tell S T i
+  unfolding tellBy tell
+  tell-by T w same i low = rw (same i low) (go (owed S T i) refl)
     where
-      go : (c : Cell) → stepCellBy (owed S T) S T i c ≡ stepCell S T i c
-      go (unk true) = ap (λ X. clearMark X i) (tell-by T i)
-      go (unk false) = refl
-      go (held v unmarked) = refl
-      go (held v refresh) = refl
-      go (held v notice) = ap (λ X. clearMark X i) (tell-by T i)
+      go : (b : Bool) → owed S T i ≡ b → tellWhere b w S T i ≡ tell S T i
+      go true o = below-ext T w (owed S T) same i (size S) (omega arith) ∙ below-by T i (size S)
+      go false o = sym (tell-unowed T i o)
 
   -- ---- look-ups on two tables that are equal where R leans
 

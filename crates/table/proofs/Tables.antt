@@ -110,15 +110,23 @@ unfolding tableForm
 decoded-holdable S bs t i h =
     decoded-holds (isFigure (itemAt S i)) (row width bs i) (below-true (recordInForm S bs) (size S) t i h)
 
+-- records whose first bytes are those of cells that may be held are in form, and decode to them
+pub cells-form : (S : Sheet) (bs : List ℕ) (T : Table) → Holdable S T → ((i : ℕ) → i < size S → take owedPlace (row width bs i) ≡ encodeCell (T i)) → tableForm S bs ≡ true
+unfolding tableForm
+cells-form S bs T holds cells = true-below (recordInForm S bs) (size S) each
+  where
+    each : (i : ℕ) → i < size S → recordInForm S bs i ≡ true
+    each i h =
+        sym (form-front (row width bs i) (isFigure (itemAt S i))) ∙ ap (recordForm (isFigure (itemAt S i))) (cells i h)
+        ∙ encoded-form (isFigure (itemAt S i)) (T i) (holds i h)
+
+pub cells-decoded : (S : Sheet) (bs : List ℕ) (T : Table) → Holdable S T → (i : ℕ) → i < size S → take owedPlace (row width bs i) ≡ encodeCell (T i) → decodeTable bs i ≡ T i
+cells-decoded S bs T holds i h e =
+    sym (decode-front (row width bs i)) ∙ ap decodeCell e ∙ decode-encode (T i) (holds-wellFormed (isFigure (itemAt S i)) (T i) (holds i h))
+
 -- and such a table is in form
 pub encoded-tableForm : (S : Sheet) (T : Table) → Holdable S T → tableForm S (encodeTable S T) ≡ true
-unfolding tableForm
-encoded-tableForm S T holds = true-below (recordInForm S (encodeTable S T)) (size S) each
-  where
-    each : (i : ℕ) → i < size S → recordInForm S (encodeTable S T) i ≡ true
-    each i h =
-        sym (form-front (row width (encodeTable S T) i) (isFigure (itemAt S i))) ∙ ap (recordForm (isFigure (itemAt S i))) (encoded-cell S T i h)
-        ∙ encoded-form (isFigure (itemAt S i)) (T i) (holds i h)
+encoded-tableForm S T holds = cells-form S (encodeTable S T) T holds (encoded-cell S T)
 
 -- with true owed bytes
 pub encoded-owedTrue : (S : Sheet) (T : Table) → Holdable S T → owedTrue S (encodeTable S T) ≡ true
@@ -159,7 +167,7 @@ figure-may it c f w = rw f w
 -- ---- storing
 
 -- a cell stored in its record, which keeps its owed byte
-setRow-cell : (bs : List ℕ) (i : ℕ) (c : Cell) → width * i + width ≤ length bs → take owedPlace (row width (setRow width bs i (encodeCell c)) i) ≡ encodeCell c
+pub setRow-cell : (bs : List ℕ) (i : ℕ) (c : Cell) → width * i + width ≤ length bs → take owedPlace (row width (setRow width bs i (encodeCell c)) i) ≡ encodeCell c
 setRow-cell bs i c fits =
     ap (λ n. take n (row width (setRow width bs i (encodeCell c)) i)) (sym (length-encodeCell c))
     ∙ row-front width bs i (encodeCell c) fits (omega (arith, length-encodeCell c))

@@ -1,6 +1,6 @@
-use Rattle.admission.proofs.Admitting.{cause-fits}
-use Rattle.call_keep.proofs.Keeping.{drop-item, drop-stored}
-use Rattle.field.proofs.Cutting.{slice-bytes}
+use Rattle.admission.proofs.Admitting.{cause-fits, settle-needs}
+use Rattle.call_keep.proofs.Keeping.{drop-item, drop-left, drop-done}
+use Rattle.circuit.specs.Machine.{dropCell}
 use mathlib.Core.Bool.{true}
 use mathlib.Core.Path.{ap, _∙_}
 use borrow.Author.Needs.{needs}
@@ -29,17 +29,26 @@ store-cell-requires c κs =
     let i = c .before .before .before .before .before .item-cause in
     cause-fits (a .sheet .now) (a .table .now) (a .item) (i .result) true (p .1 .length-is) (i .ensures) (c .before .before .before .before .if1 .left)
 
-returns-2 : tie.Need-returns-2
-returns-2 c =
-    λ x.
+settle-requires : tie.Need-settle-requires
+settle-requires c κs =
     let a = c .before .before .before .before .before .before .before .before .before .before .before .before .before .args in
     let p = c .before .before .before .before .before .before .before .before .before .before .before .before .before .pre in
     let i = c .before .before .before .before .before .before .before .before .before .item-cause in
-    drop-stored (p .1) x (a .item) (i .result) (i .ensures) (c .give2 .result) (c .give2 .ensures .1)
-    (slice-bytes (a .table .now) (c .before .before .before .before .before .before .before .before .before .before .slice-known .given))
-    (c .before .before .before .before .before .before .before .before .if1 .left) _ _
-    (c .before .before .before .before .before .dropped-cell .ensures ∙ ap Rattle.circuit.specs.Machine.dropCell (c .before .before .before .before .before .before .read-cell .ensures))
-    (c .before .before .before .store-cell .ensures) (c .give2 .ensures .0)
+    let left = drop-left (p .1) (a .item) (i .result) (i .ensures) (c .before .before .before .before .before .before .before .before .if1 .left) _ _
+    (c .before .before .before .before .before .dropped-cell .ensures ∙ ap dropCell (c .before .before .before .before .before .before .read-cell .ensures)) (c .before .before .before .store-cell .ensures) in
+    settle-needs (p .0) (p .1) _ (c .before .before .before .store-cell .kept .0) (left .formed)
+
+returns-2 : tie.Need-returns-2
+returns-2 c =
+    λ x.
+    let e = c .before .before .before .before in
+    let a = e .before .before .before .before .before .before .before .before .before .before .before .before .before .args in
+    let p = e .before .before .before .before .before .before .before .before .before .before .before .before .before .pre in
+    let i = e .before .before .before .before .before .before .before .before .before .item-cause in
+    drop-done (p .1) x (a .item) (i .result) (i .ensures) (c .give2 .result) (c .give2 .ensures .1) (e .before .before .before .before .before .before .before .before .if1 .left) _
+    (drop-left (p .1) (a .item) (i .result) (i .ensures) (e .before .before .before .before .before .before .before .before .if1 .left) _ _ (e .before .before .before .before .before .dropped-cell .ensures ∙ ap dropCell (e .before .before .before .before .before .before .read-cell .ensures))
+    (e .before .before .before .store-cell .ensures))
+    _ (c .before .before .before .settle .ensures) (c .give2 .ensures .0)
 
 pub drop-lent-spec : {M : Type 1} → statement M
 drop-lent-spec =
@@ -51,6 +60,7 @@ drop-lent-spec =
     read-cell-requires
     (λ c κs. search needs)
     store-cell-requires
+    settle-requires
     (λ c κs. search needs)
     (λ c. search needs)
     returns-2)

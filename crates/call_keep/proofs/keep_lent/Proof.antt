@@ -1,5 +1,6 @@
 use Rattle.call_keep.proofs.Keeping.{cause-figure, keep-item, keep-done}
 use Rattle.layout.specs.Opened.{sheetOf}
+use Rattle.admission.proofs.Admitting.{settle-needs}
 use borrow.Author.Needs.{needs}
 use Rattle.call_keep.proofs.keep_lent.Statement.{statement}
 use Rattle.call_keep.proofs.keep_lent.Tie as tie
@@ -20,15 +21,21 @@ keep-cell-requires c κs =
     let q = cause-figure (sheetOf (a .sheet .now)) (a .item) (i .result) (i .ensures) (c .before .if1 .left) in
     (p .1, (q .0, q .1))
 
+settle-requires : tie.Need-settle-requires
+settle-requires c κs =
+    let p = c .before .before .before .before .before .before .before .before .before .before .pre in
+    let d = c .before .before .before .keep-cell in
+    settle-needs (p .0) (p .1) _ (d .kept .1 .1 .0) (d .ensures .formed)
+
 returns-2 : tie.Need-returns-2
 returns-2 c =
     λ x.
-    let a = c .before .before .before .before .before .before .before .before .before .before .args in
-    let p = c .before .before .before .before .before .before .before .before .before .before .pre in
-    let i = c .before .before .before .before .before .before .item-cause in
-    keep-done (p .1) x (a .item) (i .result) (i .ensures) (c .give2 .result) (c .give2 .ensures .1) (c .before .before .before .before .before .if1 .left) _
-    (λ j. c .before .slice-known2 .given j .fits) (c .before .before .before .keep-cell .kept .1 .1 .0) (c .before .before .before .keep-cell .ensures)
-    (c .give2 .ensures .0)
+    let e = c .before .before .before .before in
+    let a = e .before .before .before .before .before .before .before .before .before .before .args in
+    let p = e .before .before .before .before .before .before .before .before .before .before .pre in
+    let i = e .before .before .before .before .before .before .item-cause in
+    keep-done (p .1) x (a .item) (i .result) (i .ensures) (c .give2 .result) (c .give2 .ensures .1) (e .before .before .before .before .before .if1 .left) _ (e .before .before .before .keep-cell .ensures) _
+    (c .before .before .before .settle .ensures) (c .give2 .ensures .0)
 
 pub keep-lent-spec : {M : Type 1} → statement M
 keep-lent-spec =
@@ -38,6 +45,7 @@ keep-lent-spec =
     (λ c κs. search needs)
     returns
     keep-cell-requires
+    settle-requires
     (λ c κs. search needs)
     (λ c. search needs)
     returns-2)

@@ -1,10 +1,11 @@
-use Rattle.call_open.proofs.Opening.{Written, written-next, written-done}
+-- `call_open::write_table` meets its contract. The loop's invariant: the first k records hold the cells of the opened table. Assumes nothing.
+use Rattle.call_open.proofs.Opening.{Written, written-next, written-form, written-done}
 use Rattle.item.proofs.Located.{located-field}
 use Rattle.table.specs.Record.{width}
 use borrow.Author.Needs.{needs}
 use lib.ListN.{length}
 use Prim.Native.Nat.{_≤_, _-_, _*_}
-use mathlib.Core.Path.{_≡_}
+use mathlib.Core.Path.{_≡_, sym, _∙_}
 use native.Mathlib.Omega.{arith}
 use Rattle.call_open.proofs.write_table.Statement.{statement}
 use Rattle.call_open.proofs.write_table.Tie as tie
@@ -55,15 +56,25 @@ loop-again c =
           (c .before .before .before .first-cell .ensures) (c .before .before .store-cell .ensures) (omega (arith, l .inv .1, low)) (l .inv .2),
     )
 
+settle-requires : tie.Need-settle-requires Inv-loop μ-loop
+settle-requires c κs =
+    let a = c .before .before .before .before .before .before .args in
+    let p = c .before .before .before .before .before .before .pre .0 in
+    let l = c .before .before .loop in
+    let formed = written-form (a .sheet .now) (l .table) (a .filled) (a .n) (l .k) (p .count-is) (c .before .loop-test .left) (l .inv .2) in
+    (p .located, (p .count-is, (p .room, (l .inv .1, formed))))
+
 same-length : tie.Need-same-length Inv-loop μ-loop
-same-length c = search needs
+same-length c =
+    let p = c .before .before .before .before .before .before .before .before .before .pre in
+    c .before .before .settle .kept .1 .1 .1 .0 ∙ c .before .before .before .before .before .loop .inv .1 ∙ sym (p .1)
 
 returns : tie.Need-returns Inv-loop μ-loop
 returns c =
-    let a = c .before .before .before .before .before .args in
-    let p = c .before .before .before .before .before .pre .0 in
-    let l = c .before .loop in
-    written-done (a .sheet .now) (l .table) (a .filled) (a .n) (l .k) (p .count-is) (l .inv .1) (c .loop-test .left) (l .inv .2)
+    let a = c .before .before .before .before .before .before .before .before .before .args in
+    let p = c .before .before .before .before .before .before .before .before .before .pre .0 in
+    let l = c .before .before .before .before .before .loop in
+    written-done (a .sheet .now) (l .table) (a .filled) (a .n) (l .k) (p .count-is) (c .before .before .before .before .loop-test .left) (l .inv .2) _ (c .before .before .settle .ensures)
 
 pub write-table-spec : {M : Type 1} → statement M
 write-table-spec =
@@ -80,5 +91,6 @@ write-table-spec =
     add-k
     loop-less
     loop-again
+    settle-requires
     same-length
     returns)

@@ -17,21 +17,21 @@ returns c =
     let p = c .before .before .before .before .before .before .pre in
     let i = c .before .before .item-cause in
     let b = slice-bytes (a .table .now) (c .before .before .before .slice-known .given) in
-    post-item (p .1) b x (a .item) (a .kind) (a .number) (i .result) (i .ensures) (c .give .result) (c .give .ensures .1) (c .before .if1 .taken) (c .give .ensures .0)
+    post-item (p .1 .0) b (p .1 .1) x (a .item) (a .kind) (a .number) (i .result) (i .ensures) (c .give .result) (c .give .ensures .1) (c .before .if1 .taken) (c .give .ensures .0)
 
 read-cell-requires : tie.Need-read-cell-requires
 read-cell-requires c κs =
     let a = c .before .before .before .before .before .before .before .before .before .before .args in
     let p = c .before .before .before .before .before .before .before .before .before .before .pre in
     let i = c .before .before .before .before .before .before .item-cause in
-    cause-fits (a .sheet .now) (a .table .now) (a .item) (i .result) false (p .1 .length-is) (i .ensures) (c .before .before .before .before .before .if1 .left)
+    cause-fits (a .sheet .now) (a .table .now) (a .item) (i .result) false (p .1 .0 .length-is) (i .ensures) (c .before .before .before .before .before .if1 .left)
 
 store-cell-requires : tie.Need-store-cell-requires
 store-cell-requires c κs =
     let a = c .before .before .before .before .before .before .before .before .before .before .before .before .before .args in
     let p = c .before .before .before .before .before .before .before .before .before .before .before .before .before .pre in
     let i = c .before .before .before .before .before .before .before .before .before .item-cause in
-    cause-fits (a .sheet .now) (a .table .now) (a .item) (i .result) false (p .1 .length-is) (i .ensures) (c .before .before .before .before .before .before .before .before .if1 .left)
+    cause-fits (a .sheet .now) (a .table .now) (a .item) (i .result) false (p .1 .0 .length-is) (i .ensures) (c .before .before .before .before .before .before .before .before .if1 .left)
 
 returns-2 : tie.Need-returns-2
 returns-2 c =
@@ -40,7 +40,7 @@ returns-2 c =
     let p = c .before .before .before .before .before .before .before .before .before .pre in
     let i = c .before .before .before .before .before .item-cause in
     let b = slice-bytes (a .table .now) (c .before .before .before .before .before .before .slice-known .given) in
-    post-value (p .1) b x (a .item) (a .kind) (a .number) (i .result) (i .ensures) (c .give2 .result) (c .give2 .ensures .1)
+    post-value (p .1 .0) b (p .1 .1) x (a .item) (a .kind) (a .number) (i .result) (i .ensures) (c .give2 .result) (c .give2 .ensures .1)
     (c .before .before .before .before .if1 .left)
     (sym (ap partsMeaning (c .before .enum-told .given .1)) ∙ c .before .before .before .posted .ensures ∙ ap (postedValue (a .kind))
     (back (a .number) (c .before .before .before .before .before .before .before .before .before .fits .number)))
@@ -53,7 +53,7 @@ returns-3 c =
     let p = c .before .before .before .before .before .before .before .before .before .before .before .before .before .before .before .before .before .pre in
     let i = c .before .before .before .before .before .before .before .before .before .before .before .before .before .item-cause in
     let b = slice-bytes (a .table .now) (c .before .before .before .before .before .before .before .before .before .before .before .before .before .before .slice-known .given) in
-    post-stored (p .1) b x (a .item) (a .kind) (a .number) (i .result) (i .ensures) (c .give3 .result) (c .give3 .ensures .1)
+    post-stored (p .1 .0) b (p .1 .1) x (a .item) (a .kind) (a .number) (i .result) (i .ensures) (c .give3 .result) (c .give3 .ensures .1)
     (c .before .before .before .before .before .before .before .before .before .before .before .before .if1 .left) _
     (sym (ap partsMeaning (c .before .before .before .before .before .before .before .before .before .value .given .1))
     ∙ c .before .before .before .before .before .before .before .before .before .before .before .posted .ensures ∙ ap (postedValue (a .kind))

@@ -9,7 +9,7 @@ use Rattle.call_step.proofs.step_once.Tie as tie
 refresh-once-requires : tie.Need-refresh-once-requires
 refresh-once-requires c κs =
     let p = c .before .before .before .before .before .before .before .pre in
-    (p .0, (omega (arith, p .1 .0, p .1 .1), sym (c .before .before .is-noticed .ensures) ∙ c .before .if1 .left))
+    (p .0, (omega (arith, p .1 .0, p .1 .1 .0), sym (c .before .before .is-noticed .ensures) ∙ c .before .if1 .left))
 
 returns : tie.Need-returns
 returns c =
