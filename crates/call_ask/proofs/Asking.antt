@@ -1,10 +1,9 @@
 -- Ask: its own test, and what it gives and leaves. Assumes nothing.
 use Prim.Native.Nat.{ℕ, _≤_, _<_}
 use native.Mathlib.Omega.{arith}
-use mathlib.Core.Path.{_≡_, refl, sym, ap, subst, _∙_}
+use mathlib.Core.Path.{_≡_, refl, ap, subst, _∙_}
 use mathlib.Core.List.{List}
 use lib.IntN.{ℤ, pos}
-use lib.ListN.{length}
 use borrow.Author.Tests.{le-leb, lt-leb}
 use Rattle.circuit.specs.Value.{Value}
 use Rattle.circuit.specs.Sheet.{size}
@@ -13,9 +12,7 @@ use Rattle.circuit.specs.Machine.{lookUp, catchUp}
 use Rattle.circuit.specs.Call.{ask}
 use Rattle.circuit.specs.Calls.{firstCause, tests, effect}
 use Rattle.layout.specs.Opened.{sheetOf}
-use Rattle.field.specs.Bytes.{Bytes}
 use Rattle.table.specs.Bytes.{encodeTable, decodeTable}
-use Rattle.table.proofs.Tables.{encode-decodeTable}
 use Rattle.looking.specs.Pass.{Lent, Leaves}
 use Rattle.memo.specs.Memo.{Found}
 use Rattle.admission.specs.Admission.{callLent}
@@ -30,16 +27,16 @@ module _ {s offsets t : List ℕ} (lent : Lent s offsets t) (x : List ℕ) (n it
   ask-refused h a b k v =
       rw (le-leb (size (sheetOf s)) item (omega arith)) (record { number-is = a; offset-is = b; kind-is = k; value-is = v; table-is = refl })
 
-  pub ask-done : item < n → (t₂ : List ℕ) (v : Value) → Bytes t₂ → length t₂ ≡ length t
-      → LookedUp s (lookUp (sheetOf s) (catchUp (sheetOf s) (decodeTable t)) item) v t₂ → ReadingOf v r → Asked (callLent (sheetOf s) x t (ask item)) r t₂
+  pub ask-done : item < n → (t₁ : List ℕ) (v : Value) → LookedUp s (lookUp (sheetOf s) (catchUp (sheetOf s) (decodeTable t)) item) v t₁ → (t₂ : List ℕ)
+      → t₂ ≡ encodeTable (sheetOf s) (decodeTable t₁) → ReadingOf v r → Asked (callLent (sheetOf s) x t (ask item)) r t₂
   unfolding tests firstCause effect
-  ask-done h t₂ v bytes len l q =
+  ask-done h t₁ v l t₂ settled q =
       rw (lt-leb (size (sheetOf s)) item (omega arith)) (record {
         number-is = q .number-is;
         offset-is = q .offset-is;
         kind-is = q .kind-is ∙ ap Rattle.circuit.specs.Value.kindOf (l .value-is);
         value-is = q .value-is ∙ ap Rattle.circuit.specs.Value.numberOf (l .value-is);
-        table-is = sym (encode-decodeTable (sheetOf s) t₂ bytes (len ∙ lent .length-is) (l .formed)) ∙ ap (encodeTable (sheetOf s)) (l .table-is);
+        table-is = settled ∙ ap (encodeTable (sheetOf s)) (l .table-is);
       })
 
 -- what a look-up after catching up gives

@@ -14,10 +14,10 @@ use Rattle.circuit.specs.Calls.{firstCause, tests, someNoItem, shownOf, showIte
 use Rattle.circuit.proofs.Board.{listed-count}
 use Rattle.layout.specs.Opened.{sheetOf}
 use Rattle.field.specs.Bytes.{Bytes}
-use Rattle.table.specs.Bytes.{encodeTable, decodeTable}
-use Rattle.table.proofs.Tables.{encode-decodeTable}
+use Rattle.table.specs.Bytes.{encodeTable, decodeTable, owedTrue}
 use Rattle.office.specs.Office.{resultsOf}
 use Rattle.looking.specs.Pass.{Lent}
+use Rattle.admission.proofs.Admitting.{lent-encoded}
 use Rattle.admission.specs.Admission.{callLent}
 use Rattle.admission.specs.declared.Answer.{Answer}
 use Rattle.call_board.specs.Showing.{BoardShown, Listed, Shown}
@@ -50,32 +50,30 @@ module _ {s offsets t : List ℕ} (lent : Lent s offsets t) (x items results : L
   item-refused w q a b = rw (w, q) (record { number-is = a; offset-is = b; results-are = refl; table-is = refl })
 
   pub board-done : listsOff (length items) (length results) ≡ false → someNoItem (sheetOf s) (listed items) ≡ false → (length items ≡ 0 → ⊥)
-      → r .number ≡ 0 → r .offset ≡ 0 → (results₂ t₂ : List ℕ) → Bytes t₂ → length t₂ ≡ length t
-      → Shown s (gather (lookUp (sheetOf s)) (catchUp (sheetOf s) (decodeTable t)) (listed items)) results₂ t₂
-      → BoardShown (callLent (sheetOf s) x t (board items results)) r results₂ t₂
+      → r .number ≡ 0 → r .offset ≡ 0 → (results₂ t₁ : List ℕ)
+      → Shown s (gather (lookUp (sheetOf s)) (catchUp (sheetOf s) (decodeTable t)) (listed items)) results₂ t₁
+      → (t₂ : List ℕ) → t₂ ≡ encodeTable (sheetOf s) (decodeTable t₁) → BoardShown (callLent (sheetOf s) x t (board items results)) r results₂ t₂
   unfolding tests firstCause effect
-  board-done w q some a b results₂ t₂ bytes len shown =
+  board-done w q some a b results₂ t₁ shown t₂ settled =
       let e = shows (sheetOf s) (decodeTable t) (listed items) (λ z. some (omega (arith, listed-count items, lists-even (length items) (length results) w))) in
       rw (w, q) (record {
         number-is = a;
         offset-is = b;
         results-are = shown .results-are ∙ ap (λ o. resultsOf (o .shown)) e;
-        table-is =
-            sym (encode-decodeTable (sheetOf s) t₂ bytes (len ∙ lent .length-is) (shown .formed))
-            ∙ ap (encodeTable (sheetOf s)) (shown .table-is ∙ ap (λ o. o .table) e);
+        table-is = settled ∙ ap (encodeTable (sheetOf s)) (shown .table-is ∙ ap (λ o. o .table) e);
       })
 
 -- an empty list changes nothing
-pub board-empty : {s offsets t : List ℕ} → Lent s offsets t → Bytes t → (x items results : List ℕ) (r : Answer)
+pub board-empty : {s offsets t : List ℕ} → Lent s offsets t → Bytes t → owedTrue (sheetOf s) t ≡ true → (x items results : List ℕ) (r : Answer)
     → listsOff (length items) (length results) ≡ false → length items ≡ 0 → r .number ≡ 0 → r .offset ≡ 0
     → BoardShown (callLent (sheetOf s) x t (board items results)) r results t
 unfolding tests firstCause effect listsOff listed someNoItem resultsOf
-board-empty {s} {offsets} {t} lent bytes x [] [] r w e a b =
+board-empty {s} {offsets} {t} lent bytes owes x [] [] r w e a b =
     record {
       number-is = a;
       offset-is = b;
       results-are = refl;
-      table-is = sym (encode-decodeTable (sheetOf s) t bytes (lent .length-is) (lent .formed));
+      table-is = sym (lent-encoded lent bytes owes);
     }
-board-empty lent bytes x [] (y ∷ results) r w e a b = absurd (omega (arith, lists-room 0 (suc (length results)) w))
-board-empty lent bytes x (i ∷ items) results r w e a b = absurd (omega arith)
+board-empty lent bytes owes x [] (y ∷ results) r w e a b = absurd (omega (arith, lists-room 0 (suc (length results)) w))
+board-empty lent bytes owes x (i ∷ items) results r w e a b = absurd (omega arith)

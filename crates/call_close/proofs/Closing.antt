@@ -13,11 +13,10 @@ use Rattle.circuit.specs.Call.{close}
 use Rattle.circuit.specs.Calls.{tests, firstCause, effect}
 use Rattle.circuit.specs.Closing.{closedValue, closeItem, closeBelow, closeAll}
 use Rattle.layout.specs.Opened.{sheetOf}
-use Rattle.field.specs.Bytes.{Bytes}
 use Rattle.item.proofs.Located.{sheet-ordered}
 use Rattle.table.specs.Rows.{setRow}
 use Rattle.table.specs.Record.{width, encodeCell}
-use Rattle.table.specs.Bytes.{decodeTable, tableForm, Holdable}
+use Rattle.table.specs.Bytes.{encodeTable, decodeTable, tableForm, Holdable}
 use Rattle.table.proofs.Tables.{decode-setRow, setRow-form, record-fits, decoded-holdable}
 use Rattle.office.proofs.Holdable.{closed-formed, closed-allowed}
 use Rattle.looking.specs.Pass.{Lent}
@@ -25,7 +24,7 @@ use Rattle.looking.proofs.Gathering.{lent-on}
 use Rattle.admission.specs.Admission.{callLent}
 use Rattle.admission.specs.Answers.{Answered, Left}
 use Rattle.admission.specs.declared.Answer.{Answer}
-use Rattle.admission.proofs.Admitting.{accepted-answer, left-encoded}
+use Rattle.admission.proofs.Admitting.{accepted-answer, left-settled}
 
 -- an entry's value in the run is what its record holds
 pub closed-entry : (s t : List ℕ) (i : ℕ) → isFigure (itemAt (sheetOf s) i) ≡ false → closedValue (sheetOf s) (decodeTable t) i ≡ valueIn (decodeTable t i)
@@ -106,8 +105,8 @@ module _ {s offsets t₀ : List ℕ} {n i : ℕ} {t : List ℕ} (inv : Closing s
       record { table-is = inv .left .table-is ∙ ap (closeBelow (sheetOf s) (decodeTable t₀)) all; formed = inv .left .formed }
 
 -- the call has no tests of its own
-pub closed-answer : {s offsets t : List ℕ} → Lent s offsets t → (x : List ℕ) (r : Answer) (t′ : List ℕ) → Bytes t′ → length t′ ≡ length t
-    → Left s (closeAll (sheetOf s) (decodeTable t)) t′ → r .number ≡ 0 → r .offset ≡ 0 → Answered (callLent (sheetOf s) x t close) r t′
+pub closed-answer : (s t x : List ℕ) (r : Answer) (t₁ : List ℕ) → Left s (closeAll (sheetOf s) (decodeTable t)) t₁ → (t₂ : List ℕ)
+    → t₂ ≡ encodeTable (sheetOf s) (decodeTable t₁) → r .number ≡ 0 → r .offset ≡ 0 → Answered (callLent (sheetOf s) x t close) r t₂
 unfolding tests firstCause effect
-closed-answer {s} {offsets} {t} lent x r t′ bytes len left number offset =
-    accepted-answer (sheetOf s) x t t′ close r refl number offset (left-encoded lent left bytes len)
+closed-answer s t x r t₁ left t₂ settled number offset =
+    accepted-answer (sheetOf s) x t t₂ close r refl number offset (left-settled left t₂ settled)

@@ -19,7 +19,7 @@ board-lent-requires c κs =
     let m = b .before .before .before .before in
     let a = m .before .before .before .before .before .before .before .before .before .args in
     let g = admits (a .sheet .now) (a .index .now) (a .table .now) _ (m .admit .ensures .0) (b .n .given .1) (m .admit .ensures .1 .located) (omega (arith, m .admit .kept .1 .1 .1 .0)) in
-    (g .placing, g .lent)
+    (g .placing, (g .lent, g .owes))
 
 returns : tie.Need-returns
 returns c =

@@ -2,6 +2,7 @@
 use mathlib.Core.Path.{sym, _∙_}
 use Rattle.layout.specs.Opened.{sheetOf}
 use Rattle.call_board.proofs.Answers.{board-listed, lists-refused, item-refused, board-empty, board-done}
+use Rattle.admission.proofs.Admitting.{settle-needs}
 use borrow.Author.Needs.{needs}
 use Rattle.call_board.proofs.board_lent.Statement.{statement}
 use Rattle.call_board.proofs.board_lent.Tie as tie
@@ -12,7 +13,7 @@ returns c =
     let w = c .before .before in
     let a = w .before .before .before .before .before .before .args in
     let p = w .before .before .before .before .before .before .pre in
-    lists-refused (p .1) x (a .items .now) (a .results .now) (c .give .result) (sym (w .lists-wrong .ensures) ∙ c .before .if1 .taken)
+    lists-refused (p .1 .0) x (a .items .now) (a .results .now) (c .give .result) (sym (w .lists-wrong .ensures) ∙ c .before .if1 .taken)
     (c .give .ensures .0) (c .give .ensures .1)
 
 returns-2 : tie.Need-returns-2
@@ -21,7 +22,7 @@ returns-2 c =
     let w = c .before .before .before .before in
     let a = w .before .before .before .before .before .before .args in
     let p = w .before .before .before .before .before .before .pre in
-    item-refused (p .1) x (a .items .now) (a .results .now) (c .give2 .result) (sym (w .lists-wrong .ensures) ∙ c .before .before .before .if1 .left)
+    item-refused (p .1 .0) x (a .items .now) (a .results .now) (c .give2 .result) (sym (w .lists-wrong .ensures) ∙ c .before .before .before .if1 .left)
     (sym (c .before .before .some-no-item .ensures (sheetOf (a .sheet .now)) (p .0 .count-is)) ∙ c .before .if2 .taken)
     (c .give2 .ensures .0) (c .give2 .ensures .1)
 
@@ -31,7 +32,7 @@ returns-3 c =
     let w = c .before .before .before .before .before in
     let a = w .before .before .before .before .before .before .args in
     let p = w .before .before .before .before .before .before .pre in
-    board-empty (p .1) (λ j. w .before .before .before .slice-known .given j .fits) x (a .items .now) (a .results .now) (c .give3 .result)
+    board-empty (p .1 .0) (λ j. w .before .before .before .slice-known .given j .fits) (p .1 .1) x (a .items .now) (a .results .now) (c .give3 .result)
     (sym (w .lists-wrong .ensures) ∙ c .before .before .before .before .if1 .left) (c .before .if3 .taken) (c .give3 .ensures .0) (c .give3 .ensures .1)
 
 show-requires : tie.Need-show-requires
@@ -42,19 +43,25 @@ show-requires c κs =
     let lists =
     board-listed (a .sheet .now) (a .items .now) (a .results .now) (sym (w .lists-wrong .ensures) ∙ c .before .before .before .before .before .if1 .left)
     (sym (c .before .before .before .before .some-no-item .ensures (sheetOf (a .sheet .now)) (p .0 .count-is)) ∙ c .before .before .before .if2 .left) in
-    (p .1, (p .0 .count-is, lists))
+    (p .1 .0, (p .0 .count-is, (lists, p .1 .1)))
+
+settle-requires : tie.Need-settle-requires
+settle-requires c κs =
+    let p = c .before .before .before .before .before .before .before .before .before .before .before .before .before .before .before .before .before .before .pre in
+    let u = c .before .before .before .before .before .show in
+    settle-needs (p .0) (p .1 .0) _ (u .kept .1 .1 .0) (u .ensures .formed)
 
 returns-4 : tie.Need-returns-4
 returns-4 c =
     λ x.
-    let e = c .before .before .before .before .before .before .before .before in
+    let d = c .before .before .before .before in
+    let e = d .before .before .before .before .before .before .before .before in
     let w = e .before .before .before .before in
     let a = w .before .before .before .before .before .before .args in
     let p = w .before .before .before .before .before .before .pre in
-    let u = c .before .before .before .before .before .show in
-    board-done (p .1) x (a .items .now) (a .results .now) (c .give4 .result) (sym (w .lists-wrong .ensures) ∙ e .before .before .before .if1 .left)
+    board-done (p .1 .0) x (a .items .now) (a .results .now) (c .give4 .result) (sym (w .lists-wrong .ensures) ∙ e .before .before .before .if1 .left)
     (sym (e .before .before .some-no-item .ensures (sheetOf (a .sheet .now)) (p .0 .count-is)) ∙ e .before .if2 .left) (e .if3 .left)
-    (c .give4 .ensures .0) (c .give4 .ensures .1) _ _ (λ j. c .before .before .before .slice-known3 .given j .fits) (u .kept .1 .1 .0) (u .ensures)
+    (c .give4 .ensures .0) (c .give4 .ensures .1) _ _ (d .before .before .before .before .before .show .ensures) _ (c .before .before .before .settle .ensures)
 
 pub board-lent-spec : {M : Type 1} → statement M
 board-lent-spec =
@@ -69,6 +76,7 @@ board-lent-spec =
     (λ c κs. search needs)
     returns-3
     show-requires
+    settle-requires
     (λ c κs. search needs)
     (λ c. search needs)
     (λ c. search needs)

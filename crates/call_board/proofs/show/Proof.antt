@@ -23,7 +23,7 @@ unfolding mostItems itemLimit
 catch-up-requires c κs =
     let a = c .before .before .before .before .before .before .before .before .args in
     let p = c .before .before .before .before .before .before .before .before .pre in
-    (p .0, (fresh-ready (a .sheet .now) _ _ refl refl (same-all 0 mostItems), p .1 .0))
+    (p .0, (fresh-ready (a .sheet .now) _ _ refl refl (same-all 0 mostItems), (p .1 .0, p .1 .1 .1)))
 
 show-each-requires : tie.Need-show-each-requires
 unfolding mostItems itemLimit
@@ -32,7 +32,7 @@ show-each-requires c κs =
     let p = c .before .before .before .before .before .before .before .before .before .before .before .before .before .before .before .before .before .pre in
     let u = c .before .before .before .before .before .before .before .before .catch-up in
     let ready = fresh-ready (a .sheet .now) (replicate mostItems 0) (replicate mostItems (pos 0)) refl refl (same-all 0 mostItems) in
-    (lent-on (p .0) _ (u .kept .1 .1 .0) (u .ensures .formed), (caught-memo ready (p .1 .0) _ _ (u .kept .1 .1 .1 .0) (u .kept .1 .1 .1 .1 .0) (u .ensures) _, p .1 .1))
+    (lent-on (p .0) _ (u .kept .1 .1 .0) (u .ensures .formed), (caught-memo ready (p .1 .0) _ _ (u .kept .1 .1 .1 .0) (u .kept .1 .1 .1 .1 .0) (u .ensures) _, p .1 .1 .0))
 
 pub show-spec : {M : Type 1} → statement M
 show-spec =

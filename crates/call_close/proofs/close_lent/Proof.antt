@@ -1,14 +1,23 @@
+-- `call_close::close_lent` meets its contract. Assumes nothing.
 use borrow.Author.Needs.{needs}
+use Rattle.admission.proofs.Admitting.{settle-needs}
 use Rattle.call_close.proofs.Closing.{closed-answer}
 use Rattle.call_close.proofs.close_lent.Statement.{statement}
 use Rattle.call_close.proofs.close_lent.Tie as tie
 
+settle-requires : tie.Need-settle-requires
+settle-requires c κs =
+    let k = c .before .before .before in
+    let p = k .before .before .before .before .before .pre in
+    settle-needs (p .0) (p .1) _ (k .close-all .kept .1 .1 .0) (k .close-all .ensures .formed)
+
 returns : tie.Need-returns
 returns c =
     λ x.
-    let k = c .before .before .before in
-    closed-answer (k .before .before .before .before .before .pre .1) x (c .give .result) _ (λ j. c .before .slice-known2 .given j .fits) (k .close-all .kept .1 .1 .0) (k .close-all .ensures)
-    (c .give .ensures .0) (c .give .ensures .1)
+    let k = c .before .before .before .before .before .before .before in
+    let a = k .before .before .before .before .before .args in
+    closed-answer (a .sheet .now) (a .table .now) x (c .give .result) _ (k .close-all .ensures) _ (c .before .before .before .settle .ensures) (c .give .ensures .0) (c .give .ensures .1)
 
 pub close-lent-spec : {M : Type 1} → statement M
-close-lent-spec = tie.close (tie.spec (λ c κs. search needs) (λ c κs. search needs) (λ c. search needs) returns)
+close-lent-spec =
+    tie.close (tie.spec (λ c κs. search needs) settle-requires (λ c κs. search needs) (λ c. search needs) returns)
