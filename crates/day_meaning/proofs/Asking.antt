@@ -1,7 +1,7 @@
 -- An accepted ask prints the value that looking its item up after catching up gives. Assumes nothing.
 use Prim.Native.Nat.{ℕ, zero, suc, _<_}
 use mathlib.Core.Path.{_≡_, refl, ap}
-use mathlib.Core.Bool.{true}
+use mathlib.Core.Bool.{true, _&&_}
 use mathlib.Core.List.{List, []}
 use native.Mathlib.Omega.{arith}
 use borrow.Author.Tests.{leb-false, not-false}
@@ -10,10 +10,11 @@ use Rattle.circuit.specs.Sheet.{Sheet, size, Ordered}
 use Rattle.circuit.specs.Machine.{lookUp, catchUp}
 use Rattle.circuit.specs.Call.{ask}
 use Rattle.circuit.specs.Calls.{firstCause, tests, effect, noItem}
+use Rattle.circuit.proofs.RuleLaws.{and-left}
 use Rattle.layout.specs.Read.{Placed, SheetRead, opens, refused, readSheet}
 use Rattle.layout.specs.Opened.{sheetRead}
 use Rattle.layout.proofs.Scan.{cause-none, opened-ordered}
-use Rattle.table.specs.Bytes.{decodeTable, tableForm}
+use Rattle.table.specs.Bytes.{decodeTable, tableForm, owedTrue}
 use Rattle.table.proofs.Tables.{decoded-holdable}
 use Rattle.office.specs.Office.{callTests, callRead, callOn, lengthsWrong, indexWrong, tableWrong, unlessRefused, effectOn, keeping}
 use Rattle.office.proofs.Holdable.{look-formed, catchUp-holdable}
@@ -47,7 +48,7 @@ ask-prints s x t i e = go (readSheet s) refl e
         let b = cause-none 8 (indexWrong ps x) _ (a .1) in
         let c = cause-none 9 (tableWrong S t) _ (b .1) in
         let d = cause-none 10 (noItem S i) _ (c .1) in
-        let form : tableForm S t ≡ true = not-false (tableForm S t) (c .0) in
+        let form : tableForm S t ≡ true = and-left (tableForm S t) (owedTrue S t) (not-false (tableForm S t && owedTrue S t) (c .0)) in
         let low : i < size S = leb-false (size S) i (d .0) in
         look-formed S ordered (catchUp S (decodeTable t)) i low (catchUp-holdable S ordered (decodeTable t) (decoded-holdable S t form))
 

@@ -29,12 +29,12 @@ abbrev zeros20 : List ℕ
 zeros20 = 0 ∷ 0 ∷ 0 ∷ 0 ∷ 0 ∷ 0 ∷ 0 ∷ 0 ∷ 0 ∷ 0 ∷ 0 ∷ 0 ∷ 0 ∷ 0 ∷ 0 ∷ 0
     ∷ 0 ∷ 0 ∷ 0 ∷ 0 ∷ []
 
-abbrev zeros50 : List ℕ
-zeros50 =
+abbrev zeros55 : List ℕ
+zeros55 =
     0 ∷ 0 ∷ 0 ∷ 0 ∷ 0 ∷ 0 ∷ 0 ∷ 0 ∷ 0 ∷ 0 ∷ 0 ∷ 0 ∷ 0 ∷ 0 ∷ 0 ∷ 0
     ∷ 0 ∷ 0 ∷ 0 ∷ 0 ∷ 0 ∷ 0 ∷ 0 ∷ 0 ∷ 0 ∷ 0 ∷ 0 ∷ 0 ∷ 0 ∷ 0 ∷ 0 ∷ 0
     ∷ 0 ∷ 0 ∷ 0 ∷ 0 ∷ 0 ∷ 0 ∷ 0 ∷ 0 ∷ 0 ∷ 0 ∷ 0 ∷ 0 ∷ 0 ∷ 0 ∷ 0 ∷ 0
-    ∷ 0 ∷ 0 ∷ []
+    ∷ 0 ∷ 0 ∷ 0 ∷ 0 ∷ 0 ∷ 0 ∷ 0 ∷ []
 
 -- OK, OK, ASK 4 700, OK, ASK 4 500, NO 12, NO 11
 abbrev pub exampleOutput : List ℕ
@@ -43,6 +43,6 @@ exampleOutput =
     ∷ 79 ∷ 75 ∷ 10 ∷ 65 ∷ 83 ∷ 75 ∷ 32 ∷ 52 ∷ 32 ∷ 53 ∷ 48 ∷ 48 ∷ 10 ∷ 78 ∷ 79 ∷ 32
     ∷ 49 ∷ 50 ∷ 10 ∷ 78 ∷ 79 ∷ 32 ∷ 49 ∷ 49 ∷ 10 ∷ []
 
-pub example : runDay exampleSheet exampleDay zeros20 zeros50 .text ≡ exampleOutput
+pub example : runDay exampleSheet exampleDay zeros20 zeros55 .text ≡ exampleOutput
 unfolding calls machine partsOf least greatest whole digitsUpTo digits decimal postIn callIn orderOf playFrom countSaid dayOn runDay
 example = refl
