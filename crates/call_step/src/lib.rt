@@ -36,7 +36,7 @@ fn mark_cause(table: &[u8], n: usize, item: u64) -> u64
     }
 }
 
-// The step of a notice: the children are told by their list.
+// The step of a notice: the children are told by their list, which is built where the item is owed.
 fn notice_once(sheet: &[u8], offsets: &[usize], table: &mut [u8], n: usize, i: usize)
     requires { ⌜ Lent (now sheet) (now offsets) (now table) ⌝ ∗ ⌜ n ≡ size (sheetOf (now sheet)) ⌝ ∗ ⌜ i < n ⌝ ∗ ⌜ owedTrue (sheetOf (now sheet)) (now table) ≡ true ⌝ }
     ensures { λ _. ⌜ Left (now (sheet .entry)) (machine.clearMark (machine.tell (sheetOf (now (sheet .entry))) (decodeTable (now (table .entry))) i) i) (now (table .exit)) ⌝ }
@@ -46,8 +46,16 @@ fn notice_once(sheet: &[u8], offsets: &[usize], table: &mut [u8], n: usize, i: u
     let mut heads = [0u16; limits::ITEM_LIMIT];
     let mut links = [0u16; children::EDGE_LIMIT];
     let mut owed = [0u8; limits::ITEM_LIMIT];
-    children::link(sheet, offsets, n, &mut heads, &mut links);
     owing::copy_owed(table, n, &mut owed);
+    stepping::link_once(
+        sheet,
+        offsets,
+        n,
+        &mut heads,
+        &mut links,
+        false,
+        owed[i] != 0,
+    );
     stepping::tell_and_clear(
         sheet,
         offsets,

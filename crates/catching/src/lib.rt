@@ -25,7 +25,6 @@ fn catch_up_from(
     let mut heads = [0u16; limits::ITEM_LIMIT];
     let mut links = [0u16; children::EDGE_LIMIT];
     let mut owed = [0u8; limits::ITEM_LIMIT];
-    children::link(sheet, offsets, n, &mut heads, &mut links);
     owing::copy_owed(table, n, &mut owed);
     stepping::catch_up(
         sheet,
@@ -33,15 +32,15 @@ fn catch_up_from(
         table,
         tags,
         numbers,
-        &heads,
-        &links,
+        &mut heads,
+        &mut links,
         &owed,
         first,
         n,
     );
 }
 
-// Steps until no item is marked. The child lists are built only where one is.
+// Steps until no item is marked.
 pub fn catch_up(
     sheet: &[u8],
     offsets: &[usize],

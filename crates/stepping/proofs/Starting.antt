@@ -2,7 +2,7 @@
 use Prim.Native.Nat.{ℕ, zero, suc, _*_, _<_, _≤_}
 use native.Mathlib.Omega.{arith}
 use mathlib.Core.Path.{_≡_, refl, _∙_}
-use mathlib.Core.Bool.{true}
+use mathlib.Core.Bool.{true, false}
 use mathlib.Core.List.{List}
 use lib.IntN.{ℤ}
 use lib.ListN.{length, getD, replicate}
@@ -10,7 +10,7 @@ use borrow.Author.Tests.{eqb-true}
 use Rattle.circuit.specs.Rules.{maxParents}
 use Rattle.circuit.specs.Sheet.{size}
 use Rattle.layout.specs.Layout.{mostItems}
-use Rattle.layout.specs.Opened.{sheetOf}
+use Rattle.layout.specs.Opened.{sheetOf, Located}
 use Rattle.item.proofs.Located.{size-room}
 use Rattle.table.specs.Rows.{row}
 use Rattle.table.specs.Record.{width, owedIn}
@@ -18,7 +18,7 @@ use Rattle.table.specs.Bytes.{decodeTable, owedTrueAt, owedTrue}
 use Rattle.table.proofs.Rows.{below-true}
 use Rattle.owing.specs.Owing.{OwedIs}
 use Rattle.looking.specs.Pass.{Lent}
-use Rattle.stepping.specs.Stepping.{Ready}
+use Rattle.stepping.specs.Stepping.{Ready, Lists}
 use Rattle.children.specs.Children.{lists, linkAll, Linked}
 use Rattle.children.proofs.Building.{sheet-linked}
 
@@ -45,6 +45,29 @@ pub lists-linked : {s offsets t : List ℕ} → Lent s offsets t → (heads link
 unfolding maxParents
 lists-linked {s} {offsets} {t} lent heads links heads₂ links₂ a b empty headed linked =
     rw (headed, linked) (sheet-linked s offsets heads links (lent .located) (omega (arith, size-room s)) (omega (arith, size-room s)) (λ p low. empty p))
+
+-- arrays that are blank, and the lists once they are built
+pub lists-blank : (s heads links : List ℕ) → length heads ≡ mostItems → length links ≡ maxParents * mostItems → ((p : ℕ) → getD heads p 0 ≡ 0)
+    → Lists (sheetOf s) false heads links
+unfolding maxParents
+lists-blank s heads links a b empty =
+    record {
+      head-room = omega (arith, size-room s);
+      link-room = omega (arith, size-room s);
+      linked = λ e. let bad : _≡_ {A = ℕ} 0 1 = cc e in absurd (omega arith);
+      blank = λ e p low. empty p;
+    }
+
+pub lists-built : (s offsets heads links heads₂ links₂ : List ℕ) → Located s offsets → Lists (sheetOf s) false heads links
+    → heads₂ ≡ linkAll (sheetOf s) (lists heads links) .heads → links₂ ≡ linkAll (sheetOf s) (lists heads links) .links
+    → length heads₂ ≡ length heads → length links₂ ≡ length links → Lists (sheetOf s) true heads₂ links₂
+lists-built s offsets heads links heads₂ links₂ located is headed linked a b =
+    record {
+      head-room = omega (arith, is .head-room);
+      link-room = omega (arith, is .link-room);
+      linked = λ e. rw (headed, linked) (sheet-linked s offsets heads links located (is .head-room) (is .link-room) (is .blank refl));
+      blank = λ e. let bad : _≡_ {A = ℕ} 0 1 = cc e in absurd (omega arith);
+    }
 
 -- the owed bytes of a table, copied while they are true
 pub copied-owed : (s t bytes : List ℕ) (n : ℕ) → owedTrue (sheetOf s) t ≡ true → n ≡ size (sheetOf s) → n ≤ length bytes

@@ -44,7 +44,7 @@ tell-over w S i T c d h none =
     ap (tellBelowBy w S i T) sum ∙ tell-none w S i T c (d - c) (λ x a b. none x a (omega arith))
 
 -- The loop over the children of item i: those below `from` are told, and the edge leads to the next.
-pub record Telling (w : ℕ → Bool) (s offsets t₀ tags₀ : List ℕ) (numbers₀ : List ℤ) (generation i edge : ℕ) (t tags : List ℕ) (numbers : List ℤ) : Type 0 where
+pub record ToldBelow (w : ℕ → Bool) (s offsets t₀ tags₀ : List ℕ) (numbers₀ : List ℤ) (generation i edge : ℕ) (t tags : List ℕ) (numbers : List ℤ) : Type 0 where
   pub lent : Lent s offsets t
   pub from : ℕ
   pub within : from ≤ size (sheetOf s)
@@ -56,7 +56,7 @@ pub record Telling (w : ℕ → Bool) (s offsets t₀ tags₀ : List ℕ) (numbe
 
 pub telling-start : (w : ℕ → Bool) {s offsets t tags heads links : List ℕ} {numbers : List ℤ} {generation i : ℕ} → Lent s offsets t → Memo (sheetOf s) (decodeTable t) tags numbers generation
     → NoneFrom 0 tags generation → Linked (sheetOf s) heads links → i < size (sheetOf s) → (edge : ℕ) → edge ≡ getD heads i 0
-    → Telling w s offsets t tags numbers generation i edge t tags numbers
+    → ToldBelow w s offsets t tags numbers generation i edge t tags numbers
 unfolding tellBelowBy
 telling-start w {s} {offsets} {t} {tags} {heads} {links} {numbers} {generation} {i} lent memo none-from linked low edge is =
     record {
@@ -71,7 +71,7 @@ telling-start w {s} {offsets} {t} {tags} {heads} {links} {numbers} {generation} 
     }
 
 module _ {w : ℕ → Bool} {s offsets t₀ tags₀ : List ℕ} {numbers₀ : List ℤ} {generation i edge : ℕ} {t tags : List ℕ} {numbers : List ℤ}
-    (inv : Telling w s offsets t₀ tags₀ numbers₀ generation i edge t tags numbers) where
+    (inv : ToldBelow w s offsets t₀ tags₀ numbers₀ generation i edge t tags numbers) where
   pub telling-memo : Memo (sheetOf s) (decodeTable t) tags numbers generation
   telling-memo = rw (inv .moves .table-is) (inv .moves .memo)
 
@@ -108,7 +108,7 @@ module _ {w : ℕ → Bool} {s offsets t₀ tags₀ : List ℕ} {numbers₀ : Li
       pub telling-next : (t₂ tags₂ : List ℕ) (numbers₂ : List ℤ) → length t₂ ≡ length t → length tags₂ ≡ length tags → length numbers₂ ≡ length numbers
           → Moves s generation (edge / maxParents) (tellChildBy (w (edge / maxParents)) (sheetOf s) (decodeTable t) (edge / maxParents)) t₂ tags₂ numbers₂
           → (edge₂ : ℕ) → edge₂ ≡ getD links edge 0
-          → Telling w s offsets t₀ tags₀ numbers₀ generation i edge₂ t₂ tags₂ numbers₂
+          → ToldBelow w s offsets t₀ tags₀ numbers₀ generation i edge₂ t₂ tags₂ numbers₂
       unfolding tellBelowBy
       telling-next t₂ tags₂ numbers₂ a b d moves edge₂ is =
           record {

@@ -1,14 +1,17 @@
 -- What renewing and telling are lent below the refusals, and what they leave. Assumes nothing.
-use Prim.Native.Nat.{ℕ, _<_}
+use Prim.Native.Nat.{ℕ, _<_, _≤_}
 use mathlib.Core.Path.{_≡_}
 use mathlib.Core.Bool.{true}
 use mathlib.Core.List.{List}
 use lib.IntN.{ℤ}
+use lib.ListN.{length}
 use Rattle.circuit.specs.Value.{Value}
-use Rattle.circuit.specs.Sheet.{Spread, defer, renew, forget, size, itemAt, isFigure}
+use Rattle.circuit.specs.Sheet.{Sheet, Spread, defer, renew, forget, size, itemAt, isFigure}
 use Rattle.circuit.specs.Table.{Table, Mark, unmarked, refresh, notice, held}
 use Rattle.layout.specs.Opened.{sheetOf}
 use Rattle.table.specs.Bytes.{decodeTable, tableForm}
+use Rattle.owing.specs.Owing.{owes}
+use Rattle.children.specs.Children.{Linked}
 use Rattle.memo.specs.Memo.{Memo, NoneFrom}
 use Rattle.telling.specs.declared.Told.{Told}
 use Rattle.telling.specs.declared.Told.the-variants.{Forgets, Refreshes, Renews}
@@ -19,6 +22,13 @@ pub record Moves (s : List ℕ) (generation b : ℕ) (U : Table) (t′ tags′ :
   pub formed : tableForm (sheetOf s) t′ ≡ true
   pub memo : Memo (sheetOf s) U tags′ numbers′ generation
   pub fresh : NoneFrom b tags′ generation
+
+-- What telling the children of item i is lent: an array of what is owed, and the child lists of the sheet, if the array says that i is
+-- owed. If it does not, nobody is told, and the lists need not be built.
+pub record Telling (S : Sheet) (heads links bytes : List ℕ) (i : ℕ) : Type 0 where
+  pub low : i < size S
+  pub room : size S ≤ length bytes
+  pub linked : owes bytes i ≡ true → Linked S heads links
 
 -- item i is a figure of the sheet, and its record holds v
 pub record Renewable (s t : List ℕ) (i : ℕ) (v : Value) : Type 0 where

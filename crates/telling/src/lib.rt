@@ -1,8 +1,7 @@
 // Telling the children of an item.
 ghost use mathlib.Core.Path.{_≡_};
 ghost use mathlib.Core.Bool.{true};
-ghost use Prim.Native.Nat.{_<_, _≤_};
-ghost use lib.ListN.{length};
+ghost use Prim.Native.Nat.{_<_};
 ghost use Rattle.circuit.specs.Sheet.{size, itemAt, isFigure};
 ghost use Rattle.circuit.specs.Machine.{workOut, renewed, refreshCleared};
 ghost use Rattle.circuit.specs.Ascending.{tellChildBy, tellBy};
@@ -12,10 +11,9 @@ ghost use Rattle.item.specs.Item.{spreadMeaning};
 ghost use Rattle.table.specs.Bytes.{decodeTable};
 ghost use Rattle.table.specs.Meaning.{markMeaning};
 ghost use Rattle.owing.specs.Owing.{owes};
-ghost use Rattle.children.specs.Children.{Linked};
 ghost use Rattle.memo.specs.Memo.{Memo, NoneFrom};
 ghost use Rattle.looking.specs.Pass.{Lent};
-ghost use Rattle.telling.specs.Telling.{Moves, Renewable, toldBy};
+ghost use Rattle.telling.specs.Telling.{Moves, Telling, Renewable, toldBy};
 use item::Spread;
 use table::Cell;
 use table::Mark;
@@ -145,7 +143,7 @@ pub fn tell_children(
     generation: u64,
     i: usize,
 )
-    requires { ⌜ Lent (now sheet) (now offsets) (now table) ⌝ ∗ ⌜ Memo (sheetOf (now sheet)) (decodeTable (now table)) (now tags) (now numbers) generation ⌝ ∗ ⌜ NoneFrom 0 (now tags) generation ⌝ ∗ ⌜ Linked (sheetOf (now sheet)) (now heads) (now links) ⌝ ∗ ⌜ (i < size (sheetOf (now sheet))) × (size (sheetOf (now sheet)) ≤ length (now owed)) ⌝ }
+    requires { ⌜ Lent (now sheet) (now offsets) (now table) ⌝ ∗ ⌜ Memo (sheetOf (now sheet)) (decodeTable (now table)) (now tags) (now numbers) generation ⌝ ∗ ⌜ NoneFrom 0 (now tags) generation ⌝ ∗ ⌜ Telling (sheetOf (now sheet)) (now heads) (now links) (now owed) i ⌝ }
     ensures { λ _. ⌜ Moves (now (sheet .entry)) generation (size (sheetOf (now (sheet .entry)))) (tellBy (owes (now (owed .entry))) (sheetOf (now (sheet .entry))) (decodeTable (now (table .entry))) i) (now (table .exit)) (now (tags .exit)) (now (numbers .exit)) ⌝ }
 {
     if owed[i] == 0 {

@@ -9,7 +9,7 @@ use Rattle.stepping.proofs.step_item.Tie as tie
 step-refresh-requires : tie.Need-step-refresh-requires
 step-refresh-requires c κs =
     let q = c .before .before .before .before .before .before .before .before .before .before .before .before .before .pre in
-    (q .0, (q .1 .0, (q .1 .1 .1 .0, sym (c .before .before .before .before .is-noticed .ensures) ∙ c .before .before .before .if1 .left)))
+    (q .0, (q .1 .0, (q .1 .1 .low, sym (c .before .before .before .before .is-noticed .ensures) ∙ c .before .before .before .if1 .left)))
 
 returns : tie.Need-returns
 returns c =

@@ -8,13 +8,13 @@ use Rattle.stepping.proofs.tell_and_clear.Tie as tie
 tell-children-requires : tie.Need-tell-children-requires
 tell-children-requires c κs =
     let q = c .before .before .before .before .before .before .before .before .before .before .pre in
-    (q .0, (ready-memo (q .1 .0) _, (q .1 .0 .older, (q .1 .1 .0, q .1 .1 .1))))
+    (q .0, (ready-memo (q .1 .0) _, (q .1 .0 .older, q .1 .1)))
 
 returns : tie.Need-returns
 returns c =
     let q = c .before .before .before .before .before .before .before .before .before .before .before .before .before .before .before .before .before .before .before .before .pre in
     let l = c .before .before .before .before .before .before .before .before .before .tell-children in
-    clear-steps _ (q .1 .1 .1 .0) (l .kept .1 .1 .0 ∙ q .0 .length-is) (l .ensures) _ (c .before .before .clear-mark .ensures)
+    clear-steps _ (q .1 .1 .low) (l .kept .1 .1 .0 ∙ q .0 .length-is) (l .ensures) _ (c .before .before .clear-mark .ensures)
 
 pub tell-and-clear-spec : {M : Type 1} → statement M
 tell-and-clear-spec =

@@ -6,14 +6,14 @@ use Rattle.circuit.specs.Rules.{maxParents}
 use Rattle.item.proofs.Located.{size-most, located-narrow}
 use Rattle.owing.specs.Owing.{owes}
 use Rattle.children.proofs.Linking.{left}
-use Rattle.telling.proofs.Children.{Telling, telling-start, telling-memo, child-low, child-figure, child-fresh, edge-low, telling-less, telling-next, telling-done}
+use Rattle.telling.proofs.Children.{ToldBelow, telling-start, telling-memo, child-low, child-figure, child-fresh, edge-low, telling-less, telling-next, telling-done}
 use Rattle.telling.proofs.Children.{telling-none, byte-owes, byte-unowed}
 use Rattle.telling.proofs.tell_children.Statement.{statement}
 use Rattle.telling.proofs.tell_children.Tie as tie
 
 abbrev Inv-loop : tie.InvT-loop
 Inv-loop sheet offsets table₀ tags₀ numbers₀ heads links owed generation i edge₀ table tags numbers edge =
-    Telling (owes owed) sheet offsets table₀ tags₀ numbers₀ generation i edge table tags numbers
+    ToldBelow (owes owed) sheet offsets table₀ tags₀ numbers₀ generation i edge table tags numbers
 
 abbrev μ-loop : tie.MeasureT-loop
 μ-loop sheet offsets table₀ tags₀ numbers₀ heads links owed generation i edge₀ table tags numbers edge = left links edge
@@ -21,7 +21,7 @@ abbrev μ-loop : tie.MeasureT-loop
 shared-slice-read-if1 : tie.Need-shared-slice-read-if1 Inv-loop μ-loop
 shared-slice-read-if1 c =
     let q = c .before .before .before .before .before .before .before .before .pre in
-    omega (arith, q .1 .1 .1 .1 .0, q .1 .1 .1 .1 .1)
+    omega (arith, q .1 .1 .1 .low, q .1 .1 .1 .room)
 
 returns : tie.Need-returns Inv-loop μ-loop
 returns c =
@@ -32,12 +32,13 @@ returns c =
 mul-wide : tie.Need-mul-wide Inv-loop μ-loop
 mul-wide c =
     let a = c .before .before .before .before .before .before .before .before .before in
-    record { fits = omega (arith, size-most (a .args .sheet .now), a .pre .1 .1 .1 .1 .0) }
+    record { fits = omega (arith, size-most (a .args .sheet .now), a .pre .1 .1 .1 .low) }
 
 shared-slice-read-wide : tie.Need-shared-slice-read-wide Inv-loop μ-loop
 shared-slice-read-wide c =
     let a = c .before .before .before .before .before .before .before .before .before .before in
-    omega (arith, a .pre .1 .1 .1 .0 .head-room, a .pre .1 .1 .1 .1 .0)
+    let t = a .pre .1 .1 .1 in
+    omega (arith, t .linked (byte-owes (a .args .owed .now) (a .args .i) (c .before .if1 .left)) .head-room, t .low)
 
 wide-requires : tie.Need-wide-requires Inv-loop μ-loop
 wide-requires c κs = search needs
@@ -46,7 +47,9 @@ loop-holds : tie.Need-loop-holds Inv-loop μ-loop
 loop-holds c =
     let a = c .before .before .before .before .before .before .before .before .before .before .before .args in
     let q = c .before .before .before .before .before .before .before .before .before .before .before .pre in
-    telling-start (owes (a .owed .now)) (q .0) (q .1 .0) (q .1 .1 .0) (q .1 .1 .1 .0) (q .1 .1 .1 .1 .0) _ (c .wide .ensures)
+    let t = q .1 .1 .1 in
+    telling-start (owes (a .owed .now)) (q .0) (q .1 .0) (q .1 .1 .0) (t .linked (byte-owes (a .owed .now) (a .i) (c .before .before .if1 .left))) (t .low) _
+    (c .wide .ensures)
 
 shared-slice-read-tell-child : tie.Need-shared-slice-read-tell-child Inv-loop μ-loop
 unfolding maxParents
@@ -54,7 +57,7 @@ shared-slice-read-tell-child c =
     let q = c .before .before .before .before .before .before .before .before .before .before .before .before .before .before .before .before .before .pre in
     let inv = c .before .before .before .before .before .loop .inv in
     let more = c .before .before .before .before .loop-test .taken in
-    omega (arith, q .1 .1 .1 .1 .1, child-low inv more)
+    omega (arith, q .1 .1 .1 .room, child-low inv more)
 
 tell-child-requires : tie.Need-tell-child-requires Inv-loop μ-loop
 unfolding maxParents
@@ -79,7 +82,7 @@ shared-slice-read-wide-2 c =
     let inv = l .loop .inv in
     let more = c .before .before .before .before .before .before .before .before .before .before .before .loop-test .taken in
     let narrow = located-narrow (a .args .sheet .now) (a .args .offsets .now) (inv .lent .located) _ (child-low inv more) in
-    edge-low inv more (a .pre .1 .1 .1 .0) narrow
+    edge-low inv more (a .pre .1 .1 .1 .linked (byte-owes (a .args .owed .now) (a .args .i) (l .before .before .before .if1 .left))) narrow
 
 wide-requires-2 : tie.Need-wide-requires-2 Inv-loop μ-loop
 wide-requires-2 c κs = search needs
@@ -91,7 +94,7 @@ loop-less c =
     let inv = l .loop .inv in
     let more = c .before .before .before .before .before .before .before .before .before .before .before .before .loop-test .taken in
     let narrow = located-narrow (a .args .sheet .now) (a .args .offsets .now) (inv .lent .located) _ (child-low inv more) in
-    telling-less inv more (a .pre .1 .1 .1 .0) narrow _ (c .wide2 .ensures)
+    telling-less inv more (a .pre .1 .1 .1 .linked (byte-owes (a .args .owed .now) (a .args .i) (l .before .before .before .if1 .left))) narrow _ (c .wide2 .ensures)
 
 loop-again : tie.Need-loop-again Inv-loop μ-loop
 unfolding maxParents
@@ -102,7 +105,7 @@ loop-again c =
     let more = c .before .before .before .before .before .before .before .before .before .before .before .before .loop-test .taken in
     let narrow = located-narrow (a .args .sheet .now) (a .args .offsets .now) (inv .lent .located) _ (child-low inv more) in
     let told = c .before .before .before .before .before .before .before .tell-child in
-    telling-next inv more (a .pre .1 .1 .1 .0) narrow _ _ _ (told .kept .1 .1 .0) (told .kept .1 .1 .1 .0) (told .kept .1 .1 .1 .1 .0) (told .ensures) _ (c .wide2 .ensures)
+    telling-next inv more (a .pre .1 .1 .1 .linked (byte-owes (a .args .owed .now) (a .args .i) (l .before .before .before .if1 .left))) narrow _ _ _ (told .kept .1 .1 .0) (told .kept .1 .1 .1 .0) (told .kept .1 .1 .1 .1 .0) (told .ensures) _ (c .wide2 .ensures)
 
 same-length : tie.Need-same-length Inv-loop μ-loop
 same-length c = c .before .loop .inv .t-length
