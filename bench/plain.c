@@ -42,6 +42,7 @@ struct desk {
     const struct layout *layout;
     uint8_t *table;
     bool forgot; /* a stored figure that was not owed */
+    bool listed; /* the children */
     uint32_t pass;
     uint32_t seen_in[ROZHINAL_MAX_ITEMS];
     struct value seen[ROZHINAL_MAX_ITEMS];
@@ -435,7 +436,7 @@ static void write_owed(const uint8_t *sheet, const struct layout *layout, uint8_
     }
 }
 
-/* After a figure was stored that is not owed: its parents are and, through unstored ones, theirs. */
+/* After a figure was stored that is not owed: its parents are, and through unstored ones theirs. */
 static void raise_owed(const uint8_t *sheet, const struct layout *layout, uint8_t *table, size_t i)
 {
     const uint8_t *field = sheet + layout->offset[i];
@@ -491,6 +492,7 @@ static void sit_down(struct desk *desk, const uint8_t *sheet, const struct layou
     desk->layout = layout;
     desk->table = table;
     desk->forgot = false;
+    desk->listed = false;
     desk->pass = 1;
     memset(desk->seen_in, 0, layout->count * sizeof desk->seen_in[0]);
 }
@@ -600,30 +602,35 @@ static void tell_child(struct desk *desk, size_t i)
     }
 }
 
-/* Steps a marked item, in a pass of its own. */
+/* Tells the children, which are listed when the first item is met that has any to be told. */
+static void tell(struct desk *desk, size_t i)
+{
+    if (!desk->listed)
+        list_children(desk);
+    desk->listed = true;
+    for (uint16_t link = desk->first_link[i]; link != NO_LINK; link = desk->next_link[link])
+        tell_child(desk, desk->child[link]);
+}
+
+/* Steps a marked item, in a pass of its own. Of one that is not owed no child is to be told. */
 static void step(struct desk *desk, size_t i)
 {
-    uint8_t *mark = record_of(desk->table, i) + MARK_AT;
+    uint8_t *record = record_of(desk->table, i);
     desk->pass++;
-    if (*mark == ROZHINAL_MARK_REFRESH) {
+    if (record[MARK_AT] == ROZHINAL_MARK_REFRESH) {
         renew(desk, i);
         return;
     }
-    for (uint16_t link = desk->first_link[i]; link != NO_LINK; link = desk->next_link[link])
-        tell_child(desk, desk->child[link]);
-    *mark = ROZHINAL_MARK_NONE;
+    if (record[OWED_AT])
+        tell(desk, i);
+    record[MARK_AT] = ROZHINAL_MARK_NONE;
 }
 
 /* A step marks only the item itself or higher ones, so one sweep finds every mark. */
 static void catch_up(struct desk *desk)
 {
-    bool listed = false;
     for (size_t i = 0; i < desk->layout->count; i++) {
         const uint8_t *mark = record_of(desk->table, i) + MARK_AT;
-        if (*mark != ROZHINAL_MARK_NONE && !listed) {
-            list_children(desk);
-            listed = true;
-        }
         while (*mark != ROZHINAL_MARK_NONE)
             step(desk, i);
     }
@@ -754,13 +761,10 @@ rozhinal_answer plain_step(const uint8_t *sheet, size_t sheet_len,
         return answer;
     if (item >= layout.count)
         return refuse(ROZHINAL_REFUSED_ITEM, 0);
-    uint8_t mark = record_of(table, (size_t)item)[MARK_AT];
-    if (mark == ROZHINAL_MARK_NONE)
+    if (record_of(table, (size_t)item)[MARK_AT] == ROZHINAL_MARK_NONE)
         return refuse(ROZHINAL_REFUSED_UNMARKED, 0);
     struct desk desk;
     sit_down(&desk, sheet, &layout, table);
-    if (mark == ROZHINAL_MARK_NOTICE)
-        list_children(&desk);
     step(&desk, (size_t)item);
     stand_up(&desk);
     return accepted;
