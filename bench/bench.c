@@ -528,7 +528,7 @@ int main(void)
     count_chain();
     count_fan();
     count_unstored_fan(800);
-    count_unstored_fan(100);
+    count_unstored_fan(400);
     count_shares();
     count_printer();
     return 0;
