@@ -15,7 +15,9 @@ pub fn run_fixed_owed(c: &mut Comparison) -> Result<(), String> {
     every_pattern(c)?;
     order_of_tests(c)?;
     openings(c)?;
-    lists(c)?;
+    two_children(c)?;
+    forgetting(c)?;
+    looking_up(c)?;
     fan(c)?;
     chain(c)
 }
@@ -30,8 +32,7 @@ fn lengths(c: &mut Comparison) -> Result<(), String> {
     for (sheet, n) in [(write_sheet(&[entry()]), 1), (EXAMPLE.to_vec(), 5), (most, MAX_ITEMS)] {
         let (lent, number) = opened(c, sheet, n, true)?;
         expect("an opening", number, 0)?;
-        let one = Act::Board(Board { items: vec![0, 0], results: vec![0; 9] });
-        let calls = [Act::Give(post(0, 5)), Act::Give(Call::Ask { item: 0 }), one, Act::Close];
+        let calls = [posted(0, 5), ask(0), board(0), Act::Close];
         let openings = [Act::Open { full: false }, Act::Open { full: true }];
         for length in [10 * n, 11 * n - 1, 11 * n, 11 * n + 1, 12 * n] {
             for act in calls.iter().chain(&openings) {
@@ -100,7 +101,7 @@ fn order_of_tests(c: &mut Comparison) -> Result<(), String> {
     lent.table[OWED] = 0;
     let given = |c: &mut Comparison, lent: &Lent, right| -> Result<(), String> {
         let beyond = Act::Board(Board { items: vec![9, 0], results: vec![] });
-        for act in [Act::Give(Call::Step { item: 9 }), Act::Close, beyond] {
+        for act in [step(9), Act::Close, beyond] {
             expect("a false owed byte", c.act(&act, &mut lent.clone())?.number, right)?;
         }
         Ok(())
@@ -140,8 +141,9 @@ fn shown(lent: &Lent, owed: &str, marks: &str) -> Result<(), String> {
 /// A call of a list, with the owed bytes and the marks that it leaves.
 type Shown = (Act, &'static str, &'static str);
 
-fn list(c: &mut Comparison, specs: &[Spec], full: bool, calls: &[Shown]) -> Result<(), String> {
-    let (mut lent, _) = opened(c, write_sheet(specs), specs.len(), full)?;
+/// A list from a bare opening.
+fn list(c: &mut Comparison, specs: &[Spec], calls: &[Shown]) -> Result<(), String> {
+    let (mut lent, _) = opened(c, write_sheet(specs), specs.len(), false)?;
     for (act, owed, marks) in calls {
         expect("a call of a list", c.act(act, &mut lent)?.number, 0)?;
         shown(&lent, owed, marks).map_err(|e| format!("after {act:?}: {e}\n{calls:?}"))?;
@@ -149,98 +151,113 @@ fn list(c: &mut Comparison, specs: &[Spec], full: bool, calls: &[Shown]) -> Resu
     Ok(())
 }
 
-fn lists(c: &mut Comparison) -> Result<(), String> {
-    let post = |item, number| Act::Give(post(item, number));
-    let (keep, drop) =
-        (|item| Act::Give(Call::Keep { item }), |item| Act::Give(Call::Drop { item }));
-    let (step, ask) = (|item| Act::Give(Call::Step { item }), |item| Act::Give(Call::Ask { item }));
-    let board = |item| Act::Board(Board { items: vec![item, 0], results: vec![0; 9] });
-    let sum = |keep, spread, parents: &[u16]| spec_figure(1, keep, spread, parents);
-    // Two children of one parent, which lists it again and again.
-    let twice = [entry(), sum(0, 0, &[0; 16]), sum(0, 0, &[0, 0, 1])];
-    list(
-        c,
-        &twice,
-        false,
-        &[
-            (keep(2), "110", "---"),
-            (keep(1), "110", "---"),
-            (drop(2), "100", "---"),
-            (drop(1), "000", "---"),
-            (keep(1), "100", "---"),
-            (post(0, 4), "100", "n--"),
-            (step(0), "100", "-r-"),
-            (drop(1), "000", "-n-"),
-            (post(0, 5), "000", "nn-"),
-            (step(0), "000", "-n-"),
-            (step(1), "000", "---"),
-            (Act::Close, "110", "---"),
-            (drop(1), "110", "---"),
-            (post(0, 6), "110", "n--"),
-            (step(0), "110", "-nr"),
-        ],
-    )?;
-    // A forgetting figure, with nothing above it and with a stored figure above it.
-    let forgets = [entry(), entry(), sum(0, 0, &[1]), sum(0, 2, &[0, 2]), sum(0, 0, &[3])];
-    list(
-        c,
-        &forgets,
-        false,
-        &[
-            (keep(3), "11100", "-----"),
-            (post(0, 4), "11100", "n----"),
-            (post(1, 5), "11100", "nn---"),
-            (step(0), "00000", "-n-n-"),
-            (step(1), "00000", "---n-"),
-            (ask(0), "00000", "-----"),
-            (keep(3), "11100", "-----"),
-            (keep(4), "11110", "-----"),
-            (post(0, 6), "11110", "n----"),
-            (step(0), "11110", "---n-"),
-            (step(3), "11110", "----r"),
-            (ask(4), "11110", "-----"),
-            (drop(4), "00000", "-----"),
-        ],
-    )?;
-    // Look-ups keep figures with keep 1 on their way.
-    let kept = [entry(), sum(1, 0, &[0]), sum(0, 0, &[1]), sum(1, 1, &[2]), sum(0, 0, &[3])];
-    list(
-        c,
-        &kept,
-        false,
-        &[
-            (post(0, 4), "00000", "n----"),
-            (step(0), "00000", "-----"),
-            (ask(2), "10000", "-----"),
-            (board(4), "11100", "-----"),
-            (drop(1), "11100", "-----"),
-            (post(0, 5), "11100", "n----"),
-            (step(0), "11100", "-n---"),
-            (step(1), "11100", "--n--"),
-            (step(2), "11100", "---n-"),
-            (step(3), "11100", "-----"),
-            (drop(3), "10000", "-----"),
-            (board(1), "10000", "-----"),
-        ],
-    )
+fn posted(item: u64, number: i64) -> Act {
+    Act::Give(post(item, number))
+}
+
+fn keep(item: u64) -> Act {
+    Act::Give(Call::Keep { item })
+}
+
+fn drop(item: u64) -> Act {
+    Act::Give(Call::Drop { item })
+}
+
+fn step(item: u64) -> Act {
+    Act::Give(Call::Step { item })
+}
+
+fn ask(item: u64) -> Act {
+    Act::Give(Call::Ask { item })
+}
+
+fn board(item: u8) -> Act {
+    Act::Board(Board { items: vec![item, 0], results: vec![0; 9] })
+}
+
+fn sum(keep: u8, spread: u8, parents: &[u16]) -> Spec {
+    spec_figure(1, keep, spread, parents)
+}
+
+/// Two children of one entry, which they list again and again.
+fn two_children(c: &mut Comparison) -> Result<(), String> {
+    let calls = [
+        (keep(2), "110", "---"),
+        (keep(1), "110", "---"),
+        (drop(2), "100", "---"),
+        (drop(1), "000", "---"),
+        (keep(1), "100", "---"),
+        (posted(0, 4), "100", "n--"),
+        (step(0), "100", "-r-"),
+        (drop(1), "000", "-n-"),
+        (posted(0, 5), "000", "nn-"),
+        (step(0), "000", "-n-"),
+        (step(1), "000", "---"),
+        (Act::Close, "110", "---"),
+        (drop(1), "110", "---"),
+        (posted(0, 6), "110", "n--"),
+        (step(0), "110", "-nr"),
+    ];
+    list(c, &[entry(), sum(0, 0, &[0; 16]), sum(0, 0, &[0, 0, 1])], &calls)
+}
+
+/// A figure that forgets, with nothing stored above it, and with a stored figure.
+fn forgetting(c: &mut Comparison) -> Result<(), String> {
+    let calls = [
+        (keep(3), "11100", "-----"),
+        (posted(0, 4), "11100", "n----"),
+        (posted(1, 5), "11100", "nn---"),
+        (step(0), "00000", "-n-n-"),
+        (step(1), "00000", "---n-"),
+        (ask(0), "00000", "-----"),
+        (keep(3), "11100", "-----"),
+        (keep(4), "11110", "-----"),
+        (posted(0, 6), "11110", "n----"),
+        (step(0), "11110", "---n-"),
+        (step(3), "11110", "----r"),
+        (ask(4), "11110", "-----"),
+        (drop(4), "00000", "-----"),
+    ];
+    let specs = [entry(), entry(), sum(0, 0, &[1]), sum(0, 2, &[0, 2]), sum(0, 0, &[3])];
+    list(c, &specs, &calls)
+}
+
+/// Look-ups keep figures with keep 1 on their way.
+fn looking_up(c: &mut Comparison) -> Result<(), String> {
+    let calls = [
+        (posted(0, 4), "00000", "n----"),
+        (step(0), "00000", "-----"),
+        (ask(2), "10000", "-----"),
+        (board(4), "11100", "-----"),
+        (drop(1), "11100", "-----"),
+        (posted(0, 5), "11100", "n----"),
+        (step(0), "11100", "-n---"),
+        (step(1), "11100", "--n--"),
+        (step(2), "11100", "---n-"),
+        (step(3), "11100", "-----"),
+        (drop(3), "10000", "-----"),
+        (board(1), "10000", "-----"),
+    ];
+    let specs = [entry(), sum(1, 0, &[0]), sum(0, 0, &[1]), sum(1, 1, &[2]), sum(0, 0, &[3])];
+    list(c, &specs, &calls)
 }
 
 /// 800 children of an entry that are UNK and have none themselves: none is told. Then one of them
 /// has a stored child, and is told alone.
 fn fan(c: &mut Comparison) -> Result<(), String> {
-    let figures = |count: u16| (0..count).map(|_| spec_figure(1, 0, 0, &[0]));
-    let mut specs: Vec<Spec> = [entry()].into_iter().chain(figures(800)).collect();
-    specs.push(spec_figure(1, 0, 0, &[400]));
+    let mut specs = vec![entry()];
+    specs.extend((0..800).map(|_| sum(0, 0, &[0])));
+    specs.push(sum(0, 0, &[400]));
     let (mut lent, _) = opened(c, write_sheet(&specs), specs.len(), false)?;
     for (number, notices) in [(4, 0), (5, 1)] {
-        c.act(&Act::Give(post(0, number)), &mut lent)?;
-        c.act(&Act::Give(Call::Step { item: 0 }), &mut lent)?;
+        c.act(&posted(0, number), &mut lent)?;
+        c.act(&step(0), &mut lent)?;
         let marks: Vec<usize> = (0..802).filter(|i| lent.table[RECORD * i + 1] != 0).collect();
         if marks != [400][..notices] {
             return Err(format!("marked after a step: {marks:?}"));
         }
         reads(c, &mut lent, 801, Some(number))?;
-        c.act(&Act::Give(Call::Keep { item: 801 }), &mut lent)?;
+        c.act(&keep(801), &mut lent)?;
     }
     Ok(())
 }
@@ -252,17 +269,17 @@ fn chain(c: &mut Comparison) -> Result<(), String> {
     let (owed, none) = ("1".repeat(MAX_LEVEL) + "0", "0".repeat(MAX_LEVEL + 1));
     let quiet = "-".repeat(MAX_LEVEL + 1);
     for number in [4, 5] {
-        c.act(&Act::Give(Call::Keep { item: top }), &mut lent)?;
+        c.act(&keep(top), &mut lent)?;
         shown(&lent, &owed, &quiet)?;
-        c.act(&Act::Give(post(0, number)), &mut lent)?;
+        c.act(&posted(0, number), &mut lent)?;
         for item in 0..top {
-            c.act(&Act::Give(Call::Step { item }), &mut lent)?;
+            c.act(&step(item), &mut lent)?;
             let mut marks = quiet.clone().into_bytes();
             marks[item as usize + 1] = if item + 1 == top { b'r' } else { b'n' };
             shown(&lent, &owed, &String::from_utf8(marks).unwrap())?;
         }
         reads(c, &mut lent, top, Some(number))?;
-        c.act(&Act::Give(Call::Drop { item: top }), &mut lent)?;
+        c.act(&drop(top), &mut lent)?;
         shown(&lent, &none, &quiet)?;
     }
     Ok(())

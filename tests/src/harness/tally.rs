@@ -267,6 +267,20 @@ fn times(met: &[u64]) -> String {
     met.map(|(number, times)| format!(" {number}:{times}")).collect()
 }
 
+impl Tally {
+    fn write_owed(&self, f: &mut fmt::Formatter) -> fmt::Result {
+        let (done, at_fault) = (0..owed::FALSE, owed::FALSE..owed::MET.len());
+        let owed = |part: Range<usize>| named(&owed::MET[part.clone()], &self.owed[part]);
+        writeln!(f, "owed bytes, by what calls do: {}", owed(done))?;
+        writeln!(f, "false owed bytes refused: {}", owed(at_fault))?;
+        writeln!(
+            f,
+            "lists held against the telling of before: {} ({} values read; other marks in {} tables, at {} steps)",
+            self.before_lists, self.before_readings, self.before_tables, self.before_steps
+        )
+    }
+}
+
 impl fmt::Display for Tally {
     fn fmt(&self, f: &mut fmt::Formatter) -> fmt::Result {
         writeln!(f, "calls compared: {}", self.calls())?;
@@ -287,15 +301,7 @@ impl fmt::Display for Tally {
             self.closes_as_asks, self.closes_as_keeps
         )?;
         writeln!(f, "tables of no opening closed, and gone on with: {}", self.closed_tables)?;
-        let (done, at_fault) = (0..owed::FALSE, owed::FALSE..owed::MET.len());
-        let owed = |part: Range<usize>| named(&owed::MET[part.clone()], &self.owed[part]);
-        writeln!(f, "owed bytes, by what calls do: {}", owed(done))?;
-        writeln!(f, "false owed bytes refused: {}", owed(at_fault))?;
-        writeln!(
-            f,
-            "lists held against the telling of before: {} ({} values read, {} tables and {} steps with other marks)",
-            self.before_lists, self.before_readings, self.before_tables, self.before_steps
-        )?;
+        self.write_owed(f)?;
         writeln!(
             f,
             "lists: {} ({} from a table of no opening); pairs of offices: {}",

@@ -85,6 +85,12 @@ pub(super) fn item_of(items: &[Item], item: u64) -> Result<usize, Fault> {
     Ok(item as usize)
 }
 
+/// A figure, or refusals 11 and 12.
+fn figure_of(items: &[Item], item: u64) -> Result<usize, Fault> {
+    let i = item_of(items, item)?;
+    items[i].figure.as_ref().map(|_| i).ok_or(cause(12))
+}
+
 /// The value that a post gives, or refusal 13.
 fn posted(kind: u64, number: i64) -> Result<Value, Fault> {
     match from_pair(kind, number) {
@@ -141,20 +147,8 @@ pub(super) fn perform(
             }
             machine.post(i, posted(kind, number)?);
         }
-        Call::Keep { item } => {
-            let i = item_of(items, item)?;
-            if items[i].figure.is_none() {
-                return Err(cause(12));
-            }
-            machine.keep(i);
-        }
-        Call::Drop { item } => {
-            let i = item_of(items, item)?;
-            if items[i].figure.is_none() {
-                return Err(cause(12));
-            }
-            machine.drop(i);
-        }
+        Call::Keep { item } => machine.keep(figure_of(items, item)?),
+        Call::Drop { item } => machine.drop(figure_of(items, item)?),
         Call::Step { item } => {
             let i = item_of(items, item)?;
             if machine.cells[i].mark == Mark::None {
