@@ -34,9 +34,9 @@
  *
  * Stack: looking up goes from a figure to its parents, so the depth is bounded by the levels of a
  * sheet (at most ROZHINAL_MAX_LEVEL), and each call has scratch space for ROZHINAL_MAX_ITEMS items.
- * On sheets of 64 levels an ask was measured at 101,200 bytes, a board at 101,168, a step at
- * 100,624, a keep at 65,584, a close at 9,672 and a post at 9,512; ROZHINAL_STACK_BYTES is enough
- * for every call.
+ * On sheets of 64 levels an ask and a board were measured at 102,288 bytes, a step at 101,712, a
+ * keep at 65,584, a close at 11,592, a drop at 11,544 and a post at 10,536; ROZHINAL_STACK_BYTES is
+ * enough for every call.
  */
 #ifndef ROZHINAL_H
 #define ROZHINAL_H
