@@ -443,10 +443,21 @@ static void count_chain(void)
 
 static void count_fan(void)
 {
-    make_fan(&sheet, 800);
+    make_fan(&sheet, 800, 1);
     settle(OPEN_FULL);
     prepare(post_of(0, POSTED));
     count("ask, an entry with 800 children", call_of(ASK, sheet.top));
+}
+
+/* An entry of which no child is stored, nor owed. */
+static void count_unstored_fan(size_t figures)
+{
+    make_fan(&sheet, figures, 0);
+    settle(OPEN_BARE);
+    prepare(post_of(0, POSTED));
+    count("step of an entry, no child owed", call_of(STEP, 0));
+    prepare(post_of(0, POSTED + 1));
+    count("ask after one post, no child owed", call_of(ASK, sheet.top));
 }
 
 /* Every share is worked out anew. */
@@ -516,6 +527,8 @@ int main(void)
         count_keeps(&states[k], MOST_GROUPS);
     count_chain();
     count_fan();
+    count_unstored_fan(800);
+    count_unstored_fan(400);
     count_shares();
     count_printer();
     return 0;

@@ -11,7 +11,7 @@ enum { FIELD_HEADER = 3, HEAD_LENGTH = 4, FIRST_NAME_BYTE = 33, LAST_NAME_BYTE =
 
 /* where the parts of a figure stand in its field, and of a record in the table */
 enum { RULE_AT = 3, KEEP_AT = 4, SPREAD_AT = 5, PARENT_COUNT_AT = 6, PARENTS_AT = 7 };
-enum { KIND_AT = 0, MARK_AT = 1, NUMBER_AT = 2 };
+enum { KIND_AT = 0, MARK_AT = 1, NUMBER_AT = 2, OWED_AT = 10 };
 
 enum { MOST_LINKS = ROZHINAL_MAX_ITEMS * ROZHINAL_MAX_PARENTS, NO_LINK = 0xFFFF };
 
@@ -31,11 +31,18 @@ struct value {
 /*
  * The work of a call. A figure that is looked up and not stored is remembered until the next pass.
  * The children of an item are a list of links, the lowest first.
+ *
+ * What is stored makes its parents owed at once. What is forgotten leaves them owed until the call
+ * ends. A step tells only items above those it has changed, so that their owed bytes are right. In
+ * catching up an item may be told that is owed no longer: nothing stored leans on it, so its notice
+ * flags nothing, and is cleared in the same sweep.
  */
 struct desk {
     const uint8_t *sheet;
     const struct layout *layout;
     uint8_t *table;
+    bool forgot; /* a stored figure that was not owed */
+    bool listed; /* the children */
     uint32_t pass;
     uint32_t seen_in[ROZHINAL_MAX_ITEMS];
     struct value seen[ROZHINAL_MAX_ITEMS];
@@ -348,6 +355,7 @@ static struct value stored(const uint8_t *record)
                            record[MARK_AT] == ROZHINAL_MARK_NOTICE };
 }
 
+/* Writes all but the owed byte. */
 static void store(uint8_t *record, struct value value, uint8_t mark)
 {
     record[KIND_AT] = value.kind;
@@ -393,12 +401,54 @@ static bool is_figure(const uint8_t *sheet, const struct layout *layout, size_t 
     return sheet[layout->offset[i]] == ROZHINAL_TAG_FIGURE;
 }
 
+/* Makes the parents of a figure owed that is stored, or is owed itself. */
+static void owe_parents(const uint8_t *field, uint8_t *owed, size_t width)
+{
+    for (size_t k = 0; k < field[PARENT_COUNT_AT]; k++)
+        owed[width * get_u16(field + PARENTS_AT + 2 * k)] = 1;
+}
+
+/* The children of an item stand above it: with the highest item first each owed byte is known. */
 static bool table_allowed(const uint8_t *sheet, const struct layout *layout, uint8_t *table)
 {
-    for (size_t i = 0; i < layout->count; i++)
-        if (!record_allowed(record_of(table, i), is_figure(sheet, layout, i)))
+    uint8_t owed[ROZHINAL_MAX_ITEMS];
+    memset(owed, 0, layout->count);
+    for (size_t i = layout->count; i-- > 0;) {
+        const uint8_t *field = sheet + layout->offset[i], *record = record_of(table, i);
+        bool figure = field[0] == ROZHINAL_TAG_FIGURE;
+        if (record[OWED_AT] != owed[i] || !record_allowed(record, figure))
             return false;
+        if (figure && (record[KIND_AT] != ROZHINAL_UNK || owed[i]))
+            owe_parents(field, owed, 1);
+    }
     return true;
+}
+
+/* Writes the owed bytes anew. */
+static void write_owed(const uint8_t *sheet, const struct layout *layout, uint8_t *table)
+{
+    for (size_t i = 0; i < layout->count; i++)
+        record_of(table, i)[OWED_AT] = 0;
+    for (size_t i = layout->count; i-- > 0;) {
+        const uint8_t *field = sheet + layout->offset[i], *record = record_of(table, i);
+        if (field[0] == ROZHINAL_TAG_FIGURE && (record[KIND_AT] != ROZHINAL_UNK || record[OWED_AT]))
+            owe_parents(field, table + OWED_AT, ROZHINAL_RECORD_BYTES);
+    }
+}
+
+/* After a figure was stored that is not owed: its parents are, and through unstored ones theirs. */
+static void raise_owed(const uint8_t *sheet, const struct layout *layout, uint8_t *table, size_t i)
+{
+    const uint8_t *field = sheet + layout->offset[i];
+    for (size_t k = 0; k < field[PARENT_COUNT_AT]; k++) {
+        size_t parent = get_u16(field + PARENTS_AT + 2 * k);
+        uint8_t *record = record_of(table, parent);
+        if (record[OWED_AT])
+            continue;
+        record[OWED_AT] = 1;
+        if (record[KIND_AT] == ROZHINAL_UNK)
+            raise_owed(sheet, layout, table, parent);
+    }
 }
 
 /* The tests of 1 to 8. */
@@ -441,8 +491,26 @@ static void sit_down(struct desk *desk, const uint8_t *sheet, const struct layou
     desk->sheet = sheet;
     desk->layout = layout;
     desk->table = table;
+    desk->forgot = false;
+    desk->listed = false;
     desk->pass = 1;
     memset(desk->seen_in, 0, layout->count * sizeof desk->seen_in[0]);
+}
+
+/* At the end of a call. */
+static void stand_up(const struct desk *desk)
+{
+    if (desk->forgot)
+        write_owed(desk->sheet, desk->layout, desk->table);
+}
+
+/* Stores an unstored figure that was looked up. */
+static void keep_seen(struct desk *desk, size_t i, struct value value)
+{
+    uint8_t *record = record_of(desk->table, i);
+    store_seen(record, value);
+    if (!record[OWED_AT])
+        raise_owed(desk->sheet, desk->layout, desk->table, i);
 }
 
 static struct value look_up(struct desk *desk, size_t i);
@@ -472,7 +540,7 @@ static struct value look_up(struct desk *desk, size_t i)
     struct value value = work_out(desk, i);
     value.flag |= record[MARK_AT] == ROZHINAL_MARK_NOTICE;
     if (field_of(desk, i)[KEEP_AT]) {
-        store_seen(record, value);
+        keep_seen(desk, i, value);
     } else {
         desk->seen_in[i] = desk->pass;
         desk->seen[i] = value;
@@ -518,39 +586,51 @@ static void renew(struct desk *desk, size_t i)
 static void tell_child(struct desk *desk, size_t i)
 {
     uint8_t *record = record_of(desk->table, i);
+    if (record[KIND_AT] == ROZHINAL_UNK) {
+        if (record[OWED_AT])
+            record[MARK_AT] = ROZHINAL_MARK_NOTICE;
+        return;
+    }
     uint8_t spread = field_of(desk, i)[SPREAD_AT];
-    if (record[KIND_AT] == ROZHINAL_UNK || spread == ROZHINAL_FORGET)
+    if (spread == ROZHINAL_FORGET) {
         forget(record, ROZHINAL_MARK_NOTICE);
-    else if (spread == ROZHINAL_DEFER && record[MARK_AT] != ROZHINAL_MARK_NOTICE)
+        desk->forgot |= !record[OWED_AT];
+    } else if (spread == ROZHINAL_DEFER && record[MARK_AT] != ROZHINAL_MARK_NOTICE) {
         record[MARK_AT] = ROZHINAL_MARK_REFRESH;
-    else
+    } else {
         renew(desk, i);
+    }
 }
 
-/* Steps a marked item, in a pass of its own. */
+/* Tells the children, which are listed when the first item is met that has any to be told. */
+static void tell(struct desk *desk, size_t i)
+{
+    if (!desk->listed)
+        list_children(desk);
+    desk->listed = true;
+    for (uint16_t link = desk->first_link[i]; link != NO_LINK; link = desk->next_link[link])
+        tell_child(desk, desk->child[link]);
+}
+
+/* Steps a marked item, in a pass of its own. Of one that is not owed no child is to be told. */
 static void step(struct desk *desk, size_t i)
 {
-    uint8_t *mark = record_of(desk->table, i) + MARK_AT;
+    uint8_t *record = record_of(desk->table, i);
     desk->pass++;
-    if (*mark == ROZHINAL_MARK_REFRESH) {
+    if (record[MARK_AT] == ROZHINAL_MARK_REFRESH) {
         renew(desk, i);
         return;
     }
-    for (uint16_t link = desk->first_link[i]; link != NO_LINK; link = desk->next_link[link])
-        tell_child(desk, desk->child[link]);
-    *mark = ROZHINAL_MARK_NONE;
+    if (record[OWED_AT])
+        tell(desk, i);
+    record[MARK_AT] = ROZHINAL_MARK_NONE;
 }
 
 /* A step marks only the item itself or higher ones, so one sweep finds every mark. */
 static void catch_up(struct desk *desk)
 {
-    bool listed = false;
     for (size_t i = 0; i < desk->layout->count; i++) {
         const uint8_t *mark = record_of(desk->table, i) + MARK_AT;
-        if (*mark != ROZHINAL_MARK_NONE && !listed) {
-            list_children(desk);
-            listed = true;
-        }
         while (*mark != ROZHINAL_MARK_NONE)
             step(desk, i);
     }
@@ -567,11 +647,17 @@ static rozhinal_answer open_by(const uint8_t *sheet, size_t sheet_len, uint8_t *
     if (answer.number != 0)
         return answer;
     for (size_t i = 0; i < layout.count; i++) {
+        const uint8_t *field = sheet + layout.offset[i];
+        bool figure = field[0] == ROZHINAL_TAG_FIGURE;
+        uint8_t *record = record_of(table, i);
         put_u32(index + ROZHINAL_OFFSET_BYTES * i, layout.offset[i]);
-        if (full || !is_figure(sheet, &layout, i))
-            store(record_of(table, i), null_value, ROZHINAL_MARK_NONE);
+        record[OWED_AT] = 0;
+        if (full || !figure)
+            store(record, null_value, ROZHINAL_MARK_NONE);
         else
-            forget(record_of(table, i), ROZHINAL_MARK_NONE);
+            forget(record, ROZHINAL_MARK_NONE);
+        if (full && figure)
+            owe_parents(field, table + OWED_AT, ROZHINAL_RECORD_BYTES);
     }
     return accepted;
 }
@@ -633,7 +719,9 @@ rozhinal_answer plain_keep(const uint8_t *sheet, size_t sheet_len,
     if (record[KIND_AT] == ROZHINAL_UNK) {
         struct desk desk;
         sit_down(&desk, sheet, &layout, table);
-        store_seen(record, look_up(&desk, (size_t)item));
+        struct value value = look_up(&desk, (size_t)item);
+        if (record[KIND_AT] == ROZHINAL_UNK)
+            keep_seen(&desk, (size_t)item, value);
     }
     return accepted;
 }
@@ -654,7 +742,10 @@ rozhinal_answer plain_drop(const uint8_t *sheet, size_t sheet_len,
         return refuse(ROZHINAL_REFUSED_SORT, 0);
     uint8_t *record = record_of(table, (size_t)item);
     bool marked = record[MARK_AT] != ROZHINAL_MARK_NONE;
+    bool counted = record[KIND_AT] != ROZHINAL_UNK && !record[OWED_AT];
     forget(record, marked ? ROZHINAL_MARK_NOTICE : ROZHINAL_MARK_NONE);
+    if (counted)
+        write_owed(sheet, &layout, table);
     return accepted;
 }
 
@@ -670,14 +761,12 @@ rozhinal_answer plain_step(const uint8_t *sheet, size_t sheet_len,
         return answer;
     if (item >= layout.count)
         return refuse(ROZHINAL_REFUSED_ITEM, 0);
-    uint8_t mark = record_of(table, (size_t)item)[MARK_AT];
-    if (mark == ROZHINAL_MARK_NONE)
+    if (record_of(table, (size_t)item)[MARK_AT] == ROZHINAL_MARK_NONE)
         return refuse(ROZHINAL_REFUSED_UNMARKED, 0);
     struct desk desk;
     sit_down(&desk, sheet, &layout, table);
-    if (mark == ROZHINAL_MARK_NOTICE)
-        list_children(&desk);
     step(&desk, (size_t)item);
+    stand_up(&desk);
     return accepted;
 }
 
@@ -697,6 +786,7 @@ rozhinal_reading plain_ask(const uint8_t *sheet, size_t sheet_len,
     sit_down(&desk, sheet, &layout, table);
     catch_up(&desk);
     struct value value = look_up(&desk, (size_t)item);
+    stand_up(&desk);
     return (rozhinal_reading){ ROZHINAL_ACCEPTED, 0, value.kind, value.number };
 }
 
@@ -736,16 +826,20 @@ rozhinal_answer plain_board(const uint8_t *sheet, size_t sheet_len,
         result[0] = value.kind;
         put_i64(result + 1, value.number);
     }
+    stand_up(&desk);
     return accepted;
 }
 
-/* A figure from the records of its parents, all of them stored. */
+/* A figure that is to be stored, from the records of its parents; all of them are, and are owed. */
 static struct value work_out_stored(const uint8_t *field, uint8_t *table)
 {
     size_t count = field[PARENT_COUNT_AT];
     struct value parents[ROZHINAL_MAX_PARENTS];
-    for (size_t k = 0; k < count; k++)
-        parents[k] = stored(record_of(table, get_u16(field + PARENTS_AT + 2 * k)));
+    for (size_t k = 0; k < count; k++) {
+        uint8_t *record = record_of(table, get_u16(field + PARENTS_AT + 2 * k));
+        parents[k] = stored(record);
+        record[OWED_AT] = 1;
+    }
     return apply(field[RULE_AT], parents, count);
 }
 

@@ -208,13 +208,15 @@ static void put_entries(struct sheet *sheet, size_t count)
     }
 }
 
-void make_fan(struct sheet *sheet, size_t figures)
+void make_fan(struct sheet *sheet, size_t figures, int keeping)
 {
     struct figure item = { .rule = ROZHINAL_SUM, .level = 1 };
     begin_sheet(sheet, COMMON_ENTRIES + figures);
     put_entries(sheet, COMMON_ENTRIES);
     for (size_t i = 0; i < figures; i++) {
         item.keep = (uint8_t)draw(2);
+        if (!keeping)
+            item.keep = 0;
         item.spread = (uint8_t)draw(3);
         item.parent_count = 1 + draw(4);
         for (size_t k = 1; k < item.parent_count; k++)

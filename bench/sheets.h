@@ -27,8 +27,8 @@ void make_ledger(struct sheet *sheet, size_t groups, int keeping);
 /* One entry, and as many levels above it as a sheet can have: each lists the one below 16 times. */
 void make_chain(struct sheet *sheet);
 
-/* COMMON_ENTRIES entries, and figures that all list the first. */
-void make_fan(struct sheet *sheet, size_t figures);
+/* COMMON_ENTRIES entries, and figures that all list the first, without keeping all with keep 0. */
+void make_fan(struct sheet *sheet, size_t figures, int keeping);
 
 /*
  * RATES + SHARED entries, and shares of the last SHARED by the first RATES. None is forgotten: once

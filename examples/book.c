@@ -17,9 +17,12 @@
 
 enum { MARK_BYTES = 16, LENGTH_BYTES = 4, SUM_BYTES = 8 };
 enum { HEAD_BYTES = MARK_BYTES + 3 * LENGTH_BYTES };
-static const char book_mark[MARK_BYTES + 1] = "rozhinal book 2\n";
-/* Of a book from before version 2.0.0, which has the same form. */
+static const char book_mark[MARK_BYTES + 1] = "rozhinal book 3\n";
+/* Of books from before versions 3.0.0 and 2.0.0. Their records have kind, mark and number alone. */
+static const char former_mark[MARK_BYTES + 1] = "rozhinal book 2\n";
 static const char older_mark[MARK_BYTES + 1] = "rozhinal book 1\n";
+enum { NUMBER_AT = 2, NUMBER_BYTES = 8, FORMER_RECORD_BYTES = NUMBER_AT + NUMBER_BYTES };
+static const struct book_fault no_fault = { 0, BOOK_NO_ITEM };
 
 #define BOOK_MOST                                                                                \
     (HEAD_BYTES + SHEET_MOST + ROZHINAL_INDEX_BYTES(ROZHINAL_MAX_ITEMS)                          \
@@ -89,14 +92,81 @@ static uint64_t refusal_of(const struct book *book, const uint8_t *index, size_t
     return answer.number == ROZHINAL_REFUSED_ITEM ? 0 : answer.number;
 }
 
-static enum book_state load_bytes(struct book *book, uint8_t *bytes, size_t length,
-                                  uint64_t *refusal)
+/* ---- Tables from before version 3.0.0 ---- */
+
+static int64_t former_number(const uint8_t *record)
 {
-    if (length < HEAD_BYTES + SUM_BYTES)
-        return BOOK_DAMAGED;
-    int older = memcmp(bytes, older_mark, MARK_BYTES) == 0;
-    if (!older && memcmp(bytes, book_mark, MARK_BYTES) != 0)
-        return BOOK_DAMAGED;
+    return (int64_t)get_number(record + NUMBER_AT, NUMBER_BYTES);
+}
+
+/* Whether a record has the form that the library asked of it. */
+static bool former_record_fits(const uint8_t *record, bool figure)
+{
+    uint8_t kind = record[0], mark = record[1];
+    int64_t number = former_number(record);
+    if (kind > ROZHINAL_NUMBER || mark > ROZHINAL_MARK_NOTICE)
+        return false;
+    if (kind != ROZHINAL_NUMBER && number != 0)
+        return false;
+    if (number < -ROZHINAL_LIMIT || number > ROZHINAL_LIMIT)
+        return false;
+    if (figure)
+        return kind != ROZHINAL_UNK || mark != ROZHINAL_MARK_REFRESH;
+    return (kind == ROZHINAL_NULL || kind == ROZHINAL_NUMBER) && mark != ROZHINAL_MARK_REFRESH;
+}
+
+/* The fault of index and table, as the library told it; the refusal is 0 if there is none. */
+static struct book_fault former_fault(const struct book *book, const uint8_t *index,
+                                      size_t index_len, const uint8_t *table, size_t table_len)
+{
+    size_t count = rozhinal_item_count(book->sheet, book->sheet_len);
+    if (index_len != book->index_len || table_len != FORMER_RECORD_BYTES * count)
+        return (struct book_fault){ ROZHINAL_REFUSED_SIZES, BOOK_NO_ITEM };
+    if (memcmp(index, book->index, index_len) != 0)
+        return (struct book_fault){ ROZHINAL_REFUSED_INDEX, BOOK_NO_ITEM };
+    for (size_t i = 0; i < count; i++) {
+        bool figure = item_at(book->sheet, book->index, i).figure;
+        if (!former_record_fits(table + FORMER_RECORD_BYTES * i, figure))
+            return (struct book_fault){ ROZHINAL_REFUSED_TABLE, i };
+    }
+    return no_fault;
+}
+
+/* Posts the entries of a table without a fault to the opened one: 0, or a refusal. */
+static uint64_t post_entries(struct book *book, const uint8_t *table)
+{
+    size_t count = rozhinal_item_count(book->sheet, book->sheet_len);
+    for (size_t i = 0; i < count; i++) {
+        const uint8_t *record = table + FORMER_RECORD_BYTES * i;
+        if (item_at(book->sheet, book->index, i).figure)
+            continue;
+        rozhinal_answer answer = rozhinal_post(
+            book->sheet, book->sheet_len, book->index, book->index_len, book->table,
+            book->table_len, i, record[0], former_number(record));
+        if (answer.number != ROZHINAL_ACCEPTED)
+            return answer.number;
+    }
+    return 0;
+}
+
+/* ---- Loading ---- */
+
+/* The state of a whole book with this mark; BOOK_DAMAGED for another mark. */
+static enum book_state state_of(const uint8_t *mark)
+{
+    if (memcmp(mark, book_mark, MARK_BYTES) == 0)
+        return BOOK_LOADED;
+    if (memcmp(mark, former_mark, MARK_BYTES) == 0)
+        return BOOK_FORMER;
+    return memcmp(mark, older_mark, MARK_BYTES) == 0 ? BOOK_OLDER : BOOK_DAMAGED;
+}
+
+static enum book_state load_bytes(struct book *book, uint8_t *bytes, size_t length,
+                                  struct book_fault *fault)
+{
+    enum book_state state = length < HEAD_BYTES + SUM_BYTES ? BOOK_DAMAGED : state_of(bytes);
+    if (state == BOOK_DAMAGED)
+        return state;
     size_t sheet_len = (size_t)get_number(bytes + MARK_BYTES, LENGTH_BYTES);
     size_t index_len = (size_t)get_number(bytes + MARK_BYTES + LENGTH_BYTES, LENGTH_BYTES);
     size_t table_len = (size_t)get_number(bytes + MARK_BYTES + 2 * LENGTH_BYTES, LENGTH_BYTES);
@@ -107,22 +177,29 @@ static enum book_state load_bytes(struct book *book, uint8_t *bytes, size_t leng
     int whole = get_number(table + table_len, SUM_BYTES) == sum_of(bytes, length - SUM_BYTES);
     if (sheet_len != book->sheet_len || memcmp(sheet, book->sheet, sheet_len) != 0)
         return whole ? BOOK_OTHER_SHEET : BOOK_DAMAGED;
-    *refusal = refusal_of(book, index, index_len, table, table_len);
-    if (*refusal != 0 || !whole)
+    if (state == BOOK_LOADED)
+        fault->refusal = refusal_of(book, index, index_len, table, table_len);
+    else
+        *fault = former_fault(book, index, index_len, table, table_len);
+    if (fault->refusal != 0 || !whole)
         return BOOK_DAMAGED;
-    memcpy(book->index, index, book->index_len);
-    memcpy(book->table, table, book->table_len);
-    return older ? BOOK_OLDER : BOOK_LOADED;
+    if (state == BOOK_LOADED) {
+        memcpy(book->index, index, book->index_len);
+        memcpy(book->table, table, book->table_len);
+    } else {
+        fault->refusal = post_entries(book, table);
+    }
+    return fault->refusal == 0 ? state : BOOK_DAMAGED;
 }
 
-enum book_state book_load(struct book *book, uint64_t *refusal)
+enum book_state book_load(struct book *book, struct book_fault *fault)
 {
-    *refusal = 0;
+    *fault = no_fault;
     size_t length = 0;
     uint8_t *bytes = read_file(book->path, BOOK_MOST, &length);
     if (bytes == NULL)
         return errno == ENOENT ? BOOK_ABSENT : errno == EFBIG ? BOOK_DAMAGED : BOOK_UNREADABLE;
-    enum book_state state = load_bytes(book, bytes, length, refusal);
+    enum book_state state = load_bytes(book, bytes, length, fault);
     free(bytes);
     return state;
 }

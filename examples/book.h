@@ -20,6 +20,7 @@ struct book {
 
 enum book_state {
     BOOK_LOADED,
+    BOOK_FORMER,      /* whole, but from before version 3.0.0 */
     BOOK_OLDER,       /* whole, but from before version 2.0.0 */
     BOOK_ABSENT,      /* there is no such file */
     BOOK_OTHER_SHEET, /* whole, but of another sheet */
@@ -33,14 +34,23 @@ enum book_state {
  */
 int book_take(const struct book *book);
 
+/* What is wrong with a damaged book. */
+struct book_fault {
+    uint64_t refusal; /* the library's, 0 if it has none */
+    size_t item;      /* whose record it is, or BOOK_NO_ITEM */
+};
+#define BOOK_NO_ITEM SIZE_MAX
+
 /*
- * Reads index and table from the file. Any state but BOOK_LOADED and BOOK_OLDER leaves both as they
- * were. Where the library refuses what the file holds, *refusal is its number, else 0.
+ * Reads the file into index and table, which have just been opened. Any state but the first three
+ * leaves both as they were; BOOK_DAMAGED has a fault besides.
  *
- * The table of an older book is to be shown, not to be gone on with: its weights are kilograms, and
- * it may hold an OUT from the range of before.
+ * A table from before version 3.0.0 has no owed bytes, and no call takes it. Its entries are posted
+ * to the opened table, lowest first; its figures are as the opening has left them.
+ *
+ * An older book is to be shown, not to be gone on with: its weights are kilograms.
  */
-enum book_state book_load(struct book *book, uint64_t *refusal);
+enum book_state book_load(struct book *book, struct book_fault *fault);
 
 /*
  * Writes the file: 0; -1 and errno if the old file still stands; 1 and errno if the new one stands

@@ -7,6 +7,9 @@
  * run goes on from. Commands come from standard input, one a line; `help` lists them. A command is
  * answered once its change is in the file.
  *
+ * A book from before version 3.0.0 has records without an owed byte: the sheet is opened anew, the
+ * entries of the book are posted again, lowest first, and the book is written in its new form.
+ *
  * Amounts are grams. A book from before version 2.0.0 holds kilograms: it is not gone on with, and
  * no byte of it changes. Its entries are shown, to be posted to a new book in grams. The office
  * cannot do this by itself, since it does not know which entries are weights.
@@ -35,7 +38,7 @@ struct office {
 /* ---- Showing items ---- */
 
 /* The widest value is -ROZHINAL_LIMIT: a sign and 16 digits. */
-enum { VALUE_COLUMNS = 17 };
+enum { VALUE_COLUMNS = 17, OWED_AT = 10 };
 
 /* A value at the right end of so many columns; 0 for just its length. */
 static void print_value(int columns, uint64_t kind, int64_t number)
@@ -67,7 +70,8 @@ static void show_item(const struct office *office, size_t i)
     const char *state = !item.figure ? "entry"
                         : record[0] != ROZHINAL_UNK ? "stored" : "not stored";
     const char *mark = record[1] <= ROZHINAL_MARK_NOTICE ? marks[record[1]] : "?";
-    printf("%4zu  %-16s  %-10s  %-7s  ", i, item.name, state, mark);
+    const char *owed = record[OWED_AT] != 0 ? "owed" : "-";
+    printf("%4zu  %-16s  %-10s  %-7s  %-4s  ", i, item.name, state, mark, owed);
     print_value(0, record[0], number_at(record + 2));
     putchar('\n');
 }
@@ -83,7 +87,7 @@ static void show_value(const struct book *book, size_t i)
 
 static void list_all(const struct office *office)
 {
-    puts("item  name              state       mark     value");
+    puts("item  name              state       mark     owed  value");
     for (size_t i = 0; i < office->count; i++)
         show_item(office, i);
 }
@@ -481,34 +485,64 @@ static void show_older(const struct book *book)
             book->path);
 }
 
+static void show_damage(const struct book *book, const struct book_fault *fault)
+{
+    fprintf(stderr, "office: %s is damaged", book->path);
+    if (fault->item != BOOK_NO_ITEM)
+        fprintf(stderr, ": the record of item %zu breaks its form or range", fault->item);
+    else if (fault->refusal != 0)
+        fprintf(stderr, ", refused with %" PRIu64 ": %s", fault->refusal,
+                refusal_words(fault->refusal));
+    fputc('\n', stderr);
+}
+
+/* Begins the book with the table as it stands, or says why it cannot. */
+static bool begin_book(const struct book *book)
+{
+    int saved = book_save(book);
+    if (saved < 0)
+        fprintf(stderr, "office: %s: %s\n", book->path, strerror(errno));
+    if (saved > 0)
+        warn_of(book);
+    return saved >= 0;
+}
+
+static size_t count_entries(const struct book *book)
+{
+    size_t entries = 0, count = rozhinal_item_count(book->sheet, book->sheet_len);
+    for (size_t i = 0; i < count; i++)
+        entries += !item_at(book->sheet, book->index, i).figure;
+    return entries;
+}
+
 /* Goes on from the book, or begins it with the table that the opening wrote. */
 static bool open_book(struct book *book, bool full)
 {
-    uint64_t refusal;
-    int saved;
-    switch (book_load(book, &refusal)) {
+    struct book_fault fault;
+    const char *opening = full ? "full" : "bare";
+    switch (book_load(book, &fault)) {
     case BOOK_LOADED:
         printf("going on with %s\n", book->path);
+        return true;
+    case BOOK_FORMER:
+        if (!begin_book(book))
+            return false;
+        printf("%s was from before version 3.0.0: opened %s anew, entries posted again: %zu\n",
+               book->path, opening, count_entries(book));
         return true;
     case BOOK_OLDER:
         show_older(book);
         return false;
     case BOOK_ABSENT:
-        saved = book_save(book);
-        if (saved < 0)
-            break;
-        if (saved > 0)
-            warn_of(book);
-        printf("opened %s: %s begins\n", full ? "full" : "bare", book->path);
+        if (!begin_book(book))
+            return false;
+        printf("opened %s: %s begins\n", opening, book->path);
         return true;
     case BOOK_OTHER_SHEET:
         fprintf(stderr, "office: %s belongs to another sheet\n", book->path);
         return false;
     case BOOK_DAMAGED:
-        fprintf(stderr, "office: %s is damaged", book->path);
-        if (refusal != 0)
-            fprintf(stderr, ", refused with %" PRIu64 ": %s", refusal, refusal_words(refusal));
-        fputc('\n', stderr);
+        show_damage(book, &fault);
         return false;
     case BOOK_UNREADABLE:
         break;

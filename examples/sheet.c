@@ -65,7 +65,7 @@ const char *refusal_words(uint64_t number)
         "a level is above 64",
         "the index or the table has the wrong length",
         "the index is not the one of this sheet",
-        "a record of the table breaks its form or range",
+        "a record of the table breaks its form or range, or an owed byte is false",
         "there is no such item",
         "only an entry is posted to, and only a figure is kept or dropped",
         "the posted value is neither null nor a number within the range",

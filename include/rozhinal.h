@@ -1,5 +1,5 @@
 /*
- * Rozhinal 2.1.0: an engine for quota ledgers.
+ * Rozhinal 3.0.0: an engine for quota ledgers.
  *
  * A sheet is a circuit of items. An entry is posted; a figure is worked out from earlier items, its
  * parents, by one of eight rules. The caller lends three slices of bytes to each call:
@@ -26,17 +26,17 @@
  *   - A table that only the engine has written since an opening is always accepted (with its own
  *     sheet and index). A table with bytes from elsewhere may be accepted too, but its readings are
  *     then not promised, until rozhinal_close has worked every figure out anew.
- *   - A table that was opened before version 2.0.0 is accepted too, and the library cannot tell it.
- *     Its weights are kilograms, and it may hold an OUT from the range of before, so its readings
- *     are not promised either. Open anew, and post again in grams.
+ *   - A table from before version 3.0.0 has 10 bytes an item, and is refused with 8. Open the sheet
+ *     anew, and post the entries of the older table: no posting is lost. In a table from before
+ *     2.0.0 weights are kilograms; they are posted in grams.
  *
  * A refused call changes no lent byte. An accepted call never fails halfway.
  *
  * Stack: looking up goes from a figure to its parents, so the depth is bounded by the levels of a
  * sheet (at most ROZHINAL_MAX_LEVEL), and each call has scratch space for ROZHINAL_MAX_ITEMS items.
- * On sheets of 64 levels an ask was measured at 101,200 bytes, a board at 101,168, a step at
- * 100,624, a keep at 65,584, a close at 9,672 and a post at 9,512; ROZHINAL_STACK_BYTES is enough
- * for every call.
+ * On sheets of 64 levels an ask and a board were measured at 102,288 bytes, a step at 101,712, a
+ * keep at 65,584, a close at 11,592, a drop at 11,544 and a post at 10,536; ROZHINAL_STACK_BYTES is
+ * enough for every call.
  */
 #ifndef ROZHINAL_H
 #define ROZHINAL_H
@@ -48,10 +48,10 @@
 extern "C" {
 #endif
 
-#define ROZHINAL_VERSION_MAJOR 2
-#define ROZHINAL_VERSION_MINOR 1
+#define ROZHINAL_VERSION_MAJOR 3
+#define ROZHINAL_VERSION_MINOR 0
 #define ROZHINAL_VERSION_PATCH 0
-#define ROZHINAL_VERSION "2.1.0"
+#define ROZHINAL_VERSION "3.0.0"
 
 /* ---- Limits ---------------------------------------------------------------------------------- */
 
@@ -142,13 +142,18 @@ static inline size_t rozhinal_item_count(const uint8_t *sheet, size_t sheet_len)
  *   byte 0      kind, an enum rozhinal_kind
  *   byte 1      mark, an enum rozhinal_mark
  *   bytes 2-9   number, two's complement, little-endian; 0 unless the kind is ROZHINAL_NUMBER
+ *   byte 10     owed, 1 if some child is stored, or is not stored and itself owed; else 0
  *
  * The kind of an entry is ROZHINAL_NULL or ROZHINAL_NUMBER. Only a stored figure, one whose kind is
  * not ROZHINAL_UNK, can have the mark ROZHINAL_MARK_REFRESH. While any mark is left a stored figure
  * may be out of date: read values by rozhinal_ask or rozhinal_board, not from the table, unless
  * rozhinal_close was the last call.
+ *
+ * The children of an item are the figures that list it as a parent. An item is owed while a stored
+ * figure leans on it, directly or through figures that are not stored; entries have an owed byte
+ * too. Every call keeps the owed bytes true, and refuses a table in which one is false.
  */
-#define ROZHINAL_RECORD_BYTES 10
+#define ROZHINAL_RECORD_BYTES 11
 #define ROZHINAL_TABLE_BYTES(n) ((size_t)ROZHINAL_RECORD_BYTES * (n))
 
 enum rozhinal_kind {
@@ -186,7 +191,8 @@ enum rozhinal_refusal {
     /* faults of index and table */
     ROZHINAL_REFUSED_SIZES = 8,  /* index_len or table_len is not the size for n items */
     ROZHINAL_REFUSED_INDEX = 9,  /* the index is not the one that an opening of the sheet writes */
-    ROZHINAL_REFUSED_TABLE = 10, /* a record, or the value to print, breaks its form or range */
+    ROZHINAL_REFUSED_TABLE = 10, /* a record, or the value to print, breaks its form or range, or an
+                                    owed byte is false */
     /* faults of the arguments */
     ROZHINAL_REFUSED_ITEM = 11,     /* there is no item with this number */
     ROZHINAL_REFUSED_SORT = 12,     /* a post to a figure, or a keep or drop of an entry */
@@ -221,12 +227,12 @@ typedef struct {
  * refuse with 1 to 8. What stood in index and table before counts for nothing.
  */
 
-/* Opens with no figure stored. */
+/* Opens with no figure stored. No item is owed. */
 rozhinal_answer rozhinal_open_bare(const uint8_t *sheet, size_t sheet_len,
                                    uint8_t *index, size_t index_len,
                                    uint8_t *table, size_t table_len);
 
-/* Opens with every figure stored, as NULL. */
+/* Opens with every figure stored, as NULL. Each item that has a child is owed. */
 rozhinal_answer rozhinal_open_full(const uint8_t *sheet, size_t sheet_len,
                                    uint8_t *index, size_t index_len,
                                    uint8_t *table, size_t table_len);
@@ -262,8 +268,9 @@ rozhinal_answer rozhinal_drop(const uint8_t *sheet, size_t sheet_len,
 
 /*
  * Does the work of one mark. Refresh: the figure is worked out anew; the mark is cleared if nothing
- * changed, else it becomes notice. Notice: the children are told, and the mark is cleared. Refuses
- * with 11 and 14 besides.
+ * changed, else it becomes notice. Notice: the children are told, and the mark is cleared. A child
+ * that is not stored is marked notice if it is owed, and passed over if not. Refuses with 11 and 14
+ * besides.
  */
 rozhinal_answer rozhinal_step(const uint8_t *sheet, size_t sheet_len,
                               const uint8_t *index, size_t index_len,
@@ -316,7 +323,8 @@ rozhinal_answer rozhinal_board(const uint8_t *sheet, size_t sheet_len,
 /*
  * Works every figure out anew and stores it. The run goes over the items once, lowest first, and
  * fills the table in place: an entry keeps its value; a figure, stored or not, whatever its keep
- * byte, gets what its rule gives for its parents as they then stand in the table; no mark is left.
+ * byte, gets what its rule gives for its parents as they then stand in the table; no mark is left,
+ * and each item that has a child is owed.
  * On a table that only the engine has written since an opening each record then holds what an ask
  * for the item gives, and may be read from the table until the next post, drop or opening. On any
  * table that is accepted the values are the right ones for the entries that it holds. A second run

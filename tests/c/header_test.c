@@ -14,15 +14,15 @@ _Static_assert(offsetof(rozhinal_reading, offset) == 8, "reading.offset");
 _Static_assert(offsetof(rozhinal_reading, kind) == 16, "reading.kind");
 _Static_assert(offsetof(rozhinal_reading, value) == 24, "reading.value");
 _Static_assert(sizeof(size_t) == 8 && sizeof(void *) == 8, "a slice is two 64-bit words");
-_Static_assert(ROZHINAL_INDEX_BYTES(5) == 20 && ROZHINAL_TABLE_BYTES(5) == 50, "index and table");
+_Static_assert(ROZHINAL_INDEX_BYTES(5) == 20 && ROZHINAL_TABLE_BYTES(5) == 55, "index and table");
 _Static_assert(ROZHINAL_REFUSED_DAY == 16 && ROZHINAL_REFUSED_SIZES == 8, "refusals");
 _Static_assert(ROZHINAL_REFUSED_LISTS == 17 && ROZHINAL_MAX_BOARD == 64, "the board");
 _Static_assert(ROZHINAL_ITEMS_BYTES(64) == 128 && ROZHINAL_RESULTS_BYTES(64) == 576, "its lists");
 _Static_assert(ROZHINAL_LIMIT == INT64_C(1000000000000000) && ROZHINAL_WHOLE == 10000, "the range");
 _Static_assert(ROZHINAL_NUMBER == 3 && ROZHINAL_MARK_NOTICE == 2, "kinds and marks");
 
-enum { ITEMS = 5, INDEX = 4 * ITEMS, TABLE = 10 * ITEMS, SHEET = 46, RULE_OF_3 = 22 };
-enum { RECORD = ROZHINAL_RECORD_BYTES, KEPT = RECORD * 3, NOT_KEPT = RECORD * 4 };
+enum { ITEMS = 5, INDEX = 4 * ITEMS, TABLE = 11 * ITEMS, SHEET = 46, RULE_OF_3 = 22 };
+enum { RECORD = ROZHINAL_RECORD_BYTES, OWED = 10, KEPT = RECORD * 3, NOT_KEPT = RECORD * 4 };
 enum { MOST = ROZHINAL_MAX_BOARD, OVER = MOST + 1, PAIR = 2, RESULT = 9 };
 
 static const uint8_t example[SHEET] = {
@@ -124,7 +124,7 @@ static void the_example(void)
     ask(0);
     ask(4);
     accepted("open full", rozhinal_open_full(LENT));
-    require(now.table[30] == ROZHINAL_NULL, "a figure after a full opening");
+    require(now.table[KEPT] == ROZHINAL_NULL, "a figure after a full opening");
     ask(4);
 }
 
@@ -331,7 +331,8 @@ static void the_board(void)
         list(k, (unsigned)(ITEMS - 1 - k));
     show_board("4, 3, 2, 1, 0", ITEMS);
     require(now.table[1] == ROZHINAL_MARK_NONE, "a mark after a board");
-    require(now.table[30] == ROZHINAL_NUMBER && now.table[40] == ROZHINAL_UNK, "what is kept");
+    require(now.table[KEPT] == ROZHINAL_NUMBER && now.table[NOT_KEPT] == ROZHINAL_UNK,
+            "what is kept");
     accepted("post 0 limit", rozhinal_post(LENT, 0, ROZHINAL_NUMBER, ROZHINAL_LIMIT));
     accepted("post 2 1", rozhinal_post(LENT, 2, ROZHINAL_NUMBER, 1));
     list(1, 0), list(2, 4);
@@ -371,7 +372,7 @@ static void board_refusals(void)
     now.index[4]++;
     before = now;
     refused("65 items, and a changed index", board(PAIR * OVER, RESULT * OVER));
-    refused("65 items, and a table of 49 bytes",
+    refused("65 items, and a table of 54 bytes",
             rozhinal_board(SHEET_SLICE, now.index, INDEX, now.table, TABLE - 1, now.items,
                            PAIR * OVER, now.results, RESULT * OVER));
     now.sheet[11] = 5;
@@ -394,13 +395,14 @@ static void require_held(const uint8_t *table, const char *what)
     now = closed;
 }
 
-/* A close, with the kind, mark and number of each record afterwards. */
+/* A close, with the kind, mark, number and owed byte of each record afterwards. */
 static void show_close(const char *what)
 {
     rozhinal_answer a = rozhinal_close(LENT);
     printf("close %s: %" PRIu64 " %" PRIu64, what, a.number, a.offset);
     for (const uint8_t *record = now.table; record < now.table + TABLE; record += RECORD)
-        printf(", %u %u %" PRId64, (unsigned)record[0], (unsigned)record[1], number_at(record + 2));
+        printf(", %u %u %" PRId64 " %u", (unsigned)record[0], (unsigned)record[1],
+               number_at(record + 2), (unsigned)record[OWED]);
     putchar('\n');
     struct lent closed = now;
     memcpy(now.table, before.table, TABLE);
@@ -461,13 +463,123 @@ static void close_refusals(void)
     now.index[4]++;
     before = now;
     refused("close, a changed index besides", rozhinal_close(LENT));
-    refused("close, a table of 49 bytes besides",
+    refused("close, a table of 54 bytes besides",
             rozhinal_close(SHEET_SLICE, now.index, INDEX, now.table, TABLE - 1));
     refused("close, an index of 21 bytes besides",
             rozhinal_close(SHEET_SLICE, now.index, INDEX + 1, now.table, TABLE));
     now.sheet[11] = 5;
     before = now;
     refused("close, a tag of 5 besides", rozhinal_close(LENT));
+}
+
+/* ---- Owed bytes ---- */
+
+/* The owed byte and the mark of each record after an accepted call. */
+static void owed(const char *call, rozhinal_answer a)
+{
+    printf("%s: %" PRIu64 " %" PRIu64 ", owed", call, a.number, a.offset);
+    for (size_t i = 0; i < ITEMS; i++)
+        printf(" %u", (unsigned)now.table[RECORD * i + OWED]);
+    fputs(", marks", stdout);
+    for (size_t i = 0; i < ITEMS; i++)
+        printf(" %u", (unsigned)now.table[RECORD * i + 1]);
+    putchar('\n');
+    before = now;
+}
+
+static rozhinal_answer answer_of(rozhinal_reading r)
+{
+    return (rozhinal_answer){ r.number, r.offset };
+}
+
+static void the_owed(void)
+{
+    start();
+    owed("open full", rozhinal_open_full(LENT));
+    owed("drop 4", rozhinal_drop(LENT, 4));
+    owed("drop 3", rozhinal_drop(LENT, 3));
+    owed("open bare", rozhinal_open_bare(LENT));
+    owed("post 0 1000", rozhinal_post(LENT, 0, ROZHINAL_NUMBER, 1000));
+    owed("step 0, 3 is not owed", rozhinal_step(LENT, 0));
+    refused("step 3", rozhinal_step(LENT, 3));
+    owed("ask 3, which is kept", answer_of(rozhinal_ask(LENT, 3)));
+    owed("keep 4", rozhinal_keep(LENT, 4));
+    owed("drop 3, which is owed", rozhinal_drop(LENT, 3));
+    owed("post 0 2000", rozhinal_post(LENT, 0, ROZHINAL_NUMBER, 2000));
+    owed("step 0, 3 is owed", rozhinal_step(LENT, 0));
+    owed("step 3", rozhinal_step(LENT, 3));
+    owed("drop 4, marked refresh", rozhinal_drop(LENT, 4));
+    owed("ask 0", answer_of(rozhinal_ask(LENT, 0)));
+    owed("close", rozhinal_close(LENT));
+    start();
+    now.sheet[RULE_OF_3 + 2] = ROZHINAL_FORGET;
+    owed("open full", rozhinal_open_full(LENT));
+    owed("drop 4", rozhinal_drop(LENT, 4));
+    owed("post 2 5", rozhinal_post(LENT, 2, ROZHINAL_NUMBER, 5));
+    owed("step 2, 3 forgets", rozhinal_step(LENT, 2));
+}
+
+/* What every call gives for a table. */
+static void refused_by_all(void)
+{
+    uint64_t numbers[] = {
+        rozhinal_post(LENT, 0, ROZHINAL_NUMBER, 1).number,
+        rozhinal_keep(LENT, 4).number,
+        rozhinal_drop(LENT, 4).number,
+        rozhinal_step(LENT, 0).number,
+        rozhinal_ask(LENT, ITEMS).number,
+        board(PAIR * OVER, RESULT * OVER).number,
+        rozhinal_close(LENT).number,
+    };
+    for (size_t k = 0; k < sizeof numbers / sizeof *numbers; k++)
+        printf(" %" PRIu64, numbers[k]);
+    putchar('\n');
+    require(memcmp(&now, &before, sizeof now) == 0, "a refused call changed a lent byte");
+}
+
+/* Each false byte of an item, then the table is as it was. */
+static void false_owed(const char *what, size_t item)
+{
+    static const uint8_t bytes[] = { 0, 1, 2, 255 };
+    uint8_t *byte = now.table + RECORD * item + OWED, right = *byte;
+    for (size_t k = 0; k < sizeof bytes; k++) {
+        if (bytes[k] == right)
+            continue;
+        *byte = bytes[k];
+        before = now;
+        printf("%s, owed %u for %u:", what, (unsigned)*byte, (unsigned)right);
+        refused_by_all();
+    }
+    *byte = right;
+    before = now;
+}
+
+static void owed_refusals(void)
+{
+    static uint8_t table[12 * ITEMS];
+    static const size_t lengths[] = { 10 * ITEMS, TABLE - 1, TABLE, TABLE + 1, 12 * ITEMS };
+    start();
+    for (size_t k = 0; k < sizeof lengths / sizeof *lengths; k++) {
+        size_t length = lengths[k];
+        printf("a table of %zu bytes: open bare %" PRIu64 ", open full %" PRIu64, length,
+               rozhinal_open_bare(SHEET_SLICE, now.index, INDEX, table, length).number,
+               rozhinal_open_full(SHEET_SLICE, now.index, INDEX, table, length).number);
+        rozhinal_open_bare(SHEET_SLICE, now.index, INDEX, table, TABLE);
+        printf(", ask %" PRIu64 ", close %" PRIu64 "\n",
+               rozhinal_ask(SHEET_SLICE, now.index, INDEX, table, length, 0).number,
+               rozhinal_close(SHEET_SLICE, now.index, INDEX, table, length).number);
+    }
+    accepted("open bare", rozhinal_open_bare(LENT));
+    accepted("post 0 1000", rozhinal_post(LENT, 0, ROZHINAL_NUMBER, 1000));
+    false_owed("an entry", 0);
+    false_owed("an unstored figure", 3);
+    accepted("keep 4", rozhinal_keep(LENT, 4));
+    false_owed("an entry", 0);
+    false_owed("a stored figure", 3);
+    false_owed("a stored figure", 4);
+    accepted("drop 3", rozhinal_drop(LENT, 3));
+    false_owed("an unstored figure", 3);
+    accepted("step 0", rozhinal_step(LENT, 0));
 }
 
 /* A null pointer goes with length 0. */
@@ -478,8 +590,7 @@ static void null_pointers(void)
     refused("no sheet", rozhinal_post(NULL, 0, now.index, INDEX, now.table, TABLE, 0, 1, 0));
     refused("no index", rozhinal_open_bare(SHEET_SLICE, NULL, 0, now.table, TABLE));
     refused("no table", rozhinal_open_bare(SHEET_SLICE, now.index, INDEX, NULL, 0));
-    rozhinal_reading r = rozhinal_ask(SHEET_SLICE, NULL, 0, NULL, 0, 4);
-    refused("no index and no table", (rozhinal_answer){ r.number, r.offset });
+    refused("no index and no table", answer_of(rozhinal_ask(SHEET_SLICE, NULL, 0, NULL, 0, 4)));
     printf("print into nothing: %" PRId64 "\n", rozhinal_print(ROZHINAL_NULL, 0, NULL, 0));
     refused("a board of nothing", rozhinal_board(NULL, 0, NULL, 0, NULL, 0, NULL, 0, NULL, 0));
     refused("a close of nothing", rozhinal_close(NULL, 0, NULL, 0, NULL, 0));
@@ -500,6 +611,8 @@ int main(void)
     board_refusals();
     the_close();
     close_refusals();
+    the_owed();
+    owed_refusals();
     null_pointers();
     return faults == 0 ? 0 : 1;
 }

@@ -73,7 +73,8 @@ static void run(int at_end)
     require(rozhinal_close(sheet, sizeof example, index, INDEX, table, TABLE - 1).number == 8,
             "a refused close");
     require(rozhinal_close(LENT).number == 0, "close");
-    require(table[TABLE - 10] == ROZHINAL_NUMBER && table[TABLE - 8] == (700 & 0xFF), "figure 4");
+    require(table[TABLE - 11] == ROZHINAL_NUMBER && table[TABLE - 9] == (700 & 0xFF), "figure 4");
+    require(table[TABLE - 12] == 1 && table[TABLE - 1] == 0, "owed bytes of 3 and 4");
     require(rozhinal_ask(LENT, 4).value == 700, "ask");
     require(rozhinal_ask(LENT, ITEMS).number == 11, "a refused ask");
     require(rozhinal_print(ROZHINAL_NUMBER, -7, scratch, ROZHINAL_PRINT_BYTES) == 2, "print");

@@ -1,10 +1,11 @@
 //! A mock of the engine, to try the comparison itself: the model's reader with another
-//! machine, which fills cells from a whole solution and catches up in one ascending sweep, and
-//! another printer. It can be made wrong in one respect.
+//! machine, which fills cells from a whole solution, catches up in one ascending sweep and mends
+//! the owed bytes at each change, and another printer. It can be made wrong in one respect.
 
 mod board;
 mod close;
 mod older;
+mod owed;
 mod printer;
 
 use crate::engine::{DayProgram, Engine};
@@ -12,8 +13,9 @@ use crate::guarded::Guarded;
 use crate::model::calls::{self, Call, Reply};
 use crate::model::day::run_day;
 use crate::model::sheet::{read_sheet, Item, Spread};
-use crate::model::table::{decode, encode, to_pair, Cell, Mark};
+use crate::model::table::{to_pair, Cell, Mark};
 use crate::model::value::{apply, in_range, Value, WHOLE};
+use owed::By;
 
 /// An enum with `ALL`, the list of its variants after the first.
 macro_rules! with_all {
@@ -116,6 +118,40 @@ with_all! {
         CloseChangesIndex,
         CloseWritesPastTheTable,
         RefusedCloseClearsMarks,
+        CloseLeavesOwed,
+        CloseOwesAll,
+        OwedWithoutStored,
+        OwedWithoutNull,
+        OwedByAnyUnk,
+        OwedByStoredOnly,
+        OwedByTheLowestChild,
+        OwedOfFiguresOnly,
+        OwedBeforeTheNumber,
+        TellingPassesOverOwed,
+        TellingMarksUnowed,
+        TellingStopsAtUnowed,
+        UnowedForgetsWithoutNotice,
+        UnowedLosesNotice,
+        DropLeavesOwed,
+        DropEndsAllOwed,
+        DropEndsOwedOneLevel,
+        KeepLeavesUnowed,
+        KeepMakesOwedOneLevel,
+        LookUpLeavesUnowed,
+        ForgetLeavesOwed,
+        ForgetEndsAllOwed,
+        OpenFullOwesAll,
+        OpenFullOwesNothing,
+        OpenBareOwes,
+        TakesFalseOwed,
+        TakesOwedAboveOne,
+        TakesOwedForUnowed,
+        TakesUnowedForOwed,
+        TakesFalseOwedOfEntries,
+        TakesFalseOwedOfStored,
+        TakesFalseOwedOfUnk,
+        TakesTablesWithoutOwed,
+        RefusesUnowedNotice,
     }
 }
 
@@ -136,6 +172,7 @@ fn share(wrong: Wrong, first: i128, second: i128) -> Value {
 struct Sweep<'a> {
     items: &'a [Item],
     cells: Vec<Cell>,
+    owed: Vec<bool>,
     wrong: Wrong,
 }
 
@@ -204,16 +241,15 @@ impl Sweep<'_> {
             let figure = self.items[i].figure.as_ref().unwrap();
             figure.parents.iter().for_each(|&p| reached[p] = true);
             if figure.keep {
-                self.store(i, given[i]);
+                self.store(i, given[i], By::LookUp);
             }
         }
     }
 
-    fn store(&mut self, i: usize, (value, flagged): (Value, bool)) {
-        self.cells[i].stored = Some(value);
-        if flagged && self.wrong != Wrong::KeepLosesNotice {
-            self.cells[i].mark = Mark::Notice;
-        }
+    fn store(&mut self, i: usize, (value, flagged): (Value, bool), by: By) {
+        let marks = flagged && self.wrong != Wrong::KeepLosesNotice;
+        let mark = if marks { Mark::Notice } else { self.cells[i].mark };
+        self.put(i, Cell { stored: Some(value), mark }, by);
     }
 
     fn look_up(&mut self, i: usize) -> (Value, bool) {
@@ -236,7 +272,7 @@ impl Sweep<'_> {
                 self.cells[i].mark = Mark::None;
                 return;
             }
-            self.cells[i] = Cell { stored: Some(value), mark: Mark::Notice };
+            self.put(i, Cell { stored: Some(value), mark: Mark::Notice }, By::Renew);
             if self.wrong != Wrong::StepGoesOnToTelling {
                 return;
             }
@@ -245,9 +281,14 @@ impl Sweep<'_> {
             self.cells[i].mark = Mark::None;
         }
         for child in i + 1..self.items.len() {
-            let figure = self.items[child].figure.as_ref();
-            if figure.is_some_and(|f| f.parents.contains(&i)) {
-                self.tell(child, figure.unwrap().spread);
+            let Some(figure) = &self.items[child].figure else { continue };
+            if !figure.parents.contains(&i) {
+                continue;
+            }
+            if !self.passes_over(child) {
+                self.tell(child, figure.spread);
+            } else if self.wrong == Wrong::TellingStopsAtUnowed {
+                break;
             }
         }
         if self.wrong != Wrong::ClearsMarkBeforeTelling {
@@ -259,13 +300,14 @@ impl Sweep<'_> {
         let Cell { stored, mark } = self.cells[child];
         let defers = mark != Mark::Notice || self.wrong == Wrong::DeferIgnoresNotice;
         if stored.is_none() || spread == Spread::Forget {
-            self.cells[child] = Cell { stored: None, mark: Mark::Notice };
+            let mark = self.forgotten_mark(child);
+            self.put(child, Cell { stored: None, mark }, By::Forget);
         } else if spread == Spread::Defer && defers {
             self.cells[child].mark = Mark::Refresh;
         } else {
             let value = self.work_out(child);
             if stored != Some(value) {
-                self.cells[child] = Cell { stored: Some(value), mark: Mark::Notice };
+                self.put(child, Cell { stored: Some(value), mark: Mark::Notice }, By::Renew);
             } else if mark == Mark::Refresh || self.wrong == Wrong::RenewClearsNotice {
                 self.cells[child].mark = Mark::None;
             }
@@ -294,13 +336,14 @@ impl Sweep<'_> {
                 let i = item as usize;
                 if self.cells[i].stored.is_none() {
                     let given = self.look_up(i);
-                    self.store(i, given);
+                    self.store(i, given, By::Keep);
                 }
             }
             Call::Drop { item } => {
-                let cell = &mut self.cells[item as usize];
-                cell.stored = None;
-                cell.mark = if cell.mark == Mark::None { Mark::None } else { Mark::Notice };
+                let i = item as usize;
+                let marked = self.cells[i].mark != Mark::None;
+                let mark = if marked { Mark::Notice } else { Mark::None };
+                self.put(i, Cell { stored: None, mark }, By::Drop);
             }
             Call::Step { item } => self.step(item as usize),
             Call::Ask { item } => {
@@ -340,6 +383,9 @@ impl Engine for Mock {
         if reply.number != 0 && self.0 == Wrong::RefusedOpeningWrites {
             index.bytes_mut().fill(0);
         }
+        if reply.number == 0 {
+            self.0.spoil_opening(full, sheet.bytes(), table.bytes_mut());
+        }
         reply
     }
 
@@ -352,8 +398,9 @@ impl Engine for Mock {
     ) -> Reply {
         let wrong = self.0;
         let call = &if wrong == Wrong::CutsItemTo32Bits { cut_item(call) } else { *call };
+        let taken = wrong.taken(sheet.bytes(), table.bytes());
         // The model is asked only whether the call is refused.
-        let refusal = calls::call(call, sheet.bytes(), index.bytes(), &mut table.bytes().to_vec());
+        let refusal = calls::call(call, sheet.bytes(), index.bytes(), &mut taken.clone());
         if refusal.number == 10 && wrong == Wrong::Says14BeforeTheTable {
             return match call {
                 Call::Step { .. } => Reply { number: 14, ..refusal },
@@ -364,13 +411,12 @@ impl Engine for Mock {
             return refusal;
         }
         let items = read_sheet(sheet.bytes()).unwrap();
-        let cells = decode(&items, table.bytes()).unwrap();
-        if let Some(number) = wrong.refusal(call, &cells) {
+        let mut machine = Sweep::new(&items, &taken, wrong);
+        if let Some(number) = wrong.refusal(call, &machine.cells, &machine.owed) {
             return Reply { number, offset: 0, kind: 0, value: 0 };
         }
-        let mut machine = Sweep { items: &items, cells, wrong };
         let reply = machine.give(call);
-        table.bytes_mut().copy_from_slice(&encode(&machine.cells));
+        machine.write(table.bytes_mut());
         match (wrong, call) {
             (Wrong::AskChangesSheet, Call::Ask { .. }) => sheet.bytes_mut()[0] = 9,
             (Wrong::WritesPastTheTable, Call::Drop { .. }) => table.break_guard(),

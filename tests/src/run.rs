@@ -1,6 +1,7 @@
 //! A whole run: lists of calls, pairs of offices, days.
 
 use crate::engine::{DayProgram, Engine};
+use crate::harness::before::run_before;
 use crate::harness::closes::run_closes;
 use crate::harness::compare::Comparison;
 use crate::harness::days::{compare_fixed_days, compare_random_day};
@@ -24,6 +25,8 @@ pub struct Plan {
     pub older: u64,
     /// Tables of no opening that are closed, each with a list that goes on from it.
     pub closes: u64,
+    /// Lists that are also given to the calls as they were before tables had an owed byte.
+    pub before: u64,
     pub days: u64,
     /// Slices are lent in blocks of their own, for a run under a memory checker.
     pub alone: bool,
@@ -41,6 +44,7 @@ const FIXED_DAYS: u64 = FIXED + 1;
 const PAIRS: u64 = 4 << 40;
 const OLDER: u64 = 5 << 40;
 const CLOSES: u64 = 6 << 40;
+const BEFORE: u64 = 7 << 40;
 
 /// Everything compared, or the first difference.
 pub fn run(
@@ -58,8 +62,13 @@ pub fn run(
         run_part(plan, FIXED, &mut c, &mut day)?;
     }
     let batches = plan.pairs.div_ceil(BATCH);
-    let kinds =
-        [(OFFICES, plan.offices), (PAIRS, batches), (OLDER, plan.older), (CLOSES, plan.closes)];
+    let kinds = [
+        (OFFICES, plan.offices),
+        (PAIRS, batches),
+        (OLDER, plan.older),
+        (CLOSES, plan.closes),
+        (BEFORE, plan.before),
+    ];
     for part in kinds.iter().flat_map(|&(first, count)| first..first + count) {
         run_part(plan, part, &mut c, &mut day)?;
     }
@@ -95,6 +104,7 @@ fn run_part(
     c.rng = Rng::part(seed, part);
     let result = match (part, day) {
         (FIXED, _) => run_fixed(c),
+        (BEFORE.., _) => run_before(c),
         (CLOSES.., _) => run_closes(c),
         (OLDER.., _) => run_older(c),
         (PAIRS.., _) => run_pairs(c),
@@ -122,6 +132,7 @@ mod tests {
         pairs: 0,
         older: 0,
         closes: 0,
+        before: 0,
         days: 0,
         alone: false,
         only: None,
@@ -141,12 +152,17 @@ mod tests {
             pairs: 2_000,
             older: 300,
             closes: 300,
+            before: 300,
             days: 60,
             ..SHORT
         };
         let tally = try_mock(&plan, Wrong::Nothing).unwrap();
         assert!(tally.calls() >= 50_000);
         assert_eq!((tally.pairs, tally.older_tables, tally.closed_tables), (2_000, 300, 300));
+        assert_eq!(tally.before_lists, 300);
+        assert!(
+            tally.before_tables > 500 && tally.before_steps > 100 && tally.before_readings > 2_000
+        );
         assert_eq!(tally.lists_from_tables, tally.lists.div_ceil(5));
         assert_eq!(tally.random_days, 60);
         assert!(tally.damaged_days > 10);
@@ -257,6 +273,7 @@ mod tests {
             pairs: 2_000,
             older: 300,
             closes: 300,
+            before: 300,
             ..SHORT
         };
         if let Err(difference) = run(&plan, &mut crate::ffi::Linked, None) {

@@ -92,6 +92,7 @@ mod tests {
     use crate::model::board::board;
     use crate::model::calls::open;
     use crate::model::sheet::read_sheet;
+    use crate::model::table::RECORD;
 
     #[test]
     fn boards_are_as_named() {
@@ -100,7 +101,7 @@ mod tests {
         for _ in 0..1_000 {
             let sheet = write_sheet(&small_specs(&mut rng));
             let items = read_sheet(&sheet).unwrap();
-            let (mut index, mut table) = (vec![0; 4 * items.len()], vec![0; 10 * items.len()]);
+            let (mut index, mut table) = (vec![0; 4 * items.len()], vec![0; RECORD * items.len()]);
             open(false, &sheet, &mut index, &mut table);
             let mut number =
                 |mut b: Board| board(&sheet, &index, &mut table, &b.items, &mut b.results).number;

@@ -4,6 +4,7 @@ use super::tables::{any_number, beyond, choose_numbers, entry_value, Numbers};
 use super::write::{raw, write_raw};
 use crate::model::calls::Call;
 use crate::model::sheet::Item;
+use crate::model::table::RECORD;
 use crate::model::value::Value;
 use crate::rng::Rng;
 
@@ -56,7 +57,7 @@ pub fn other_call(rng: &mut Rng, items: &[Item], table: &[u8]) -> Call {
         Some(figure) if rng.percent(85) => figure,
         _ => item,
     };
-    let marked = item_where(rng, items, |i| table.get(10 * i + 1).is_some_and(|&m| m != 0));
+    let marked = item_where(rng, items, |i| table.get(RECORD * i + 1).is_some_and(|&m| m != 0));
     match (rng.below(100), marked) {
         (0..=11, _) => Call::Ask { item },
         (12..=38, _) => Call::Keep { item: figure },

@@ -12,8 +12,8 @@ pub use calls::{any_call, bad_post, day_field, day_log, good_post, other_call};
 pub use damage::{bad_sheet, damaged, damaged_sheet};
 pub use sheets::{shape, sheet, small_specs, Shape};
 pub use tables::{
-    accepted_table, beyond, choose_numbers, damaged_index, damaged_table, number, older_table,
-    share_pair, Numbers, OLDER_LIMIT,
+    accepted_table, beyond, choose_numbers, damaged_index, damaged_table, make_owed_true, narrow,
+    number, older_table, share_pair, Numbers, OLDER_LIMIT,
 };
 pub use write::{plain_chain, spec_figure, write_sheet, Spec};
 
@@ -25,7 +25,7 @@ mod tests {
     use crate::model::machine::Machine;
     use crate::model::sheet::read_sheet;
     use crate::model::sheet::{Item, MAX_ITEMS, MAX_LEVEL};
-    use crate::model::table::decode;
+    use crate::model::table::{decode, RECORD};
     use crate::model::value::{count_fits, Value, LIMIT, WHOLE};
     use crate::rng::Rng;
 
@@ -77,7 +77,7 @@ mod tests {
             let items = read_sheet(&write_sheet(&small_specs(&mut rng))).unwrap();
             let table = accepted_table(&mut rng, &items);
             let mut machine = Machine::new(&items, decode(&items, &table).unwrap());
-            for (i, cell) in table.chunks(10).enumerate() {
+            for (i, cell) in table.chunks(RECORD).enumerate() {
                 let met = if items[i].figure.is_some() { &mut figures } else { &mut entries };
                 met[cell[0] as usize][cell[1] as usize] += 1;
             }

@@ -1,7 +1,7 @@
 //! Random numbers, tables and indexes.
 
 use crate::model::sheet::Item;
-use crate::model::table::{encode, Cell, Mark};
+use crate::model::table::{encode, owed, Cell, Mark, OWED, RECORD};
 use crate::model::value::{Value, LIMIT, WHOLE};
 use crate::rng::Rng;
 
@@ -159,29 +159,53 @@ fn table_with(rng: &mut Rng, items: &[Item], numbers: Numbers) -> Vec<u8> {
             Cell { stored: Some(value), mark }
         })
         .collect();
-    encode(&cells)
+    encode(items, &cells)
 }
 
-/// The table changed in one to three places, or in its length.
-pub fn damaged_table(rng: &mut Rng, table: &[u8]) -> Vec<u8> {
-    if rng.percent(20) || table.len() < 10 {
-        return other_length(rng, table, 10);
+/// Makes the owed bytes of a table true of its kinds, whatever else is in it.
+pub fn make_owed_true(items: &[Item], table: &mut [u8]) {
+    let stored = |record: &[u8]| (record[0] != 0).then_some(Value::Null);
+    let cell = |record: &[u8]| Cell { stored: stored(record), mark: Mark::None };
+    let cells: Vec<Cell> = table.chunks(RECORD).map(cell).collect();
+    for (record, owed) in table.chunks_mut(RECORD).zip(owed(items, &cells)) {
+        record[OWED] = owed as u8;
+    }
+}
+
+/// The table without its owed bytes, as it was before version 3.0.0.
+pub fn narrow(table: &[u8]) -> Vec<u8> {
+    table.chunks(RECORD).flat_map(|record| &record[..OWED]).copied().collect()
+}
+
+/// The table changed in one to three places, or in its length; in half of the others the owed bytes
+/// are then made true of what is stored.
+pub fn damaged_table(rng: &mut Rng, items: &[Item], table: &[u8]) -> Vec<u8> {
+    if rng.percent(20) {
+        return other_length(rng, table, RECORD);
     }
     let mut table = table.to_vec();
     for _ in 0..rng.between(1, 3) {
-        let cell = rng.below(table.len() as u64 / 10) as usize * 10;
-        match rng.below(5) {
-            0 => table[cell] = *rng.pick(&[0, 1, 2, 3, 4, 128, 255]),
-            1 => table[cell + 1] = *rng.pick(&[0, 1, 2, 3, 128, 255]),
-            2 => {
-                let x = if rng.percent(50) { beyond(rng) } else { any_number(rng) };
-                table[cell + 2..cell + 10].copy_from_slice(&x.to_le_bytes());
-            }
-            3 => table[cell + rng.below(10) as usize] ^= 1 << rng.below(8),
-            _ => table[cell + rng.below(10) as usize] = rng.word() as u8,
-        }
+        let at = rng.below(items.len() as u64) as usize * RECORD;
+        damage_record(rng, &mut table[at..at + RECORD]);
+    }
+    if rng.percent(50) {
+        make_owed_true(items, &mut table);
     }
     table
+}
+
+fn damage_record(rng: &mut Rng, record: &mut [u8]) {
+    match rng.below(6) {
+        0 => record[0] = *rng.pick(&[0, 1, 2, 3, 4, 128, 255]),
+        1 => record[1] = *rng.pick(&[0, 1, 2, 3, 128, 255]),
+        2 => {
+            let x = if rng.percent(50) { beyond(rng) } else { any_number(rng) };
+            record[2..OWED].copy_from_slice(&x.to_le_bytes());
+        }
+        3 => record[rng.below(RECORD as u64) as usize] ^= 1 << rng.below(8),
+        4 => record[OWED] = *rng.pick(&[0, 1, 1 - record[OWED] % 2, 2, 128, 255]),
+        _ => record[rng.below(RECORD as u64) as usize] = rng.word() as u8,
+    }
 }
 
 /// The index changed in a place, or in its length.
@@ -197,14 +221,15 @@ pub fn damaged_index(rng: &mut Rng, index: &[u8]) -> Vec<u8> {
     index
 }
 
-/// The bytes cut or lengthened: by one byte, by one record, to nothing.
+/// The bytes cut or lengthened: by one byte, by one record, by a byte of each record, to nothing.
 pub fn other_length(rng: &mut Rng, bytes: &[u8], record: usize) -> Vec<u8> {
     let mut bytes = bytes.to_vec();
-    let length = match rng.below(5) {
+    let length = match rng.below(6) {
         0 => bytes.len() + 1,
         1 => bytes.len() + record,
         2 => bytes.len().saturating_sub(1),
         3 => bytes.len().saturating_sub(record),
+        4 => bytes.len() / record * (record - 1),
         _ => 0,
     };
     bytes.resize(length, 0);

@@ -11,28 +11,34 @@ use crate::model::calls::{Call, Reply};
 use crate::model::field::i64_at;
 use crate::model::fresh::FreshOffice;
 use crate::model::sheet::{index_of, read_sheet, Item};
-use crate::model::table::{encode, Cell, Mark, CELL};
+use crate::model::table::{record, Cell, Mark, RECORD};
 
 /// A fresh office that was posted the entries of a table. A post to a figure changes nothing.
 pub fn fresh_of<'i>(items: &'i [Item], table: &[u8]) -> FreshOffice<'i> {
     let mut fresh = FreshOffice::new(items);
-    for (item, record) in (0..).zip(table.chunks(CELL)) {
+    for (item, record) in (0..).zip(table.chunks(RECORD)) {
         fresh.feed(&Call::Post { item, kind: record[0] as u64, number: i64_at(record, 2) });
     }
     fresh
 }
 
-/// The table in which each item holds what the fresh office gives, and no mark stands.
-pub fn table_of(fresh: &FreshOffice) -> Vec<u8> {
-    let cell = |value| Cell { stored: Some(value), mark: Mark::None };
-    encode(&fresh.all().into_iter().map(cell).collect::<Vec<Cell>>())
+/// The table in which each item holds what the fresh office gives, no mark stands, and an item is
+/// owed if it has a child.
+pub fn table_of(items: &[Item], fresh: &FreshOffice) -> Vec<u8> {
+    let mut has_child = vec![false; items.len()];
+    let figures = items.iter().filter_map(|item| item.figure.as_ref());
+    figures.flat_map(|figure| &figure.parents).for_each(|&parent| has_child[parent] = true);
+    let closed = |value| Cell { stored: Some(value), mark: Mark::None };
+    let records = fresh.all().into_iter().zip(has_child);
+    records.flat_map(|(value, owed)| record(&closed(value), owed)).collect()
 }
 
 /// An accepted run leaves what the fresh office gives under the entries of the table before.
 pub fn solves(tally: &mut Tally, before: &Lent, after: &Lent) -> Result<(), String> {
     let items = read_sheet(&before.sheet).unwrap();
     tally.count_close(&items, &before.table, &after.table);
-    let right = Lent { table: table_of(&fresh_of(&items, &before.table)), ..before.clone() };
+    let right = table_of(&items, &fresh_of(&items, &before.table));
+    let right = Lent { table: right, ..before.clone() };
     match *after == right {
         true => Ok(()),
         false => Err(format!("a close leaves no solution\n{}{}", before.dump(""), after.dump(""))),
@@ -79,7 +85,7 @@ pub fn once_more(c: &mut Comparison, closed: &Lent) -> Result<(), String> {
 /// which the ask leaves as it is.
 pub fn as_asks(c: &mut Comparison, before: &Lent, after: &Lent) -> Result<(), String> {
     c.tally.closes_as_asks += 1;
-    for (item, record) in (0..).zip(after.table.chunks(CELL)) {
+    for (item, record) in (0..).zip(after.table.chunks(RECORD)) {
         let ask = Act::Give(Call::Ask { item });
         let mut later = after.clone();
         let replies = [c.act(&ask, &mut before.clone())?, c.act(&ask, &mut later)?];
@@ -97,7 +103,7 @@ pub fn as_asks(c: &mut Comparison, before: &Lent, after: &Lent) -> Result<(), St
 pub fn as_keeps(c: &mut Comparison, before: &Lent, after: &Lent) -> Result<(), String> {
     c.tally.closes_as_keeps += 1;
     let mut lent = before.clone();
-    while let Some(item) = lent.table.chunks(CELL).position(|record| record[1] != 0) {
+    while let Some(item) = lent.table.chunks(RECORD).position(|record| record[1] != 0) {
         c.act(&Act::Give(Call::Step { item: item as u64 }), &mut lent)?;
     }
     for (item, read) in (0..).zip(read_sheet(&before.sheet).unwrap()) {
@@ -149,9 +155,10 @@ pub fn same_closes(
     let (mut first, mut second) = (one.0.clone(), two.0.clone());
     c.act(&Act::Close, &mut first)?;
     c.act(&Act::Close, &mut second)?;
-    let right = table_of(&one.1.fresh);
-    c.tally.judged += 2 * one.1.items.len() as u64;
-    match [&first.table, &second.table, &table_of(&two.1.fresh)] == [&right; 3] {
+    let items = one.1.items;
+    let right = table_of(items, &one.1.fresh);
+    c.tally.judged += 2 * items.len() as u64;
+    match [&first.table, &second.table, &table_of(items, &two.1.fresh)] == [&right; 3] {
         true => Ok(()),
         false => Err(format!("closed offices differ\n{}{}", first.dump(""), second.dump(""))),
     }

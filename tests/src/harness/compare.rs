@@ -1,6 +1,7 @@
 //! One call on both sides, and every byte afterwards.
 
 use super::closes::solves;
+use super::owed;
 use super::tally::Tally;
 use crate::engine::Engine;
 use crate::guarded::Guarded;
@@ -83,8 +84,8 @@ impl<'a> Comparison<'a> {
         }
     }
 
-    /// Performs the act on both sides, prints what an ask has read, and sees that a close has left
-    /// the solution. The lent bytes become what both leave.
+    /// Performs the act on both sides, prints what an ask has read, and sees that owed bytes are
+    /// true and that a close has left the solution. The lent bytes become what both leave.
     pub fn act(&mut self, act: &Act, lent: &mut Lent) -> Result<Reply, String> {
         let before = matches!(act, Act::Close).then(|| lent.clone());
         let reply = self.act_only(act, lent)?;
@@ -124,6 +125,7 @@ impl<'a> Comparison<'a> {
         };
         let (after, guards) = (handed.lent(), handed.guards());
         if given == reply && after == *lent && guards == [true; 3] {
+            owed::judge(&mut self.tally.owed, act, reply.number, &before, lent)?;
             return Ok(reply);
         }
         Err(format!(
@@ -149,6 +151,8 @@ impl<'a> Comparison<'a> {
         let list_guards = [items.guards_hold(), results.guards_hold()];
         let same = given == reply && after == *lent && left == *board;
         if same && guards == [true; 3] && list_guards == [true; 2] {
+            let act = Act::Board(lists);
+            owed::judge(&mut self.tally.owed, &act, reply.number, &before, lent)?;
             return Ok(reply);
         }
         Err(format!(

@@ -73,10 +73,13 @@ pub fn compare_random_day(
     compare_day(program, (!no_sheet).then_some(&sheet), (!no_day).then_some(&day), tally)
 }
 
-/// The example day, each shorter one, each byte of its log changed, and faults far in a log.
+/// The example day, each shorter one, each byte of its log changed, days at the limits and with
+/// figures that are owed or not, and faults far in a log.
 pub fn compare_fixed_days(program: &mut dyn DayProgram, tally: &mut Tally) -> Result<(), String> {
     let (sheet, log) = (EXAMPLE.to_vec(), example_log());
-    for (log, output) in [(&log, EXAMPLE_OUTPUT), (&limits_log(), LIMITS_OUTPUT)] {
+    for (log, output) in
+        [(&log, EXAMPLE_OUTPUT), (&limits_log(), LIMITS_OUTPUT), (&owed_log(), OWED_OUTPUT)]
+    {
         if run_day(&sheet, log) != output.as_bytes() {
             return Err(format!("the model does not print {output:?}"));
         }
@@ -184,6 +187,21 @@ fn limits_log() -> Vec<u8> {
         ask(4),
     ])
 }
+
+/// Steps of figure 3 while it is UNK: a step of its parent passes it over, then, with figure 4 stored,
+/// tells it, and passes it over when figure 4 is dropped.
+fn owed_log() -> Vec<u8> {
+    let (drop, step) = (|item| Call::Drop { item }, |item| Call::Step { item });
+    let told = |number| [post(0, number), step(0), step(3)];
+    let with_figure_4 = [Call::Keep { item: 4 }, drop(3)];
+    let without = [step(4), ask(4), drop(3), drop(4)];
+    log_of(
+        &[&told(5)[..], &with_figure_4, &told(6), &without, &told(7), &[step(4), ask(4)]].concat(),
+    )
+}
+
+const OWED_OUTPUT: &str = "OK\nOK\nNO 14\nOK\nOK\nOK\nOK\nOK\nOK\nASK 4 6\nOK\nOK\n\
+                           OK\nOK\nNO 14\nNO 14\nASK 4 7\n";
 
 const LIMITS_OUTPUT: &str = "OK\nNO 13\nASK 3 1000000000000000\nOK\nASK 3 OUT\nOK\nNO 13\n\
                              ASK 4 -999999999999999\nOK\nASK 4 OUT\n";

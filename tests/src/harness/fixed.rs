@@ -6,6 +6,7 @@ use super::closes::plain_close;
 use super::compare::{Act, Comparison, Lent};
 use super::fixed_boards::run_fixed_boards;
 use super::fixed_closes::{closes_to, run_fixed_closes};
+use super::fixed_owed::run_fixed_owed;
 use super::lists::{plain_call, Office};
 use super::older::older_example;
 use super::prints::run_prints;
@@ -14,6 +15,7 @@ use crate::gen::{self, plain_chain, spec_figure, write_sheet, Spec};
 use crate::model::board::Board;
 use crate::model::calls::Call;
 use crate::model::sheet::{index_of, read_sheet, EXAMPLE, MAX_ITEMS, MAX_LEVEL};
+use crate::model::table::{OWED, RECORD};
 use crate::model::value::LIMIT;
 
 pub fn run_fixed(c: &mut Comparison) -> Result<(), String> {
@@ -31,7 +33,8 @@ pub fn run_fixed(c: &mut Comparison) -> Result<(), String> {
     long_fields(c)?;
     stale_ledgers(c)?;
     run_fixed_boards(c)?;
-    run_fixed_closes(c)
+    run_fixed_closes(c)?;
+    run_fixed_owed(c)
 }
 
 pub fn post(item: u64, number: i64) -> Call {
@@ -39,7 +42,7 @@ pub fn post(item: u64, number: i64) -> Call {
 }
 
 /// The five calls, a board and a close, each accepted on the example after `busy_example`.
-fn acts() -> [Act; 7] {
+pub fn acts() -> [Act; 7] {
     [
         Act::Give(Call::Post { item: 1, kind: 1, number: 0 }),
         Act::Give(Call::Keep { item: 4 }),
@@ -53,7 +56,7 @@ fn acts() -> [Act; 7] {
 
 /// The example with values, a stored figure and marks.
 pub fn busy_example(c: &mut Comparison) -> Result<Lent, String> {
-    let mut lent = Lent { sheet: EXAMPLE.to_vec(), index: vec![9; 20], table: vec![9; 50] };
+    let mut lent = Lent { sheet: EXAMPLE.to_vec(), index: vec![9; 20], table: vec![9; 55] };
     c.act(&Act::Open { full: false }, &mut lent)?;
     for call in [post(0, 1_000), post(1, -300), Call::Keep { item: 3 }] {
         c.act(&Act::Give(call), &mut lent)?;
@@ -99,7 +102,7 @@ fn index_and_table_bytes(c: &mut Comparison) -> Result<(), String> {
         for at in 0..busy.table.len() {
             let mut lent = busy.clone();
             lent.table[at] = byte;
-            c.act(&acts[(at / 10 + byte as usize) % acts.len()], &mut lent)?;
+            c.act(&acts[(at / RECORD + byte as usize) % acts.len()], &mut lent)?;
         }
     }
     Ok(())
@@ -110,7 +113,7 @@ fn lengths(c: &mut Comparison) -> Result<(), String> {
     let busy = busy_example(c)?;
     let openings = [Act::Open { full: false }, Act::Open { full: true }];
     for act in acts().iter().chain(&openings) {
-        for length in 0..=100 {
+        for length in 0..=110 {
             let mut lent = busy.clone();
             lent.table.resize(length, 0);
             c.act(act, &mut lent)?;
@@ -151,7 +154,7 @@ pub fn opened(
     items: usize,
     full: bool,
 ) -> Result<(Lent, u64), String> {
-    let mut lent = Lent { sheet, index: vec![9; 4 * items], table: vec![9; 10 * items] };
+    let mut lent = Lent { sheet, index: vec![9; 4 * items], table: vec![9; RECORD * items] };
     let number = c.act(&Act::Open { full }, &mut lent)?.number;
     Ok((lent, number))
 }
@@ -221,14 +224,16 @@ fn item_counts(c: &mut Comparison) -> Result<(), String> {
 
 /// The range of posts and of tables, from both sides: of the number of an entry and of a figure.
 fn range(c: &mut Comparison) -> Result<(), String> {
+    let items = read_sheet(&EXAMPLE).unwrap();
     let (lent, _) = opened(c, EXAMPLE.to_vec(), 5, false)?;
     for (number, right) in [(LIMIT, 0), (LIMIT + 1, 13), (-LIMIT, 0), (-LIMIT - 1, 13)] {
         let given = c.act(&Act::Give(post(0, number)), &mut lent.clone())?;
         expect("range of a post", given.number, right)?;
         for item in [0, 3] {
-            let (mut table, at) = (lent.clone(), 10 * item as usize);
+            let (mut table, at) = (lent.clone(), RECORD * item as usize);
             table.table[at] = 3;
-            table.table[at + 2..at + 10].copy_from_slice(&number.to_le_bytes());
+            table.table[at + 2..at + OWED].copy_from_slice(&number.to_le_bytes());
+            gen::make_owed_true(&items, &mut table.table);
             let given = c.act(&Act::Give(Call::Ask { item }), &mut table)?;
             expect("range of a table", given.number, if right == 0 { 0 } else { 10 })?;
         }

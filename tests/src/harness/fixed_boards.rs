@@ -94,7 +94,7 @@ fn order_of_tests(c: &mut Comparison) -> Result<(), String> {
     wrong.extend([board(&[4, 5], 18), board(&[5, 4], 18), board(&[4], 9), board(&[], 0)]);
     for lists in wrong {
         let mut lent = busy.clone();
-        lent.table[49] = 1;
+        lent.table[53] = 1;
         given(c, lists.clone(), &lent, 10)?;
         lent.index[19] = 1;
         given(c, lists.clone(), &lent, 9)?;

@@ -5,11 +5,11 @@ use super::closes::{as_asks, as_keeps, once_more};
 use super::compare::{Act, Comparison, Lent};
 use super::days::refused_sheets;
 use super::fixed::{busy_example, expect, longest_sheet, opened, pair_of, post, Given, OUT};
-use crate::gen::{spec_figure, write_sheet, Spec};
+use crate::gen::{make_owed_true, spec_figure, write_sheet, Spec};
 use crate::model::calls::Call;
 use crate::model::field::i64_at;
-use crate::model::sheet::{EXAMPLE, MAX_ITEMS, MAX_LEVEL};
-use crate::model::table::CELL;
+use crate::model::sheet::{read_sheet, EXAMPLE, MAX_ITEMS, MAX_LEVEL};
+use crate::model::table::{OWED, RECORD};
 use crate::model::value::LIMIT;
 
 pub fn run_fixed_closes(c: &mut Comparison) -> Result<(), String> {
@@ -30,7 +30,7 @@ fn given(c: &mut Comparison, lent: &Lent, right: u64) -> Result<(), String> {
 pub fn closes_to(c: &mut Comparison, lent: &Lent, item: u64, right: Given) -> Result<(), String> {
     let mut closed = lent.clone();
     expect("a close", c.act(&Act::Close, &mut closed)?.number, 0)?;
-    let record = &closed.table[CELL * item as usize..][..CELL];
+    let record = &closed.table[RECORD * item as usize..][..RECORD];
     match (record[1], (record[0] as u64, i64_at(record, 2))) == (0, pair_of(right)) {
         true => Ok(()),
         false => Err(format!("a close leaves item {item} as {record:?}")),
@@ -46,7 +46,8 @@ fn closed(c: &mut Comparison, lent: &mut Lent) -> Result<(), String> {
     once_more(c, lent)
 }
 
-/// The example with each kind and mark of each record, in every combination.
+/// The example with each kind and mark of each record, in every combination, and with an owed byte
+/// that is false: each of them in turn, each time another byte.
 fn every_form(c: &mut Comparison) -> Result<(), String> {
     let busy = busy_example(c)?;
     let marks = |kind, from: &[u8]| from.iter().map(|&mark| (kind, mark)).collect::<Vec<_>>();
@@ -54,15 +55,21 @@ fn every_form(c: &mut Comparison) -> Result<(), String> {
     let stored = [1, 2, 3].map(|kind| marks(kind, &[0, 1, 2])).concat();
     let figure = [marks(0, &[0, 2]), stored].concat();
     let forms = [&entry, &entry, &entry, &figure, &figure];
-    for mut turn in 0..forms.iter().map(|f| f.len()).product() {
-        let mut table = Vec::new();
+    let items = read_sheet(&EXAMPLE).unwrap();
+    for turn in 0..forms.iter().map(|f| f.len()).product() {
+        let (mut lent, mut rest) = (Lent { table: vec![], ..busy.clone() }, turn);
         for (form, number) in forms.iter().zip([1_000i64, -300, 7, 1_300, 5]) {
-            let (kind, mark) = form[turn % form.len()];
-            turn /= form.len();
-            table.extend([kind, mark]);
-            table.extend(if kind == 3 { number } else { 0 }.to_le_bytes());
+            let (kind, mark) = form[rest % form.len()];
+            rest /= form.len();
+            lent.table.extend([kind, mark]);
+            lent.table.extend(if kind == 3 { number } else { 0 }.to_le_bytes());
+            lent.table.push(0);
         }
-        given(c, &Lent { table, ..busy.clone() }, 0)?;
+        make_owed_true(&items, &mut lent.table);
+        given(c, &lent, 0)?;
+        let byte = &mut lent.table[turn % 5 * RECORD + OWED];
+        *byte = byte.wrapping_add(1 + (turn / 5 % 255) as u8);
+        given(c, &lent, 10)?;
     }
     Ok(())
 }
@@ -72,18 +79,18 @@ fn order_of_tests(c: &mut Comparison) -> Result<(), String> {
     let busy = busy_example(c)?;
     given(c, &busy, 0)?;
     // Each record is tested, also that of a figure, which would be worked out anew.
-    for at in (0..busy.table.len()).step_by(CELL) {
+    for at in (0..busy.table.len()).step_by(RECORD) {
         let mut lent = busy.clone();
         lent.table[at] = 4;
         given(c, &lent, 10)?;
     }
     let (mut index, mut table) = (busy.index.clone(), busy.table.clone());
-    (index[19], table[49]) = (1, 1);
+    (index[19], table[53]) = (1, 1);
     given(c, &Lent { table: table.clone(), ..busy.clone() }, 10)?;
     given(c, &Lent { index: index.clone(), ..busy.clone() }, 9)?;
     let both = Lent { index, table, ..busy.clone() };
     given(c, &both, 9)?;
-    for (index, table) in [(20, 51), (20, 49), (21, 50), (19, 50), (0, 0)] {
+    for (index, table) in [(20, 56), (20, 54), (20, 50), (21, 55), (19, 55), (0, 0)] {
         for mut lent in [busy.clone(), both.clone()] {
             lent.index.resize(index, 0);
             lent.table.resize(table, 0);
@@ -191,9 +198,9 @@ fn limits(c: &mut Comparison) -> Result<(), String> {
         }
         for item in [0, 3] {
             for (number, right) in [(limit, 0), (beyond, 10)] {
-                let (mut lent, at) = (busy_example(c)?, CELL * item);
+                let (mut lent, at) = (busy_example(c)?, RECORD * item);
                 lent.table[at] = 3;
-                lent.table[at + 2..at + CELL].copy_from_slice(&number.to_le_bytes());
+                lent.table[at + 2..at + OWED].copy_from_slice(&number.to_le_bytes());
                 given(c, &lent, right)?;
             }
         }
@@ -215,7 +222,7 @@ mod tests {
     #[test]
     fn wrong_closes_are_found() {
         try_closes(Wrong::Nothing).unwrap();
-        assert_eq!(Wrong::closes().count(), 28);
+        assert_eq!(Wrong::closes().count(), 30);
         for wrong in Wrong::closes() {
             let found = try_closes(wrong).err().unwrap_or_default();
             assert!(found.starts_with("Close\n"), "{wrong:?} was not found: {found}");

@@ -9,7 +9,7 @@ use crate::model::calls::{Call, Reply};
 use crate::model::field::i64_at;
 use crate::model::fresh::FreshOffice;
 use crate::model::sheet::{index_of, read_sheet, Item};
-use crate::model::table::to_pair;
+use crate::model::table::{to_pair, RECORD};
 use crate::rng::Rng;
 use std::fmt::Debug;
 
@@ -60,13 +60,13 @@ fn begin<'i>(
         let table = gen::accepted_table(&mut c.rng, items);
         return Ok((Lent { sheet, index: index_of(items), table }, None));
     }
-    let (index, table) = (c.rng.bytes(4 * items.len()), c.rng.bytes(10 * items.len()));
+    let (index, table) = (c.rng.bytes(4 * items.len()), c.rng.bytes(RECORD * items.len()));
     let mut lent = Lent { sheet, index, table };
     let office = open(c, items, &mut lent)?;
     Ok((lent, Some(office)))
 }
 
-fn list_length(rng: &mut Rng, shape: Shape) -> u64 {
+pub fn list_length(rng: &mut Rng, shape: Shape) -> u64 {
     match shape {
         Shape::Small | Shape::Medium if rng.percent(2) => rng.between(200, 500),
         Shape::Small | Shape::Medium => rng.between(5, 60),
@@ -105,10 +105,16 @@ pub fn plain_call(
 }
 
 /// The bytes with table (1), index (2) and sheet (4) changed, as the bits of `what` say.
-fn changed_bytes(c: &mut Comparison, specs: &[gen::Spec], lent: &Lent, what: u64) -> Lent {
+fn changed_bytes(
+    c: &mut Comparison,
+    specs: &[gen::Spec],
+    items: &[Item],
+    lent: &Lent,
+    what: u64,
+) -> Lent {
     let mut changed = lent.clone();
     if what & 1 != 0 {
-        changed.table = gen::damaged_table(&mut c.rng, &lent.table);
+        changed.table = gen::damaged_table(&mut c.rng, items, &lent.table);
     }
     if what & 2 != 0 {
         changed.index = gen::damaged_index(&mut c.rng, &lent.index);
@@ -122,7 +128,8 @@ fn changed_bytes(c: &mut Comparison, specs: &[gen::Spec], lent: &Lent, what: u64
         if let (Ok(others), true) = (read_sheet(&changed.sheet), c.rng.percent(50)) {
             // Another sheet with its own index: the table may fit it.
             changed.index = index_of(&others);
-            changed.table.resize(10 * others.len(), 0);
+            changed.table.resize(RECORD * others.len(), 0);
+            gen::make_owed_true(&others, &mut changed.table);
         }
     }
     changed
@@ -138,7 +145,7 @@ fn changed_call(
     office: &mut Option<Office>,
 ) -> Result<(), String> {
     let what = c.rng.between(1, 7);
-    let mut changed = changed_bytes(c, specs, lent, what);
+    let mut changed = changed_bytes(c, specs, items, lent, what);
     let act = match c.rng.below(100) {
         0..=19 => Act::Open { full: c.rng.percent(50) },
         20..=34 => Act::Board(gen::any_board(&mut c.rng, items)),
@@ -194,7 +201,7 @@ impl<'i> Office<'i> {
 
     /// What is stored where no mark stands must stay.
     fn note(&mut self, before: &[u8]) {
-        if before.chunks(10).all(|t| t[1] == 0) {
+        if before.chunks(RECORD).all(|t| t[1] == 0) {
             self.stays = stored(before);
         }
     }
@@ -266,7 +273,7 @@ impl<'i> Office<'i> {
     ) -> Result<(), String> {
         self.note(before);
         c.tally.judged += self.items.len() as u64;
-        let right = table_of(&self.fresh);
+        let right = table_of(self.items, &self.fresh);
         if after != right {
             return Err(format!("a close leaves {}, the fresh office {}", hex(after), hex(&right)));
         }
@@ -285,11 +292,11 @@ impl<'i> Office<'i> {
 
 /// Kind and number of the stored items of a table.
 fn stored(table: &[u8]) -> Vec<Option<(u8, i64)>> {
-    table.chunks(10).map(|t| (t[0] != 0).then(|| (t[0], i64_at(t, 2)))).collect()
+    table.chunks(RECORD).map(|t| (t[0] != 0).then(|| (t[0], i64_at(t, 2)))).collect()
 }
 
 fn unmarked(call: &dyn Debug, after: &[u8]) -> Result<(), String> {
-    match after.chunks(10).all(|t| t[1] == 0) {
+    match after.chunks(RECORD).all(|t| t[1] == 0) {
         true => Ok(()),
         false => Err(format!("a mark stands after {call:?}")),
     }
@@ -316,7 +323,7 @@ mod tests {
 
     /// Whether each cause from 8 to 10 is there on an accepted sheet, each tested as far as it goes.
     fn lent_tests(items: &[Item], index: &[u8], table: &[u8]) -> Vec<(usize, bool)> {
-        let long = (index.len() == 4 * items.len(), table.len() == 10 * items.len());
+        let long = (index.len() == 4 * items.len(), table.len() == RECORD * items.len());
         vec![
             (8, long != (true, true)),
             (9, long.0 && index != index_of(items)),
@@ -332,7 +339,7 @@ mod tests {
             Call::Step { item } | Call::Ask { item } => item,
         };
         let figure = items.get(item as usize).map(|i| i.figure.is_some());
-        let marked = table.get(10 * (item as usize % 4096) + 1).is_some_and(|&m| m != 0);
+        let marked = table.get(RECORD * (item as usize % 4096) + 1).is_some_and(|&m| m != 0);
         let sort = match call {
             Call::Post { .. } => figure == Some(true),
             Call::Keep { .. } | Call::Drop { .. } => figure == Some(false),
@@ -344,7 +351,8 @@ mod tests {
             }
             _ => false,
         };
-        let step = matches!(call, Call::Step { .. }) && item < n as u64 && table.len() == 10 * n;
+        let whole = table.len() == RECORD * n;
+        let step = matches!(call, Call::Step { .. }) && item < n as u64 && whole;
         let own = [(11, item >= n as u64), (12, sort), (13, posted), (14, step && !marked)];
         [lent_tests(items, index, table), own.to_vec()].concat()
     }

@@ -1,5 +1,6 @@
 //! The comparison of an engine with the model.
 
+pub mod before;
 pub mod boards;
 pub mod closes;
 pub mod compare;
@@ -7,9 +8,11 @@ pub mod days;
 pub mod fixed;
 pub mod fixed_boards;
 pub mod fixed_closes;
+pub mod fixed_owed;
 pub mod lists;
 pub mod offices;
 pub mod older;
+pub mod owed;
 pub mod prints;
 pub mod shares;
 pub mod tally;

@@ -7,7 +7,7 @@ use super::lists::{open, plain_call, Office};
 use crate::gen::{self, Shape};
 use crate::model::calls::{Call, Reply};
 use crate::model::sheet::{read_sheet, Item};
-use crate::model::table::to_pair;
+use crate::model::table::{to_pair, RECORD};
 
 pub fn run_offices(c: &mut Comparison) -> Result<(), String> {
     let (shape, numbers) = (gen::shape(&mut c.rng), gen::choose_numbers(&mut c.rng));
@@ -60,7 +60,7 @@ fn run_office<'i>(
     items: &'i [Item],
     posts: &[Call],
 ) -> Result<(Lent, Office<'i>), String> {
-    let (index, table) = (c.rng.bytes(4 * items.len()), c.rng.bytes(10 * items.len()));
+    let (index, table) = (c.rng.bytes(4 * items.len()), c.rng.bytes(RECORD * items.len()));
     let mut lent = Lent { sheet: sheet.to_vec(), index, table };
     let mut office = Some(open(c, items, &mut lent)?);
     let busy = c.rng.below(6);

@@ -1,12 +1,15 @@
-//! Older tables: their numbers lie within 10^12, and a figure may be stored as OUT that is a number
-//! in the range of grams. They are accepted.
+//! Older tables. Without owed bytes they are refused for their length, by every call; opened anew
+//! and posted to, they are read right. Their records have numbers within 10^12 and any OUT, as
+//! before the range of grams: with owed bytes added such a table is accepted.
 
 use super::compare::{Act, Comparison, Lent};
-use super::fixed::{opened, post, reads, OUT};
+use super::fixed::{acts, expect, opened, post, reads, OUT};
+use super::lists::{plain_call, Office};
 use crate::gen::{self, OLDER_LIMIT};
 use crate::model::calls::Call;
-use crate::model::sheet::{index_of, read_sheet, EXAMPLE};
-use crate::model::table::{encode, Cell, Mark};
+use crate::model::field::i64_at;
+use crate::model::sheet::{index_of, read_sheet, Item, EXAMPLE};
+use crate::model::table::{encode, Cell, Mark, OWED};
 use crate::model::value::Value;
 
 /// The example with a sum that was OUT: it is read as it is stored, until it is worked out anew.
@@ -19,17 +22,18 @@ pub fn older_example(c: &mut Comparison) -> Result<(), String> {
         Some(Value::Out),
         None,
     ];
-    let older = Lent {
-        sheet: EXAMPLE.to_vec(),
-        index: index_of(&read_sheet(&EXAMPLE).unwrap()),
-        table: encode(&stored.map(|stored| Cell { stored, mark: Mark::None })),
-    };
+    let items = read_sheet(&EXAMPLE).unwrap();
+    let table = encode(&items, &stored.map(|stored| Cell { stored, mark: Mark::None }));
+    let older = Lent { sheet: EXAMPLE.to_vec(), index: index_of(&items), table };
+    let narrow = without_owed(c, &older, &acts())?;
+    let anew = opened_anew(c, &items, &narrow)?;
     let (mut opened, _) = opened(c, EXAMPLE.to_vec(), 5, false)?;
     for call in [post(0, OLDER_LIMIT), post(2, 1)] {
         c.act(&Act::Give(call), &mut opened)?;
     }
     let lists = [
         (&opened, None, Some(OLDER_LIMIT + 1)),
+        (&anew, None, Some(OLDER_LIMIT + 1)),
         (&older, None, OUT),
         (&older, Some(Act::Give(post(2, 1))), OUT),
         (&older, Some(Act::Give(post(2, 2))), Some(OLDER_LIMIT + 2)),
@@ -48,7 +52,38 @@ pub fn older_example(c: &mut Comparison) -> Result<(), String> {
     Ok(())
 }
 
-/// Any call, any board and a close on a random older table of a small sheet: never refused for the table.
+/// The table as it was without owed bytes, which every act refuses with 8.
+fn without_owed(c: &mut Comparison, lent: &Lent, acts: &[Act]) -> Result<Lent, String> {
+    let older = Lent { table: gen::narrow(&lent.table), ..lent.clone() };
+    for act in acts.iter().chain(&[Act::Open { full: false }, Act::Open { full: true }]) {
+        let number = c.act(act, &mut older.clone())?.number;
+        expect("a call with a table of 10 bytes an item", number, 8)?;
+    }
+    Ok(older)
+}
+
+/// Opened anew, with the entries of the older table posted in their order. Every item is then read
+/// as the fresh office gives it.
+fn opened_anew(c: &mut Comparison, items: &[Item], older: &Lent) -> Result<Lent, String> {
+    let full = c.rng.percent(50);
+    let (mut lent, _) = opened(c, older.sheet.clone(), items.len(), full)?;
+    let mut office = Some(Office::new(items));
+    for ((item, read), record) in (0..).zip(items).zip(older.table.chunks(OWED)) {
+        if read.figure.is_none() {
+            let (kind, number) = (record[0] as u64, i64_at(record, 2));
+            let post = Call::Post { item, kind, number };
+            expect("a post", plain_call(c, post, &mut lent, &mut office)?.number, 0)?;
+        }
+    }
+    let posted = lent.clone();
+    for item in 0..items.len() as u64 {
+        plain_call(c, Call::Ask { item }, &mut lent, &mut office)?;
+    }
+    Ok(posted)
+}
+
+/// Any call, any board and a close on a random older table of a small sheet: without its owed bytes,
+/// and with them, when it is never refused for the table.
 pub fn run_older(c: &mut Comparison) -> Result<(), String> {
     let sheet = gen::write_sheet(&gen::small_specs(&mut c.rng));
     let items = read_sheet(&sheet).unwrap();
@@ -57,7 +92,10 @@ pub fn run_older(c: &mut Comparison) -> Result<(), String> {
     let board = gen::any_board(&mut c.rng, &items);
     let lent = Lent { sheet, index: index_of(&items), table };
     c.tally.older_tables += 1;
-    for act in [Act::Give(call), Act::Give(Call::Ask { item: 0 }), Act::Board(board), Act::Close] {
+    let acts = [Act::Give(call), Act::Give(Call::Ask { item: 0 }), Act::Board(board), Act::Close];
+    let older = without_owed(c, &lent, &acts)?;
+    opened_anew(c, &items, &older)?;
+    for act in acts {
         let number = c.act(&act, &mut lent.clone())?.number;
         if (1..=10).contains(&number) {
             return Err(format!("{act:?} on an older table gives {number}\n{lent:?}"));

@@ -1,6 +1,7 @@
 //! How much was compared.
 
 use super::compare::Act;
+use super::owed;
 use super::prints::MOST_DIGITS;
 use crate::model::board::{Board, ITEM, MOST_ITEMS, RESULT};
 use crate::model::calls::Call;
@@ -8,6 +9,7 @@ use crate::model::sheet::{Item, MAX_ITEMS, MAX_LEVEL};
 use crate::model::table::{decode, Cell, Mark};
 use crate::model::value::Value;
 use std::fmt;
+use std::ops::Range;
 
 /// The functions compared, and the refusals that each can give.
 pub const FUNCTIONS: [(&str, &[usize]); 10] = [
@@ -82,6 +84,16 @@ pub struct Tally {
     pub closes_as_keeps: u64,
     /// Accepted tables of no opening that were closed, to go on from.
     pub closed_tables: u64,
+    /// How often each of `owed::MET` was met.
+    pub owed: owed::Times,
+    /// Lists that were also given to the calls as they were before owed bytes.
+    pub before_lists: u64,
+    /// Values that these read on both sides.
+    pub before_readings: u64,
+    /// Their steps that one side alone took, or that did another step.
+    pub before_steps: u64,
+    /// How often their tables then differed in kind, number or mark.
+    pub before_tables: u64,
     pub lists: u64,
     /// Lists that begin with an accepted table of no opening.
     pub lists_from_tables: u64,
@@ -198,8 +210,9 @@ impl Tally {
     }
 
     /// The refusals that some function can give, or a day print, the lists of boards, the tables and
-    /// sheets of closes, and numbers of each length in print, that were never met; also products of shares beyond a signed 64-bit
-    /// number, if they were fewer than one in twenty.
+    /// sheets of closes, what is done to owed bytes and false ones, and numbers of each length in
+    /// print, that were never met; also products of shares beyond a signed 64-bit number, if they
+    /// were fewer than one in twenty.
     pub fn never_met(&self) -> Vec<String> {
         let mut missing = Vec::new();
         for ((name, numbers), given) in FUNCTIONS.iter().zip(&self.given) {
@@ -212,6 +225,9 @@ impl Tally {
         }
         for (name, _) in CLOSES.iter().zip(&self.closes).filter(|(_, &times)| times == 0) {
             missing.push(format!("close, {name}"));
+        }
+        for (name, _) in owed::MET.iter().zip(&self.owed).filter(|(_, &times)| times == 0) {
+            missing.push(format!("owed, {name}"));
         }
         for (name, digits) in DIGITS.iter().zip(&self.digits) {
             for length in (1..=MOST_DIGITS).filter(|&length| digits[length] == 0) {
@@ -251,6 +267,20 @@ fn times(met: &[u64]) -> String {
     met.map(|(number, times)| format!(" {number}:{times}")).collect()
 }
 
+impl Tally {
+    fn write_owed(&self, f: &mut fmt::Formatter) -> fmt::Result {
+        let (done, at_fault) = (0..owed::FALSE, owed::FALSE..owed::MET.len());
+        let owed = |part: Range<usize>| named(&owed::MET[part.clone()], &self.owed[part]);
+        writeln!(f, "owed bytes, by what calls do: {}", owed(done))?;
+        writeln!(f, "false owed bytes refused: {}", owed(at_fault))?;
+        writeln!(
+            f,
+            "lists held against the telling of before: {} ({} values read; other marks in {} tables, at {} steps)",
+            self.before_lists, self.before_readings, self.before_tables, self.before_steps
+        )
+    }
+}
+
 impl fmt::Display for Tally {
     fn fmt(&self, f: &mut fmt::Formatter) -> fmt::Result {
         writeln!(f, "calls compared: {}", self.calls())?;
@@ -271,6 +301,7 @@ impl fmt::Display for Tally {
             self.closes_as_asks, self.closes_as_keeps
         )?;
         writeln!(f, "tables of no opening closed, and gone on with: {}", self.closed_tables)?;
+        self.write_owed(f)?;
         writeln!(
             f,
             "lists: {} ({} from a table of no opening); pairs of offices: {}",
@@ -305,6 +336,7 @@ mod tests {
     fn full() -> Tally {
         let mut tally = Tally { days: 1, ..Tally::default() };
         (tally.boards, tally.closes) = ([1; BOARDS.len()], [1; CLOSES.len()]);
+        tally.owed = [1; owed::MET.len()];
         for ((_, numbers), given) in FUNCTIONS.iter().zip(&mut tally.given) {
             numbers.iter().chain(&[0]).for_each(|&n| given[n] = 1);
         }
@@ -335,6 +367,11 @@ mod tests {
             let mut tally = full();
             tally.closes[at] = 0;
             assert_eq!(tally.never_met(), [format!("close, {name}")]);
+        }
+        for (at, name) in owed::MET.iter().enumerate() {
+            let mut tally = full();
+            tally.owed[at] = 0;
+            assert_eq!(tally.never_met(), [format!("owed, {name}")]);
         }
         for (at, (word, numbers)) in LINES.iter().enumerate() {
             for &number in *numbers {
@@ -434,7 +471,7 @@ mod tests {
             let (mut before, mut after) = ([one; 5], [one; 5]);
             (before[item], after[item]) = (old, new);
             let mut tally = Tally::default();
-            tally.count_close(&items, &encode(&before), &encode(&after));
+            tally.count_close(&items, &encode(&items, &before), &encode(&items, &after));
             let mut right = [0; CLOSES.len()];
             right[at] = 1;
             // An unmarked OUT is an unmarked value, too.

@@ -1,11 +1,11 @@
 //! The mock's board, and how it can be wrong.
 
-use super::{Mock, Sweep, Wrong};
+use super::{By, Mock, Sweep, Wrong};
 use crate::guarded::Guarded;
 use crate::model::board::{self, Board, ITEM, MOST_ITEMS, RESULT};
 use crate::model::calls::Reply;
 use crate::model::sheet::{read_sheet, Item};
-use crate::model::table::{decode, encode, to_pair};
+use crate::model::table::to_pair;
 
 fn listed(lists: &Board) -> Vec<usize> {
     lists.items.chunks_exact(ITEM).map(|i| u16::from_le_bytes([i[0], i[1]]) as usize).collect()
@@ -45,11 +45,11 @@ impl Sweep<'_> {
         }
         let mut results = Vec::new();
         for &i in listed {
-            let before = self.cells.clone();
+            let before = (self.cells.clone(), self.owed.clone());
             let looked_up = self.look_up(i);
             match self.wrong {
-                Wrong::BoardStoresNothing => self.cells = before,
-                Wrong::BoardStoresAll => self.store(i, looked_up),
+                Wrong::BoardStoresNothing => (self.cells, self.owed) = before,
+                Wrong::BoardStoresAll => self.store(i, looked_up, By::LookUp),
                 _ => {}
             }
             let (kind, number) = to_pair(looked_up.0);
@@ -75,9 +75,9 @@ impl Mock {
     ) -> Reply {
         let wrong = self.0;
         let lists = Board { items: items.bytes().to_vec(), results: results.bytes().to_vec() };
+        let (taken, mut b) = (wrong.taken(sheet, table), lists.results.clone());
         // The model is asked only whether the board is refused.
-        let (mut a, mut b) = (table.to_vec(), lists.results.clone());
-        let mut reply = board::board(sheet, index, &mut a, &lists.items, &mut b);
+        let mut reply = board::board(sheet, index, &mut taken.clone(), &lists.items, &mut b);
         let circuit = read_sheet(sheet).unwrap_or_default();
         reply.number = wrong_number(wrong, reply.number, &lists, &circuit);
         let refused = reply.number != 0;
@@ -91,10 +91,9 @@ impl Mock {
         if listed.is_empty() && !refused && wrong != Wrong::EmptyBoardCatchesUp {
             return reply;
         }
-        let cells = decode(&circuit, table).unwrap();
-        let mut machine = Sweep { items: &circuit, cells, wrong };
+        let mut machine = Sweep::new(&circuit, &taken, wrong);
         let written = machine.board(&listed);
-        table.copy_from_slice(&encode(&machine.cells));
+        machine.write(table);
         results.bytes_mut()[..written.len()].copy_from_slice(&written);
         match wrong {
             Wrong::BoardChangesItems => items.bytes_mut().reverse(),

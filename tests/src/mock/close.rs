@@ -1,11 +1,12 @@
 //! The mock's season-close run, and how it can be wrong.
 
-use super::{Mock, Sweep, Wrong};
+use super::{By, Mock, Sweep, Wrong};
+use crate::gen::make_owed_true;
 use crate::guarded::Guarded;
 use crate::model::calls::Reply;
 use crate::model::close;
 use crate::model::sheet::{read_sheet, Item};
-use crate::model::table::{decode, encode, Cell, Mark, CELL};
+use crate::model::table::{decode, Cell, Mark, RECORD};
 use crate::model::value::Value;
 
 impl Wrong {
@@ -84,6 +85,11 @@ impl Sweep<'_> {
         for i in 0..passed {
             self.cells[i] = self.wrong.left(&self.items[i], old[i], values[i]);
         }
+        match self.wrong {
+            Wrong::CloseLeavesOwed => {}
+            Wrong::CloseOwesAll => self.owed.fill(true),
+            _ => self.reckon(),
+        }
     }
 
     fn closing_values(&self, old: &[Cell]) -> Vec<Value> {
@@ -92,7 +98,8 @@ impl Sweep<'_> {
             // Of a parent nothing but its old record is there.
             Wrong::CloseFromTheTop => old.iter().map(stored).collect(),
             Wrong::CloseFromTheOldTable => {
-                Sweep { cells: old.to_vec(), ..*self }.all(old.len() - 1)
+                let owed = self.owed.clone();
+                Sweep { cells: old.to_vec(), owed, ..*self }.all(old.len() - 1)
             }
             _ => return self.all(old.len() - 1).iter().map(|g| g.0).collect(),
         };
@@ -111,27 +118,28 @@ impl Sweep<'_> {
         for i in 0..self.items.len() {
             if self.cells[i].stored.is_none() && self.wrong != Wrong::CloseOnlyCatchesUp {
                 let given = self.look_up(i);
-                self.store(i, given);
+                self.store(i, given, By::Keep);
             }
         }
     }
 }
 
-/// The table with nothing stored for its figures.
+/// The table with nothing stored for its figures, so that nothing is owed.
 fn without_figures(items: &[Item], table: &[u8]) -> Vec<u8> {
     let mut table = table.to_vec();
-    for (item, record) in items.iter().zip(table.chunks_mut(CELL)) {
+    for (item, record) in items.iter().zip(table.chunks_mut(RECORD)) {
         if item.figure.is_some() {
             record.fill(0);
         }
     }
+    make_owed_true(items, &mut table);
     table
 }
 
 /// The number that a wrong mock gives in place of the right one.
 fn wrong_number(wrong: Wrong, number: u64, sheet: &[u8], table: &[u8]) -> u64 {
     let Ok(items) = read_sheet(sheet) else { return number };
-    let marked = table.chunks(CELL).any(|record| record.get(1).is_some_and(|&mark| mark != 0));
+    let marked = table.chunks(RECORD).any(|record| record.get(1).is_some_and(|&mark| mark != 0));
     let in_form = number > 8 && decode(&items, table).is_some();
     let entries_fit = number == 10 && decode(&items, &without_figures(&items, table)).is_some();
     match (wrong, number) {
@@ -152,27 +160,29 @@ impl Mock {
         table: &mut Guarded,
     ) -> Reply {
         let wrong = self.0;
+        let mut taken = wrong.taken(sheet, table.bytes());
         // The model is asked only whether the run is refused.
-        let mut reply = close::close(sheet, index.bytes(), &mut table.bytes().to_vec());
-        reply.number = wrong_number(wrong, reply.number, sheet, table.bytes());
+        let mut reply = close::close(sheet, index.bytes(), &mut taken.clone());
+        reply.number = wrong_number(wrong, reply.number, sheet, &taken);
         if reply.number != 0 {
-            let records = table.bytes_mut().chunks_mut(CELL);
+            let records = table.bytes_mut().chunks_mut(RECORD);
             let marks = records.filter_map(|record| record.get_mut(1));
             marks.filter(|_| wrong == Wrong::RefusedCloseClearsMarks).for_each(|mark| *mark = 0);
             return reply;
         }
         let items = read_sheet(sheet).unwrap();
-        let taken = wrong.with_parents(&items);
-        let cells = decode(&items, table.bytes())
-            .or_else(|| decode(&items, &without_figures(&items, table.bytes())));
-        let mut machine = Sweep { items: &taken, cells: cells.unwrap(), wrong };
+        if decode(&items, &taken).is_none() {
+            taken = without_figures(&items, &taken);
+        }
+        let listed = wrong.with_parents(&items);
+        let mut machine = Sweep { items: &listed, ..Sweep::new(&items, &taken, wrong) };
         match wrong {
             Wrong::CloseOnlyCatchesUp | Wrong::CloseCatchesUpAndKeeps | Wrong::CloseOnlyKeeps => {
                 machine.close_by_calls()
             }
             _ => machine.close(),
         }
-        table.bytes_mut().copy_from_slice(&encode(&machine.cells));
+        machine.write(table.bytes_mut());
         match wrong {
             Wrong::CloseChangesIndex => index.bytes_mut()[0] ^= 1,
             Wrong::CloseWritesPastTheTable => table.break_guard(),

@@ -1,9 +1,9 @@
-//! How the mock can still be of the older range, or wrong about what it left in a table.
+//! How the mock can still be of the older range, or refuse what an engine leaves in a table.
 
 use super::Wrong;
 use crate::gen::OLDER_LIMIT;
 use crate::model::calls::Call;
-use crate::model::table::Cell;
+use crate::model::table::{Cell, Mark};
 use crate::model::value::Value;
 
 pub(super) fn beyond(number: i64) -> bool {
@@ -15,13 +15,16 @@ pub(super) fn is_out(cell: &Cell) -> bool {
 }
 
 impl Wrong {
-    /// The number of a call that is accepted in the range of grams.
-    pub(super) fn refusal(self, call: &Call, cells: &[Cell]) -> Option<u64> {
+    /// The number of a call that is accepted.
+    pub(super) fn refusal(self, call: &Call, cells: &[Cell], owed: &[bool]) -> Option<u64> {
         let wide = |c: &Cell| matches!(c.stored, Some(Value::Number(x)) if beyond(x));
+        let idle =
+            |(c, &owed): (&Cell, &bool)| *c == Cell { stored: None, mark: Mark::Notice } && !owed;
         match (self, call) {
             (Wrong::PostsInOlderRange, Call::Post { number, .. }) if beyond(*number) => Some(13),
             (Wrong::TablesInOlderRange, _) if cells.iter().any(wide) => Some(10),
             (Wrong::RefusesStoredOut, _) if cells.iter().any(is_out) => Some(10),
+            (Wrong::RefusesUnowedNotice, _) if cells.iter().zip(owed).any(idle) => Some(10),
             _ => None,
         }
     }

@@ -56,7 +56,7 @@ fn accepted_board(
     let mut machine = Machine::new(&circuit, cells);
     machine.catch_up();
     let values = listed.iter().map(|&i| machine.look_up(i).0).collect();
-    Ok((encode(&machine.cells), values))
+    Ok((encode(&circuit, &machine.cells), values))
 }
 
 /// Refusal 17.
@@ -98,7 +98,7 @@ mod tests {
 
     /// The example with 1,000 and 300 posted.
     fn posted() -> Book {
-        let mut b = Book { index: vec![7; 20], table: vec![7; 50] };
+        let mut b = Book { index: vec![7; 20], table: vec![7; 55] };
         assert_eq!(open(false, &EXAMPLE, &mut b.index, &mut b.table), ACCEPTED);
         for (item, number) in [(0, 1_000), (1, 300)] {
             let post = Call::Post { item, kind: 3, number };
@@ -134,9 +134,10 @@ mod tests {
         let right = [700, 0, 1_000, 700, 1_000].map(|x: i64| if x == 0 { (1, 0) } else { (3, x) });
         let pair = |r: &[u8]| (r[0], i64::from_le_bytes(r[1..].try_into().unwrap()));
         assert_eq!(results.chunks(9).map(pair).collect::<Vec<_>>(), right);
-        // Figure 3 is kept, figure 4 is not, and no mark stands.
-        assert_eq!((b.table[30], b.table[40]), (3, 0));
-        assert!(b.table.chunks(10).all(|c| c[1] == 0));
+        // Figure 3 is kept, so that 0 and 2 are owed; figure 4 is not, and no mark stands.
+        let bytes = |at: usize| b.table.chunks(11).map(|r| r[at]).collect::<Vec<u8>>();
+        assert_eq!((bytes(0)[3..].to_vec(), bytes(10)), (vec![3, 0], vec![1, 0, 1, 0, 0]));
+        assert_eq!(bytes(1), [0; 5]);
         let post = Call::Post { item: 0, kind: 3, number: LIMIT };
         call(&post, &EXAMPLE, &b.index, &mut b.table);
         let post = Call::Post { item: 2, kind: 3, number: 1 };
@@ -149,7 +150,7 @@ mod tests {
     fn an_empty_list_changes_nothing() {
         let mut b = posted();
         let before = b.table.clone();
-        assert_eq!((b.table[1], b.table[11]), (2, 2));
+        assert_eq!((b.table[1], b.table[12]), (2, 2));
         assert_eq!(b.board(&[], &mut []), ACCEPTED);
         assert_eq!(b.table, before);
         assert_eq!(b.refusal(&[], 1), 17);
@@ -179,7 +180,7 @@ mod tests {
                 assert_eq!(b.refusal(&list(&items), 585), 17);
             }
         }
-        b.table[49] = 1;
+        b.table[53] = 1;
         assert_eq!(b.refusal(&list(&over), 0), 10);
         b.index[19] = 1;
         assert_eq!(b.refusal(&list(&over), 0), 9);

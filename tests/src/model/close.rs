@@ -11,7 +11,7 @@ pub fn close(sheet: &[u8], index: &[u8], table: &mut [u8]) -> Reply {
         Err(fault) => refused(fault),
         Ok((items, mut cells)) => {
             run(&items, &mut cells);
-            table.copy_from_slice(&encode(&cells));
+            table.copy_from_slice(&encode(&items, &cells));
             ACCEPTED
         }
     }
@@ -19,7 +19,7 @@ pub fn close(sheet: &[u8], index: &[u8], table: &mut [u8]) -> Reply {
 
 /// An entry keeps its value. A figure is worked out from its parents, which the run has passed, and
 /// stored. No mark is left.
-fn run(items: &[Item], cells: &mut [Cell]) {
+pub(super) fn run(items: &[Item], cells: &mut [Cell]) {
     for (i, item) in items.iter().enumerate() {
         if let Some(figure) = &item.figure {
             let stored = |&parent: &usize| cells[parent].stored.unwrap();
@@ -40,11 +40,14 @@ mod tests {
     /// A record: kind, mark, number.
     type Record = (u8, u8, i64);
 
+    /// The owed bytes of 0 to 4 are true where figure 3 or 4 is stored.
     fn table_of(records: [Record; 5]) -> Vec<u8> {
-        let record = |(kind, mark, number): Record| {
-            [vec![kind, mark], number.to_le_bytes().to_vec()].concat()
+        let [t, b] = [3, 4].map(|figure: usize| (records[figure].0 != 0) as u8);
+        let owed = [t | b, b, t | b, b, 0];
+        let record = |((kind, mark, number), owed): (Record, u8)| {
+            [vec![kind, mark], number.to_le_bytes().to_vec(), vec![owed]].concat()
         };
-        records.into_iter().flat_map(record).collect()
+        records.into_iter().zip(owed).flat_map(record).collect()
     }
 
     fn closed(before: [Record; 5], after: [Record; 5]) {
@@ -86,7 +89,7 @@ mod tests {
 
     #[test]
     fn refusals_in_order() {
-        let (mut index, mut table) = (vec![7; 20], vec![7; 50]);
+        let (mut index, mut table) = (vec![7; 20], vec![7; 55]);
         assert_eq!(open(false, &EXAMPLE, &mut index, &mut table), ACCEPTED);
         let post = Call::Post { item: 0, kind: 3, number: 5 };
         assert_eq!(call(&post, &EXAMPLE, &index, &mut table), ACCEPTED);
@@ -97,12 +100,14 @@ mod tests {
             (reply.number, reply.offset)
         };
         let (good_index, mut good_table) = (index.clone(), table.clone());
-        table[49] = 1;
+        table[54] = 1;
+        assert_eq!(refusal(&EXAMPLE, &good_index, &table), (10, 0));
+        (table[53], table[54]) = (1, 0);
         assert_eq!(refusal(&EXAMPLE, &good_index, &table), (10, 0));
         index[19] = 1;
         assert_eq!(refusal(&EXAMPLE, &index, &good_table), (9, 0));
         assert_eq!(refusal(&EXAMPLE, &index, &table), (9, 0));
-        assert_eq!(refusal(&EXAMPLE, &index, &table[..49]), (8, 0));
+        assert_eq!(refusal(&EXAMPLE, &index, &table[..50]), (8, 0));
         assert_eq!(refusal(&EXAMPLE, &index[..19], &table), (8, 0));
         assert_eq!(refusal(&EXAMPLE[..45], &index[..19], &table), (1, 43));
         assert_eq!(close(&EXAMPLE, &good_index, &mut good_table), ACCEPTED);

@@ -4,7 +4,7 @@ use super::calls::{call, open, Call};
 use super::field::{field_at, i64_at, u16_at, Field};
 use super::printer::text_of;
 use super::sheet::read_sheet;
-use super::table::{from_pair, CELL};
+use super::table::{from_pair, RECORD};
 
 /// So many bytes of each file are read.
 pub const MOST: usize = 65_536;
@@ -18,7 +18,7 @@ fn lines(sheet: &[u8], day: &[u8]) -> String {
         Ok(items) => items.len(),
         Err(fault) => return format!("SHEET {} {}\n", fault.number, fault.offset),
     };
-    let (mut index, mut table) = (vec![0; 4 * count], vec![0; CELL * count]);
+    let (mut index, mut table) = (vec![0; 4 * count], vec![0; RECORD * count]);
     assert_eq!(open(false, sheet, &mut index, &mut table).number, 0);
     let mut output = String::new();
     let mut offset = 0;

@@ -1,17 +1,29 @@
 //! Looking up, telling and stepping, on cells.
 
 use super::sheet::{Figure, Item, Spread};
-use super::table::{Cell, Mark};
+use super::table::{owed, Cell, Mark};
 use super::value::{apply, Value};
+
+/// Which children without a stored value are told.
+#[derive(Clone, Copy, PartialEq, Eq, Debug)]
+pub enum Telling {
+    /// Those that are owed.
+    Owed,
+    /// All of them, as it was before tables had an owed byte.
+    All,
+}
 
 pub struct Machine<'a> {
     items: &'a [Item],
     pub cells: Vec<Cell>,
+    telling: Telling,
     /// What an unstored figure gave earlier in the same look-up pass. Within one pass cells are
     /// only filled with what they gave, so a second look-up gives the same again. Off: plain
     /// recursion, which on doubled parents takes time exponential in the level.
     remember: bool,
     seen: Vec<Option<(Value, bool)>>,
+    /// Which items are owed, until what is stored changes.
+    owed: Option<Vec<bool>>,
 }
 
 /// Above this many paths from an item up the circuit, results are remembered.
@@ -24,7 +36,12 @@ impl<'a> Machine<'a> {
     }
 
     pub fn with(items: &'a [Item], cells: Vec<Cell>, remember: bool) -> Self {
-        Machine { items, cells, remember, seen: vec![None; items.len()] }
+        let seen = vec![None; items.len()];
+        Machine { items, cells, telling: Telling::Owed, remember, seen, owed: None }
+    }
+
+    pub fn telling(self, telling: Telling) -> Self {
+        Machine { telling, ..self }
     }
 
     fn figure(&self, i: usize) -> &'a Figure {
@@ -74,16 +91,28 @@ impl<'a> Machine<'a> {
         (apply(figure.rule, &values), looked_up.iter().any(|l| l.1))
     }
 
-    fn store_looked_up(&mut self, i: usize, value: Value, flagged: bool) {
-        self.cells[i].stored = Some(value);
-        if flagged {
-            self.cells[i].mark = Mark::Notice;
+    /// Every change of what is stored passes through here.
+    fn store(&mut self, i: usize, stored: Option<Value>, mark: Mark) {
+        if self.cells[i].stored.is_some() != stored.is_some() {
+            self.owed = None;
         }
+        self.cells[i] = Cell { stored, mark };
+    }
+
+    /// Whether the item is owed by the cells as they are now.
+    fn is_owed(&mut self, i: usize) -> bool {
+        let (items, cells) = (self.items, &self.cells);
+        self.owed.get_or_insert_with(|| owed(items, cells))[i]
+    }
+
+    fn store_looked_up(&mut self, i: usize, value: Value, flagged: bool) {
+        let mark = if flagged { Mark::Notice } else { self.cells[i].mark };
+        self.store(i, Some(value), mark);
     }
 
     pub fn post(&mut self, i: usize, value: Value) {
         if self.cells[i].stored != Some(value) {
-            self.cells[i] = Cell { stored: Some(value), mark: Mark::Notice };
+            self.store(i, Some(value), Mark::Notice);
         }
     }
 
@@ -95,11 +124,11 @@ impl<'a> Machine<'a> {
     }
 
     pub fn drop(&mut self, i: usize) {
-        let cell = &mut self.cells[i];
-        cell.stored = None;
-        if cell.mark == Mark::Refresh {
-            cell.mark = Mark::Notice;
-        }
+        let mark = match self.cells[i].mark {
+            Mark::Refresh => Mark::Notice,
+            mark => mark,
+        };
+        self.store(i, None, mark);
     }
 
     /// One step of a marked item.
@@ -111,7 +140,7 @@ impl<'a> Machine<'a> {
                 if self.cells[i].stored == Some(value) {
                     self.cells[i].mark = Mark::None;
                 } else {
-                    self.cells[i] = Cell { stored: Some(value), mark: Mark::Notice };
+                    self.store(i, Some(value), Mark::Notice);
                 }
             }
             Mark::Notice => {
@@ -133,11 +162,13 @@ impl<'a> Machine<'a> {
     fn tell(&mut self, child: usize) {
         let cell = self.cells[child];
         if cell.stored.is_none() {
-            self.cells[child].mark = Mark::Notice;
+            if self.telling == Telling::All || self.is_owed(child) {
+                self.cells[child].mark = Mark::Notice;
+            }
             return;
         }
         match self.figure(child).spread {
-            Spread::Forget => self.cells[child] = Cell { stored: None, mark: Mark::Notice },
+            Spread::Forget => self.store(child, None, Mark::Notice),
             Spread::Defer if cell.mark != Mark::Notice => self.cells[child].mark = Mark::Refresh,
             Spread::Defer | Spread::Renew => self.renew(child),
         }
@@ -146,7 +177,7 @@ impl<'a> Machine<'a> {
     fn renew(&mut self, child: usize) {
         let value = self.work_out(child);
         if self.cells[child].stored != Some(value) {
-            self.cells[child] = Cell { stored: Some(value), mark: Mark::Notice };
+            self.store(child, Some(value), Mark::Notice);
         } else if self.cells[child].mark == Mark::Refresh {
             self.cells[child].mark = Mark::None;
         }
@@ -184,6 +215,13 @@ mod tests {
     use crate::gen;
     use crate::rng::Rng;
 
+    const NULL: Cell = Cell { stored: Some(Value::Null), mark: Mark::None };
+    const UNK: Cell = Cell { stored: None, mark: Mark::None };
+
+    fn entry() -> gen::Spec {
+        gen::Spec::Entry(b"A".to_vec())
+    }
+
     fn numbered(x: i64) -> Option<Value> {
         Some(Value::Number(x))
     }
@@ -193,9 +231,7 @@ mod tests {
     fn a_late_keep_carries_notice() {
         let sheet = gen::plain_chain(2);
         let items = read_sheet(&sheet).unwrap();
-        let unk = Cell { stored: None, mark: Mark::None };
-        let null = Cell { stored: Some(Value::Null), mark: Mark::None };
-        let mut m = Machine::new(&items, vec![null, unk, unk]);
+        let mut m = Machine::new(&items, vec![NULL, UNK, UNK]);
         m.post(0, Value::Number(1));
         m.keep(2);
         m.post(0, Value::Number(6));
@@ -211,7 +247,7 @@ mod tests {
     #[test]
     fn a_step_clears_the_mark_last() {
         let sheet = gen::write_sheet(&[
-            gen::Spec::Entry(b"A".to_vec()),
+            entry(),
             gen::spec_figure(1, 1, 0, &[0]),
             gen::spec_figure(1, 0, 1, &[1]),
         ]);
@@ -239,6 +275,52 @@ mod tests {
         ];
         let mut m = Machine::new(&items, start);
         assert_eq!(m.ask(2), Value::Null);
+    }
+
+    /// Entry 0 with the children 1 and 2; 3 is a child of 1, and 4 of 2. Only 4 is stored.
+    #[test]
+    fn telling_passes_over_what_is_not_owed() {
+        let figure = |parent| gen::spec_figure(1, 0, 0, &[parent]);
+        let specs = [entry(), figure(0), figure(0), figure(1), figure(2)];
+        let items = read_sheet(&gen::write_sheet(&specs)).unwrap();
+        for (telling, first) in [(Telling::Owed, Mark::None), (Telling::All, Mark::Notice)] {
+            let mut m = Machine::new(&items, vec![NULL, UNK, UNK, UNK, NULL]).telling(telling);
+            m.post(0, Value::Number(6));
+            m.step(0);
+            let marks = [1, 2, 3, 4].map(|i| m.cells[i].mark);
+            assert_eq!(marks, [first, Mark::Notice, Mark::None, Mark::None]);
+            assert_eq!(m.ask(4), Value::Number(6));
+        }
+    }
+
+    /// Entries 0 and 1, figure 2 of 1, figure 3 of 0 and 2. The only stored child of 2 forgets: then
+    /// 2 is no longer owed, and is passed over. What forgets has notice, although nothing is owed it.
+    #[test]
+    fn owed_is_of_the_moment() {
+        let sum = |spread, parents: &[u16]| gen::spec_figure(1, 0, spread, parents);
+        let specs = [entry(), entry(), sum(0, &[1]), sum(2, &[0, 2])];
+        let items = read_sheet(&gen::write_sheet(&specs)).unwrap();
+        let mut m = Machine::new(&items, vec![NULL, NULL, UNK, NULL]);
+        assert!(m.is_owed(2));
+        m.post(0, Value::Number(6));
+        m.post(1, Value::Number(1));
+        m.step(0);
+        assert_eq!(m.cells[3], Cell { mark: Mark::Notice, ..UNK });
+        m.step(1);
+        assert_eq!(m.cells[2], UNK);
+        assert_eq!(m.ask(3), Value::Number(7));
+    }
+
+    /// A notice on a figure that is not owed stays until it is stepped.
+    #[test]
+    fn a_notice_that_is_not_owed_stays() {
+        let items = read_sheet(&gen::plain_chain(1)).unwrap();
+        let mut m = Machine::new(&items, vec![NULL, Cell { mark: Mark::Notice, ..UNK }]);
+        m.post(0, Value::Number(6));
+        m.step(0);
+        assert_eq!(m.cells[1], Cell { mark: Mark::Notice, ..UNK });
+        m.step(1);
+        assert_eq!(m.cells[1], UNK);
     }
 
     /// Remembering within a pass changes nothing.
@@ -282,6 +364,7 @@ mod tests {
                     _ => {}
                 }
                 assert_eq!(plain.cells, quick.cells);
+                assert!((0..items.len()).all(|i| quick.is_owed(i) == owed(&items, &plain.cells)[i]));
             }
         }
     }

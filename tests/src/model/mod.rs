@@ -1,5 +1,6 @@
 //! The second implementation: the paper's definitions in plain steps.
 
+pub mod before;
 pub mod board;
 pub mod calls;
 pub mod close;

@@ -1,10 +1,13 @@
-//! The work table: one cell an item, 10 bytes a cell.
+//! The work table: one record an item, 11 bytes a record: kind, mark, number and owed.
 
 use super::field::i64_at;
 use super::sheet::Item;
 use super::value::{in_range, Value};
 
-pub const CELL: usize = 10;
+/// The bytes of a record.
+pub const RECORD: usize = 11;
+/// Where the owed byte stands in a record.
+pub const OWED: usize = 10;
 
 #[derive(Clone, Copy, PartialEq, Eq, Debug)]
 pub enum Mark {
@@ -13,7 +16,7 @@ pub enum Mark {
     Notice,
 }
 
-/// An item's stored value (None is UNK) and mark.
+/// An item's stored value (None is UNK) and mark. Whether it is owed follows from all cells.
 #[derive(Clone, Copy, PartialEq, Eq, Debug)]
 pub struct Cell {
     pub stored: Option<Value>,
@@ -39,9 +42,28 @@ pub fn from_pair(kind: u64, number: i64) -> Option<Value> {
     }
 }
 
-/// The cells of a table of the right length; none if a cell breaks its form or its range.
+/// Which items are owed: some child is stored, or is UNK and itself owed. A child has a higher
+/// number than its parents, so that with the highest item first each is known before its parents.
+pub fn owed(items: &[Item], cells: &[Cell]) -> Vec<bool> {
+    let mut owed = vec![false; items.len()];
+    for (child, item) in items.iter().enumerate().rev() {
+        if let (Some(figure), true) = (&item.figure, cells[child].stored.is_some() || owed[child]) {
+            figure.parents.iter().for_each(|&parent| owed[parent] = true);
+        }
+    }
+    owed
+}
+
+/// The cells of a table of the right length; none if a record breaks its form or its range, or if
+/// an owed byte is false.
 pub fn decode(items: &[Item], table: &[u8]) -> Option<Vec<Cell>> {
-    items.iter().zip(table.chunks(CELL)).map(|(item, bytes)| decode_cell(item, bytes)).collect()
+    let records = || table.chunks(RECORD);
+    let cells: Option<Vec<Cell>> =
+        items.iter().zip(records()).map(|(item, bytes)| decode_cell(item, bytes)).collect();
+    let cells = cells?;
+    let owed = owed(items, &cells);
+    let truly = records().zip(owed).all(|(bytes, owed)| bytes[OWED] == owed as u8);
+    truly.then_some(cells)
 }
 
 fn decode_cell(item: &Item, bytes: &[u8]) -> Option<Cell> {
@@ -70,19 +92,23 @@ fn decode_cell(item: &Item, bytes: &[u8]) -> Option<Cell> {
     Some(Cell { stored, mark })
 }
 
-pub fn encode(cells: &[Cell]) -> Vec<u8> {
-    let mut table = Vec::new();
-    for cell in cells {
-        let (kind, number) = cell.stored.map_or((0, 0), to_pair);
-        table.push(kind);
-        table.push(match cell.mark {
-            Mark::None => 0,
-            Mark::Refresh => 1,
-            Mark::Notice => 2,
-        });
-        table.extend(number.to_le_bytes());
-    }
-    table
+/// The table of these cells, with the owed bytes that are true of them.
+pub fn encode(items: &[Item], cells: &[Cell]) -> Vec<u8> {
+    cells.iter().zip(owed(items, cells)).flat_map(|(cell, owed)| record(cell, owed)).collect()
+}
+
+pub fn record(cell: &Cell, owed: bool) -> [u8; RECORD] {
+    let (kind, number) = cell.stored.map_or((0, 0), to_pair);
+    let mut bytes = [0; RECORD];
+    bytes[0] = kind;
+    bytes[1] = match cell.mark {
+        Mark::None => 0,
+        Mark::Refresh => 1,
+        Mark::Notice => 2,
+    };
+    bytes[2..OWED].copy_from_slice(&number.to_le_bytes());
+    bytes[OWED] = owed as u8;
+    bytes
 }
 
 #[cfg(test)]
@@ -90,11 +116,11 @@ mod tests {
     use super::super::sheet::{read_sheet, EXAMPLE};
     use super::super::value::LIMIT;
     use super::*;
+    use crate::gen;
+    use crate::rng::Rng;
 
-    fn cell(kind: u8, mark: u8, number: i64) -> Vec<u8> {
-        let mut bytes = vec![kind, mark];
-        bytes.extend(number.to_le_bytes());
-        bytes
+    fn bytes_of(kind: u8, mark: u8, number: i64) -> Vec<u8> {
+        [vec![kind, mark], number.to_le_bytes().to_vec(), vec![0]].concat()
     }
 
     #[test]
@@ -109,12 +135,67 @@ mod tests {
                     let any = kind <= 3 && mark <= 2 && number_fits;
                     let as_entry = any && kind != 0 && kind != 2 && mark != 1;
                     let as_figure = any && !(kind == 0 && mark == 1);
-                    let bytes = cell(kind, mark, number);
+                    let bytes = bytes_of(kind, mark, number);
                     assert_eq!(decode_cell(entry, &bytes).is_some(), as_entry);
                     assert_eq!(decode_cell(figure, &bytes).is_some(), as_figure);
                     if let Some(c) = decode_cell(figure, &bytes) {
-                        assert_eq!(encode(&[c]), bytes);
+                        assert_eq!(record(&c, false)[..], bytes);
                     }
+                }
+            }
+        }
+    }
+
+    /// The paper's sentence, word for word.
+    fn is_owed(items: &[Item], cells: &[Cell], i: usize) -> bool {
+        let is_child = |c: usize| items[c].figure.iter().any(|f| f.parents.contains(&i));
+        let mut children = (0..items.len()).filter(|&c| is_child(c));
+        children.any(|c| cells[c].stored.is_some() || is_owed(items, cells, c))
+    }
+
+    #[test]
+    fn owed_is_as_it_is_defined() {
+        let mut rng = Rng::new(12);
+        let mut met = [[0; 2]; 3];
+        for _ in 0..2_000 {
+            let items = read_sheet(&gen::write_sheet(&gen::small_specs(&mut rng))).unwrap();
+            let table = gen::accepted_table(&mut rng, &items);
+            let cells = decode(&items, &table).unwrap();
+            assert_eq!(encode(&items, &cells), table);
+            for (i, owed) in owed(&items, &cells).into_iter().enumerate() {
+                assert_eq!(owed, is_owed(&items, &cells, i));
+                let kind = if items[i].figure.is_none() {
+                    0
+                } else {
+                    1 + (table[RECORD * i] != 0) as usize
+                };
+                met[kind][owed as usize] += 1;
+            }
+        }
+        assert!(met.iter().flatten().all(|&m| m > 500), "{met:?}");
+    }
+
+    /// Of the example's forms each is accepted with its true owed bytes, and with no others.
+    #[test]
+    fn a_false_owed_byte_breaks_the_table() {
+        let items = read_sheet(&EXAMPLE).unwrap();
+        let null = Cell { stored: Some(Value::Null), mark: Mark::None };
+        let unk = Cell { stored: None, ..null };
+        for (t, b, right) in [
+            (unk, unk, [0, 0, 0, 0, 0]),
+            (null, unk, [1, 0, 1, 0, 0]),
+            (unk, null, [1, 1, 1, 1, 0]),
+            (null, null, [1, 1, 1, 1, 0]),
+        ] {
+            let cells = [null, null, null, t, b];
+            let table = encode(&items, &cells);
+            assert_eq!(table.chunks(RECORD).map(|r| r[OWED]).collect::<Vec<u8>>(), right);
+            assert_eq!(decode(&items, &table).as_deref(), Some(&cells[..]));
+            for item in 0..5 {
+                for byte in (0..=255).filter(|&byte| byte != right[item]) {
+                    let mut table = table.clone();
+                    table[RECORD * item + OWED] = byte;
+                    assert_eq!(decode(&items, &table), None);
                 }
             }
         }
