@@ -32,16 +32,15 @@ struct value {
  * The work of a call. A figure that is looked up and not stored is remembered until the next pass.
  * The children of an item are a list of links, the lowest first.
  *
- * What is stored makes its parents owed at once. What is forgotten leaves them owed until the call
- * ends. A step tells only items above those it has changed, so that their owed bytes are right. In
- * catching up an item may be told that is owed no longer: nothing stored leans on it, so its notice
- * flags nothing, and is cleared in the same sweep.
+ * The owed bytes stay as the call found them until it ends, when they are written anew. A step tells
+ * only items above those it has changed, so that their owed bytes are right. In catching up an item
+ * may be told that is owed no longer: nothing stored leans on it, so its notice flags nothing, and is
+ * cleared in the same sweep.
  */
 struct desk {
     const uint8_t *sheet;
     const struct layout *layout;
     uint8_t *table;
-    bool forgot; /* a stored figure that was not owed */
     bool listed; /* the children */
     uint32_t pass;
     uint32_t seen_in[ROZHINAL_MAX_ITEMS];
@@ -436,21 +435,6 @@ static void write_owed(const uint8_t *sheet, const struct layout *layout, uint8_
     }
 }
 
-/* After a figure was stored that is not owed: its parents are, and through unstored ones theirs. */
-static void raise_owed(const uint8_t *sheet, const struct layout *layout, uint8_t *table, size_t i)
-{
-    const uint8_t *field = sheet + layout->offset[i];
-    for (size_t k = 0; k < field[PARENT_COUNT_AT]; k++) {
-        size_t parent = get_u16(field + PARENTS_AT + 2 * k);
-        uint8_t *record = record_of(table, parent);
-        if (record[OWED_AT])
-            continue;
-        record[OWED_AT] = 1;
-        if (record[KIND_AT] == ROZHINAL_UNK)
-            raise_owed(sheet, layout, table, parent);
-    }
-}
-
 /* The tests of 1 to 8. */
 static rozhinal_answer measure(const uint8_t *sheet, size_t sheet_len, size_t index_len,
                                size_t table_len, struct layout *layout)
@@ -491,7 +475,6 @@ static void sit_down(struct desk *desk, const uint8_t *sheet, const struct layou
     desk->sheet = sheet;
     desk->layout = layout;
     desk->table = table;
-    desk->forgot = false;
     desk->listed = false;
     desk->pass = 1;
     memset(desk->seen_in, 0, layout->count * sizeof desk->seen_in[0]);
@@ -500,17 +483,13 @@ static void sit_down(struct desk *desk, const uint8_t *sheet, const struct layou
 /* At the end of a call. */
 static void stand_up(const struct desk *desk)
 {
-    if (desk->forgot)
-        write_owed(desk->sheet, desk->layout, desk->table);
+    write_owed(desk->sheet, desk->layout, desk->table);
 }
 
 /* Stores an unstored figure that was looked up. */
 static void keep_seen(struct desk *desk, size_t i, struct value value)
 {
-    uint8_t *record = record_of(desk->table, i);
-    store_seen(record, value);
-    if (!record[OWED_AT])
-        raise_owed(desk->sheet, desk->layout, desk->table, i);
+    store_seen(record_of(desk->table, i), value);
 }
 
 static struct value look_up(struct desk *desk, size_t i);
@@ -594,7 +573,6 @@ static void tell_child(struct desk *desk, size_t i)
     uint8_t spread = field_of(desk, i)[SPREAD_AT];
     if (spread == ROZHINAL_FORGET) {
         forget(record, ROZHINAL_MARK_NOTICE);
-        desk->forgot |= !record[OWED_AT];
     } else if (spread == ROZHINAL_DEFER && record[MARK_AT] != ROZHINAL_MARK_NOTICE) {
         record[MARK_AT] = ROZHINAL_MARK_REFRESH;
     } else {
@@ -723,6 +701,7 @@ rozhinal_answer plain_keep(const uint8_t *sheet, size_t sheet_len,
         if (record[KIND_AT] == ROZHINAL_UNK)
             keep_seen(&desk, (size_t)item, value);
     }
+    write_owed(sheet, &layout, table);
     return accepted;
 }
 
@@ -742,10 +721,8 @@ rozhinal_answer plain_drop(const uint8_t *sheet, size_t sheet_len,
         return refuse(ROZHINAL_REFUSED_SORT, 0);
     uint8_t *record = record_of(table, (size_t)item);
     bool marked = record[MARK_AT] != ROZHINAL_MARK_NONE;
-    bool counted = record[KIND_AT] != ROZHINAL_UNK && !record[OWED_AT];
     forget(record, marked ? ROZHINAL_MARK_NOTICE : ROZHINAL_MARK_NONE);
-    if (counted)
-        write_owed(sheet, &layout, table);
+    write_owed(sheet, &layout, table);
     return accepted;
 }
 
