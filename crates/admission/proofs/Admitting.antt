@@ -219,7 +219,8 @@ module _ (s x t offsets : List ℕ) (n : ℕ) (e : Items n ≡ measuredOf s (len
   unfolding firstCause
   admit-table m h q f g p = admit-by false true (index-is m h ∙ ap not q) (ap not (sym g ∙ p))
 
-  pub admit-items : (m : Bool) → m ≡ sameBytes x (offsetBytes (take n offsets)) → m ≡ true → (f : Bool) → f ≡ (tableForm (sheetOf s) t && owedTrue (sheetOf s) t) → f ≡ true → Items n ≡ admittedOf s x t
+  pub admit-items : (m : Bool) → m ≡ sameBytes x (offsetBytes (take n offsets)) → m ≡ true → (f : Bool) → f ≡ (tableForm (sheetOf s) t && owedTrue (sheetOf s) t) → f ≡ true
+      → Items n ≡ admittedOf s x t
   unfolding firstCause
   admit-items m h q f g p = admit-by false false (index-is m h ∙ ap not q) (ap not (sym g ∙ p))
 

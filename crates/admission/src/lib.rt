@@ -7,7 +7,7 @@ ghost use Rattle.layout.specs.Opened.{sheetOf};
 ghost use Rattle.table.specs.Record.{width};
 ghost use Rattle.table.specs.Bytes.{tableForm, owedTrue};
 ghost use Rattle.admission.specs.Admission.{measuredOf, admittedOf, Scanned, Placing};
-ghost use mathlib.Core.Bool.{true, false, _&&_};
+ghost use mathlib.Core.Bool.{false, _&&_};
 ghost use mathlib.Core.List.{[], _∷_};
 ghost use Rattle.circuit.specs.Calls.{firstCause, test, noItem};
 ghost use Rattle.admission.specs.Answers.{wrongItem};

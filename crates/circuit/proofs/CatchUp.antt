@@ -24,6 +24,15 @@ use Rattle.circuit.proofs.Fill.{upd-same, upd-other, Filling, stays, fi
 use Rattle.circuit.proofs.Closure.{step-closed}
 use Rattle.circuit.proofs.Accepted.{number-cause, accepted-effect}
 
+-- catching up leads to one table only
+pub caught-unique : {S : Sheet} {T U W : Table} → CaughtUp S T U → CaughtUp S T W → U ≡ W
+caught-unique (still e) (still h) = refl
+caught-unique (still e) (stepped j h q) = never (cc)
+caught-unique (stepped i e r) (still h) = never (cc)
+caught-unique (stepped i e r) (stepped j h q) =
+    let same : i ≡ j = cc in
+    caught-unique r (rw same q)
+
 -- no item below k is marked
 abbrev pub QuietBelow : Table → ℕ → Type 0
 QuietBelow T k = (j : ℕ) → j < k → isMarked (T j) ≡ false

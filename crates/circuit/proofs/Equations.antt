@@ -23,9 +23,10 @@ use Rattle.circuit.proofs.Solution.{give-equation, figure-below}
 use Rattle.circuit.proofs.Closing.{close-above, close-works}
 use Rattle.circuit.proofs.Closure.{lowest-marked, listed-member, member-listed}
 use Rattle.circuit.proofs.Owed.{Child, stored-leans, leaning-cases, cases-leaning, owed-child, owed-finds, owed-unique, owed-leads, leads-owed}
-use Rattle.circuit.proofs.CalledOn.{caught-unique, told-owed, tell-unowed, caught-by}
+use Rattle.circuit.proofs.CalledOn.{told-owed, tell-unowed}
+use Rattle.circuit.proofs.CalledMore.{caught-by}
 use Rattle.circuit.proofs.RuleLaws.{same-true, same-refl}
-use Rattle.circuit.proofs.CatchUp.{lowest-none, lowest-some, none-quiet, some-quiet, catchUp-quiet, catchUp-ends}
+use Rattle.circuit.proofs.CatchUp.{caught-unique, lowest-none, lowest-some, none-quiet, some-quiet, catchUp-quiet, catchUp-ends}
 
 looking-up : (S : Sheet) → Ordered S → (T : Table) → LookingUp S T
 unfolding gather workOutBy workOut

@@ -3,7 +3,7 @@
 -- Assumes nothing.
 use Prim.Native.Nat.{ℕ}
 use mathlib.Core.Path.{_≡_, refl}
-use mathlib.Core.Bool.{true, false}
+use mathlib.Core.Bool.{Bool, true, false}
 use mathlib.Core.List.{List, [], _∷_}
 use mathlib.Core.Option.{Option, none, some}
 use lib.IntN.{pos, negsuc}
@@ -27,8 +27,12 @@ unfoldable pub closing : Sheet → Table → Table
 unfolding closeAll closeBelow closeItem closedValue
 closing S T = closeAll S T
 
+unfoldable pub owing : Sheet → Table → ℕ → Bool
+unfolding owed owedFor anyBelow
+owing S T i = owed S T i
+
 unfoldable pub machine : Sheet → Table → Call → Outcome
-unfolding looking closing perform tests firstCause effect postedValue partsOf keepFigure dropFigure storePosting stepItem tell tellBelow tellChild owed owedFor anyBelow clearMark catchUp catchUpIn lowestMarked
+unfolding looking closing owing perform tests firstCause effect postedValue partsOf keepFigure dropFigure storePosting stepItem tell tellBelow tellChild clearMark catchUp catchUpIn lowestMarked
 machine S T c = perform S T c
 
 -- an entry, a figure that sums it, and a figure that sums the first; neither is kept, both defer

@@ -14,6 +14,7 @@ pub mod Invariant
 pub mod Tell
 pub mod CatchUp
 pub mod CalledOn
+pub mod CalledMore
 pub mod Equations
 pub mod Memo
 pub mod Reading

@@ -1,6 +1,6 @@
 -- What the code runs to catch up: one ascending pass, in which each item is stepped while it is marked, and in which w, fixed at the
 -- start, says which UNK children are called on. That it is 01's "step the lowest marked item until none is marked" is
--- `catchUp-ascends` (proofs/CatchUp); that w may say yes to more than are owed is `ascends-by` (proofs/CalledOn). Assumes nothing.
+-- `catchUp-ascends` (proofs/CatchUp); that w may say yes to more than are owed is `catchUp-by` (proofs/CalledMore). Assumes nothing.
 use Prim.Native.Nat.{ℕ, zero, suc}
 use mathlib.Core.Bool.{Bool, true, false}
 use Rattle.circuit.specs.Sheet.{Sheet, size, isChild}

@@ -24,7 +24,8 @@ use Rattle.table.specs.Record.{width, kindIn, markIn, numberIn, decodeCell, all
 use Rattle.table.specs.Bytes.{tableForm, recordInForm}
 use Rattle.office.specs.Office.{Office, lengthsWrong, indexWrong, tableWrong}
 use Rattle.office.specs.Demand1Words.{LengthsWrong, IndexNotAsOpened, BeyondRange, RecordBroken, kindUnknown, markUnknown, entryUnk, entryOut, entryRefresh, unkRefresh, numberNotZero}
-use Rattle.office.specs.Demand1Words.{beyondRange, RecordBrokenAt, OwedFalse, TableBroken, NoSuchItem, ListsWrong, odd, long, other, SomeNoItem, NotPostable, kindOther, nullNotZero, numberBeyond}
+use Rattle.office.specs.Demand1Words.{beyondRange, RecordBrokenAt, OwedFalse, TableBroken, NoSuchItem, ListsWrong, odd, long, other, SomeNoItem}
+use Rattle.office.specs.Demand1Words.{NotPostable, kindOther, nullNotZero, numberBeyond}
 use Rattle.office.proofs.OwedBytes.{refutes-below, refutes-owed}
 use Rattle.item.specs.Offsets.{sameBytes}
 use Rattle.item.proofs.Offsets.{same-refl, same-equal}

@@ -179,7 +179,7 @@ module _ (S : Sheet) (ordered : Ordered S) where
   stored-told forget T c v m k e h = upd-holdable T c _ (λ low. figure-unk _ _ k) h
 
   -- whether an UNK child is called on or not
-  pub tellCell-holdable : (called : Bool) (T : Table) (c : ℕ) → isFigure (itemAt S c) ≡ true → Holdable S T → Holdable S (tellCell called S T c (T c))
+  tellCell-holdable : (called : Bool) (T : Table) (c : ℕ) → isFigure (itemAt S c) ≡ true → Holdable S T → Holdable S (tellCell called S T c (T c))
   tellCell-holdable called T c k h = go called (T c) refl
     where
       go : (b : Bool) (x : Cell) → T c ≡ x → Holdable S (tellCell b S T c x)

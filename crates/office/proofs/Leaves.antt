@@ -17,8 +17,7 @@ use Rattle.circuit.specs.Calls.{perform, effect, postIt}
 use Rattle.circuit.specs.Words.{Quiet}
 use Rattle.circuit.proofs.RuleLaws.{same-true, same-refl}
 use Rattle.circuit.proofs.Fill.{Fill, upd-same, upd-other, looks-right}
-use Rattle.circuit.proofs.CalledOn.{caught-unique}
-use Rattle.circuit.proofs.CatchUp.{fill-quiet, asked-quiet, catchUp-quiet, catchUp-ends}
+use Rattle.circuit.proofs.CatchUp.{caught-unique, fill-quiet, asked-quiet, catchUp-quiet, catchUp-ends}
 use Rattle.circuit.proofs.Accepted.{accepted-effect, effect-number}
 use Rattle.layout.specs.Opened.{sheetOf}
 use Rattle.layout.proofs.Tests.{Tells, holds, fails, tells-eq}
@@ -155,7 +154,8 @@ module _ (s : List ℕ) (kept : Office) (lent : AcceptedLent s kept) where
       go (unk b) e = absurd (n (kind-by (row width (callOn s kept c .after .table) k) (record-here (unk b) e) ∙ unk-kind b))
       go (held v m) e =
           let formed : wellFormed v ≡ true = subst (λ d. wellFormed (valueIn d) ≡ true) e (holdable-wellFormed (sheetOf s) U (effect-holdable c z) k low) in
-          (v, m, e, (kind-by (row width (callOn s kept c .after .table) k) (record-here (held v m) e) ∙ held-kind v m, number-by (row width (callOn s kept c .after .table) k) (record-here (held v m) e) ∙ held-number v m formed))
+          let r : List ℕ = row width (callOn s kept c .after .table) k in
+          (v, m, e, (kind-by r (record-here (held v m) e) ∙ held-kind v m, number-by r (record-here (held v m) e) ∙ held-number v m formed))
 
   ask-quiets : (i : ℕ) → callOn s kept (ask i) .number ≡ 0 → NoMarkStands (sheetOf s) (callOn s kept (ask i) .after .table)
   ask-quiets i z k low =

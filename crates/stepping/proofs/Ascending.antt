@@ -15,7 +15,7 @@ use Rattle.circuit.specs.Ascending.{stepBy, stepIfBy, stepMarkedBy, ascendBelow
 use Rattle.circuit.proofs.Closure.{parent-within}
 use Rattle.circuit.proofs.Owed.{Child, owed-finds}
 use Rattle.circuit.proofs.CatchUp.{catchUp-still}
-use Rattle.circuit.proofs.CalledOn.{catchUp-by}
+use Rattle.circuit.proofs.CalledMore.{catchUp-by}
 use Rattle.layout.specs.Opened.{sheetOf}
 use Rattle.item.proofs.Located.{sheet-ordered, size-most}
 use Rattle.table.specs.Bytes.{decodeTable, LowestMarked}
@@ -144,7 +144,7 @@ module _ {w : ℕ → Bool} {s offsets t₀ tags₀ : List ℕ} {numbers₀ : Li
       }
 
 -- the array of what is owed says so of every item that is
-pub owed-called : (s bytes : List ℕ) (T : Table) → OwedIs (sheetOf s) T bytes → (c : ℕ) → owed (sheetOf s) T c ≡ true → owes bytes c ≡ true
+owed-called : (s bytes : List ℕ) (T : Table) → OwedIs (sheetOf s) T bytes → (c : ℕ) → owed (sheetOf s) T c ≡ true → owes bytes c ≡ true
 owed-called s bytes T is c o =
     let child : Child (sheetOf s) T c = owed-finds (sheetOf s) (sheet-ordered s) T c o in
     let low : c < size (sheetOf s)

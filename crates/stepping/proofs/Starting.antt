@@ -17,9 +17,8 @@ use Rattle.table.specs.Record.{width, owedIn}
 use Rattle.table.specs.Bytes.{decodeTable, owedTrueAt, owedTrue}
 use Rattle.table.proofs.Rows.{below-true}
 use Rattle.owing.specs.Owing.{OwedIs}
-use Rattle.looking.specs.Pass.{Lent}
 use Rattle.stepping.specs.Stepping.{Ready, Lists}
-use Rattle.children.specs.Children.{lists, linkAll, Linked}
+use Rattle.children.specs.Children.{lists, linkAll}
 use Rattle.children.proofs.Building.{sheet-linked}
 
 -- an array of one number
@@ -37,14 +36,6 @@ fresh-ready s tags numbers a b z =
       generations = omega arith;
       older = λ j h. omega (arith, z j);
     }
-
--- the child lists, built in empty arrays
-pub lists-linked : {s offsets t : List ℕ} → Lent s offsets t → (heads links heads₂ links₂ : List ℕ) → length heads ≡ mostItems → length links ≡ maxParents * mostItems
-    → ((p : ℕ) → getD heads p 0 ≡ 0) → heads₂ ≡ linkAll (sheetOf s) (lists heads links) .heads → links₂ ≡ linkAll (sheetOf s) (lists heads links) .links
-    → Linked (sheetOf s) heads₂ links₂
-unfolding maxParents
-lists-linked {s} {offsets} {t} lent heads links heads₂ links₂ a b empty headed linked =
-    rw (headed, linked) (sheet-linked s offsets heads links (lent .located) (omega (arith, size-room s)) (omega (arith, size-room s)) (λ p low. empty p))
 
 -- arrays that are blank, and the lists once they are built
 pub lists-blank : (s heads links : List ℕ) → length heads ≡ mostItems → length links ≡ maxParents * mostItems → ((p : ℕ) → getD heads p 0 ≡ 0)

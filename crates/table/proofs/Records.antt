@@ -18,7 +18,8 @@ use Rattle.circuit.proofs.Parts.{kind-small}
 use Rattle.circuit.proofs.RuleLaws.{and-left, and-right}
 use Rattle.circuit.specs.Value.{Value, null, out, num, limit, inRange, sameNumber, kindOf, numberOf, isOut, wellFormed}
 use Rattle.circuit.specs.Table.{Mark, unmarked, refresh, notice, Cell, unk, held, noticeIf, valueIn, entryForm}
-use Rattle.table.specs.Record.{width, owedPlace, kindIn, markIn, numberIn, recordOf, markCode, markCoded, cellCoded, encodeCell, decodeCell, allowed, codesForm, numberForm, recordForm, mayHold}
+use Rattle.table.specs.Record.{width, owedPlace, kindIn, markIn, numberIn, recordOf, markCode, markCoded, cellCoded, encodeCell, decodeCell}
+use Rattle.table.specs.Record.{allowed, codesForm, numberForm, recordForm, mayHold}
 
 -- a number within the range is one of 64 bits
 pub range-fits : (z : ℤ) → inRange z ≡ true → SFits w64 z

@@ -1,7 +1,7 @@
 -- Rows of one length: reading and storing one, and a list from its rows. Assumes nothing.
 use Prim.Native.Nat.{ℕ, zero, suc, _+_, _*_, _≤_, _<_}
 use mathlib.Core.Path.{_≡_, refl, sym, _∙_}
-use mathlib.Core.Bool.{Bool, true, false, cond}
+use mathlib.Core.Bool.{Bool, true, false}
 use mathlib.Core.List.{List, [], _∷_, _++_, append-assoc}
 use native.Mathlib.Omega.{arith}
 use native.Mathlib.Nat.{mul-zero, mul-suc, mul-le-mul-left}
@@ -86,17 +86,13 @@ getD-sets-above (a ∷ vs) l i k h =
 pub length-setRow : (w : ℕ) (bs : List ℕ) (i : ℕ) (r : List ℕ) → length (setRow w bs i r) ≡ length bs
 length-setRow w bs i r = length-sets bs (w * i) r
 
-pub row-setRow : (w : ℕ) (bs : List ℕ) (i : ℕ) (r : List ℕ) → w * i + w ≤ length bs → length r ≡ w → row w (setRow w bs i r) i ≡ r
-row-setRow w bs i r h e =
-    rw (sets-eq r bs (w * i) (omega arith), append-assoc, drop-at (take (w * i) bs) (r ++ drop (w * i + length r) bs) (w * i) (length-take-le (w * i) bs (omega arith)))
-    (take-at r (drop (w * i + length r) bs) w e)
-
 -- a store of the first elements of a row
 pub row-front : (w : ℕ) (bs : List ℕ) (i : ℕ) (r : List ℕ) → w * i + w ≤ length bs → length r ≤ w
     → take (length r) (row w (setRow w bs i r) i) ≡ r
 row-front w bs i r h l =
-    rw (sets-eq r bs (w * i) (omega arith), append-assoc, drop-at (take (w * i) bs) (r ++ drop (w * i + length r) bs) (w * i) (length-take-le (w * i) bs (omega arith)), take-take (length r) w (r ++ drop (w * i + length r) bs) l)
-    (take-at r (drop (w * i + length r) bs) (length r) refl)
+    let rest : List ℕ = drop (w * i + length r) bs in
+    rw (sets-eq r bs (w * i) (omega arith), append-assoc, drop-at (take (w * i) bs) (r ++ rest) (w * i) (length-take-le (w * i) bs (omega arith)))
+    (take-take (length r) w (r ++ rest) l ∙ take-at r rest (length r) refl)
 
 pub row-setRow-other : (w : ℕ) (bs : List ℕ) (i j : ℕ) (r : List ℕ) → length r ≤ w → (j ≡ i → ⊥) → row w (setRow w bs i r) j ≡ row w bs j
 row-setRow-other w bs i j r e apart =
@@ -117,20 +113,6 @@ row-setRow-other w bs i j r e apart =
             let lt : i < j = omega (arith, apart) in
             let room : w * i + w ≤ w * j = row-before w lt in
             rw (getD-row w (setRow w bs i r) j k less, getD-row w bs j k less) (getD-sets-above r bs (w * i) (w * j + k) (omega arith))
-
--- the rows with r for row i are the list with r stored as row i
-pub rows-setRow : (w : ℕ) (f : ℕ → List ℕ) (n i : ℕ) (r : List ℕ) → ((j : ℕ) → j < n → length (f j) ≡ w) → length r ≡ w → i < n
-    → rowsBelow (λ j. cond (eqb j i) r (f j)) n ≡ setRow w (rowsBelow f n) i r
-rows-setRow w f n i r e len h =
-    rows-ext n same ∙ rows-row w (setRow w (rowsBelow f n) i r) n (length-setRow w (rowsBelow f n) i r ∙ length-rows w f n e)
-  where
-    same : (j : ℕ) → j < n → cond (eqb j i) r (f j) ≡ row w (setRow w (rowsBelow f n) i r) j
-    same j hj = go (eqb j i) refl
-      where
-        go : (b : Bool) → eqb j i ≡ b → cond b r (f j) ≡ row w (setRow w (rowsBelow f n) i r) j
-        go true t =
-            rw (eqb-true j i t) (sym (row-setRow w (rowsBelow f n) i r (rw (length-rows w f n e) (row-before w h)) len))
-        go false t = sym (row-setRow-other w (rowsBelow f n) i j r (omega arith) (eqb-false j i t) ∙ row-rows w f n e j hj)
 
 -- ---- a test of every row
 

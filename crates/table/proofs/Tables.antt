@@ -22,12 +22,14 @@ use Rattle.circuit.proofs.Owed.{owed-ext, owed-stored}
 use Rattle.table.specs.Rows.{row, setRow}
 use Rattle.table.specs.Record.{width, owedPlace, kindIn, markIn, numberIn, owedIn, owedCode, encodeCell, decodeCell, recordForm, mayHold}
 use Rattle.table.specs.Bytes.{tableLength, encodeRecord, encodeTable, decodeTable, recordInForm, tableForm, owedTrueAt, owedTrue, Holdable}
-use Rattle.table.proofs.Rows.{row-before, length-row, getD-row, rows-ext, length-rows, row-rows, rows-row, bytes-rows, length-setRow, row-front, row-setRow-other, getD-sets-below, getD-sets-above, below-true, true-below}
-use Rattle.table.proofs.Records.{decode-encode, encode-decode, kind-by, mark-by, number-by, decode-front, form-front, length-encodeCell, bytes-encodeCell, decoded-holds, encoded-form, holds-wellFormed}
+use Rattle.table.proofs.Rows.{row-before, length-row, getD-row, rows-ext, length-rows, row-rows, rows-row, bytes-rows, length-setRow, row-front, row-setRow-other}
+use Rattle.table.proofs.Rows.{getD-sets-below, getD-sets-above, below-true, true-below}
+use Rattle.table.proofs.Records.{decode-encode, encode-decode, kind-by, mark-by, number-by, decode-front, form-front, length-encodeCell, bytes-encodeCell}
+use Rattle.table.proofs.Records.{decoded-holds, encoded-form, holds-wellFormed}
 
 -- ---- lengths and bytes
 
-pub length-encodeRecord : (S : Sheet) (T : Table) (i : ℕ) → length (encodeRecord S T i) ≡ width
+length-encodeRecord : (S : Sheet) (T : Table) (i : ℕ) → length (encodeRecord S T i) ≡ width
 length-encodeRecord S T i = length-append (encodeCell (T i)) (owedCode (owed S T i) ∷ []) ∙ ap (λ n. n + 1) (length-encodeCell (T i))
 
 pub length-encodeTable : (S : Sheet) (T : Table) → length (encodeTable S T) ≡ tableLength S
@@ -52,7 +54,7 @@ bytes-row bs i bytes = bytes-take width (drop (width * i) bs) (bytes-drop (width
 
 -- ---- encoding and decoding
 
-pub encoded-record : (S : Sheet) (T : Table) (i : ℕ) → i < size S → row width (encodeTable S T) i ≡ encodeRecord S T i
+encoded-record : (S : Sheet) (T : Table) (i : ℕ) → i < size S → row width (encodeTable S T) i ≡ encodeRecord S T i
 unfolding encodeTable
 encoded-record S T i h = row-rows width (encodeRecord S T) (size S) (λ j hj. length-encodeRecord S T j) i h
 
@@ -172,7 +174,7 @@ setRow-cell bs i c fits =
     ap (λ n. take n (row width (setRow width bs i (encodeCell c)) i)) (sym (length-encodeCell c))
     ∙ row-front width bs i (encodeCell c) fits (omega (arith, length-encodeCell c))
 
-pub setRow-owed : (bs : List ℕ) (i j : ℕ) (c : Cell) → owedIn (row width (setRow width bs i (encodeCell c)) j) ≡ owedIn (row width bs j)
+setRow-owed : (bs : List ℕ) (i j : ℕ) (c : Cell) → owedIn (row width (setRow width bs i (encodeCell c)) j) ≡ owedIn (row width bs j)
 setRow-owed bs i j c =
     getD-row width (setRow width bs i (encodeCell c)) j owedPlace (omega arith) ∙ go (ltb i j) refl ∙ sym (getD-row width bs j owedPlace (omega arith))
   where

@@ -54,8 +54,8 @@ pub record ToldBelow (w : ℕ → Bool) (s offsets t₀ tags₀ : List ℕ) (num
   pub tags-length : length tags ≡ length tags₀
   pub numbers-length : length numbers ≡ length numbers₀
 
-pub telling-start : (w : ℕ → Bool) {s offsets t tags heads links : List ℕ} {numbers : List ℤ} {generation i : ℕ} → Lent s offsets t → Memo (sheetOf s) (decodeTable t) tags numbers generation
-    → NoneFrom 0 tags generation → Linked (sheetOf s) heads links → i < size (sheetOf s) → (edge : ℕ) → edge ≡ getD heads i 0
+pub telling-start : (w : ℕ → Bool) {s offsets t tags heads links : List ℕ} {numbers : List ℤ} {generation i : ℕ} → Lent s offsets t
+    → Memo (sheetOf s) (decodeTable t) tags numbers generation → NoneFrom 0 tags generation → Linked (sheetOf s) heads links → i < size (sheetOf s) → (edge : ℕ) → edge ≡ getD heads i 0
     → ToldBelow w s offsets t tags numbers generation i edge t tags numbers
 unfolding tellBelowBy
 telling-start w {s} {offsets} {t} {tags} {heads} {links} {numbers} {generation} {i} lent memo none-from linked low edge is =

@@ -31,24 +31,25 @@ store-cell-requires c κs =
 
 settle-requires : tie.Need-settle-requires
 settle-requires c κs =
-    let a = c .before .before .before .before .before .before .before .before .before .before .before .before .before .args in
-    let p = c .before .before .before .before .before .before .before .before .before .before .before .before .before .pre in
-    let i = c .before .before .before .before .before .before .before .before .before .item-cause in
-    let left = drop-left (p .1) (a .item) (i .result) (i .ensures) (c .before .before .before .before .before .before .before .before .if1 .left) _ _
-    (c .before .before .before .before .before .dropped-cell .ensures ∙ ap dropCell (c .before .before .before .before .before .before .read-cell .ensures)) (c .before .before .before .store-cell .ensures) in
+    let o = c .before .before .before .before .before .before .before .before in
+    let p = o .before .before .before .before .before .pre in
+    let i = o .before .item-cause in
+    let drops = c .before .before .before .before .before .dropped-cell .ensures ∙ ap dropCell (c .before .before .before .before .before .before .read-cell .ensures) in
+    let left = drop-left (p .1) (o .before .before .before .before .before .args .item) (i .result) (i .ensures) (o .if1 .left) _ _ drops (c .before .before .before .store-cell .ensures) in
     settle-needs (p .0) (p .1) _ (c .before .before .before .store-cell .kept .0) (left .formed)
 
 returns-2 : tie.Need-returns-2
 returns-2 c =
     λ x.
     let e = c .before .before .before .before in
-    let a = e .before .before .before .before .before .before .before .before .before .before .before .before .before .args in
-    let p = e .before .before .before .before .before .before .before .before .before .before .before .before .before .pre in
-    let i = e .before .before .before .before .before .before .before .before .before .item-cause in
-    drop-done (p .1) x (a .item) (i .result) (i .ensures) (c .give2 .result) (c .give2 .ensures .1) (e .before .before .before .before .before .before .before .before .if1 .left) _
-    (drop-left (p .1) (a .item) (i .result) (i .ensures) (e .before .before .before .before .before .before .before .before .if1 .left) _ _ (e .before .before .before .before .before .dropped-cell .ensures ∙ ap dropCell (e .before .before .before .before .before .before .read-cell .ensures))
-    (e .before .before .before .store-cell .ensures))
-    _ (c .before .before .before .settle .ensures) (c .give2 .ensures .0)
+    let o = e .before .before .before .before .before .before .before .before in
+    let a = o .before .before .before .before .before .args in
+    let p = o .before .before .before .before .before .pre in
+    let i = o .before .item-cause in
+    let drops = e .before .before .before .before .before .dropped-cell .ensures ∙ ap dropCell (e .before .before .before .before .before .before .read-cell .ensures) in
+    drop-done (p .1) x (a .item) (i .result) (i .ensures) (c .give2 .result) (c .give2 .ensures .1) (o .if1 .left) _
+    (drop-left (p .1) (a .item) (i .result) (i .ensures) (o .if1 .left) _ _ drops (e .before .before .before .store-cell .ensures)) _ (c .before .before .before .settle .ensures)
+    (c .give2 .ensures .0)
 
 pub drop-lent-spec : {M : Type 1} → statement M
 drop-lent-spec =

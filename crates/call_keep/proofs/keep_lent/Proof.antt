@@ -34,7 +34,8 @@ returns-2 c =
     let a = e .before .before .before .before .before .before .before .before .before .before .args in
     let p = e .before .before .before .before .before .before .before .before .before .before .pre in
     let i = e .before .before .before .before .before .before .item-cause in
-    keep-done (p .1) x (a .item) (i .result) (i .ensures) (c .give2 .result) (c .give2 .ensures .1) (e .before .before .before .before .before .if1 .left) _ (e .before .before .before .keep-cell .ensures) _
+    keep-done (p .1) x (a .item) (i .result) (i .ensures) (c .give2 .result) (c .give2 .ensures .1) (e .before .before .before .before .before .if1 .left) _
+    (e .before .before .before .keep-cell .ensures) _
     (c .before .before .before .settle .ensures) (c .give2 .ensures .0)
 
 pub keep-lent-spec : {M : Type 1} → statement M

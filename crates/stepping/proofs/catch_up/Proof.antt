@@ -34,18 +34,20 @@ advance-requires c κs =
 
 add-i : tie.Need-add-i Inv-loop μ-loop
 add-i c =
-    let l = c .before .before .before .before .before .before .before .before .before .before .before .before .before .before .before .before in
+    let t = c .before .before .before .before .before .before .before .before .before .before .before .before .before .before .before in
+    let l = t .before in
     let a = l .before .before .before .before .before .before .before .before .args in
-    record { fits = omega (arith, size-most (a .sheet .now), l .loop .inv .0 .n-is, c .before .before .before .before .before .before .before .before .before .before .before .before .before .before .before .loop-test .taken) }
+    record { fits = omega (arith, size-most (a .sheet .now), l .loop .inv .0 .n-is, t .loop-test .taken) }
 
 loop-less : tie.Need-loop-less Inv-loop μ-loop
 loop-less c = omega (arith, c .before .before .before .before .before .before .before .before .before .before .before .before .before .before .before .loop-test .taken)
 
 loop-again : tie.Need-loop-again Inv-loop μ-loop
 loop-again c =
-    let inv = c .before .before .before .before .before .before .before .before .before .before .before .before .before .before .before .before .loop .inv in
+    let t = c .before .before .before .before .before .before .before .before .before .before .before .before .before .before .before in
+    let inv = t .before .loop .inv in
     let l = c .before .before .before .before .before .before .before .before .before .advance in (
-      ascending-next (inv .0) (c .before .before .before .before .before .before .before .before .before .before .before .before .before .before .before .loop-test .taken) _ _ _ (l .kept .1 .1 .0) (l .kept .1 .1 .1 .0) (l .kept .1 .1 .1 .1 .0) (l .ensures .0),
+      ascending-next (inv .0) (t .loop-test .taken) _ _ _ (l .kept .1 .1 .0) (l .kept .1 .1 .1 .0) (l .kept .1 .1 .1 .1 .0) (l .ensures .0),
       l .ensures .1,
       l .kept .1 .1 .1 .1 .1 .0 ∙ inv .2,
       l .kept .1 .1 .1 .1 .1 .1 .0 ∙ inv .3,

@@ -105,7 +105,8 @@ loop-again c =
     let more = c .before .before .before .before .before .before .before .before .before .before .before .before .loop-test .taken in
     let narrow = located-narrow (a .args .sheet .now) (a .args .offsets .now) (inv .lent .located) _ (child-low inv more) in
     let told = c .before .before .before .before .before .before .before .tell-child in
-    telling-next inv more (a .pre .1 .1 .1 .linked (byte-owes (a .args .owed .now) (a .args .i) (l .before .before .before .if1 .left))) narrow _ _ _ (told .kept .1 .1 .0) (told .kept .1 .1 .1 .0) (told .kept .1 .1 .1 .1 .0) (told .ensures) _ (c .wide2 .ensures)
+    let linked = a .pre .1 .1 .1 .linked (byte-owes (a .args .owed .now) (a .args .i) (l .before .before .before .if1 .left)) in
+    telling-next inv more linked narrow _ _ _ (told .kept .1 .1 .0) (told .kept .1 .1 .1 .0) (told .kept .1 .1 .1 .1 .0) (told .ensures) _ (c .wide2 .ensures)
 
 same-length : tie.Need-same-length Inv-loop μ-loop
 same-length c = c .before .loop .inv .t-length
