@@ -18,7 +18,7 @@ use Rattle.layout.specs.Opened.{sheetOf}
 use Rattle.item.proofs.Located.{sheet-ordered}
 use Rattle.table.specs.Record.{owedCode}
 use Rattle.table.specs.Bytes.{encodeTable, decodeTable}
-use Rattle.owing.specs.Owing.{owes, OwedIs}
+use Rattle.owing.specs.Owing.{saysOwed, OwedIs}
 use Rattle.looking.specs.Pass.{Lent}
 use Rattle.admission.specs.Admission.{callLent}
 use Rattle.admission.specs.Answers.{Answered, Left}
@@ -69,7 +69,7 @@ module _ {s offsets t : List ℕ} (lent : Lent s offsets t) (x : List ℕ) (n it
       accepted-answer (sheetOf s) x t t₂ (step item) r (step-cause ∙ h) k offset-is (left-settled l t₂ settled)
 
 -- what the array of owed bytes says of an item
-owes-owed : (s t bytes : List ℕ) → OwedIs (sheetOf s) (decodeTable t) bytes → (c : ℕ) → c < size (sheetOf s) → owes bytes c ≡ owed (sheetOf s) (decodeTable t) c
+owes-owed : (s t bytes : List ℕ) → OwedIs (sheetOf s) (decodeTable t) bytes → (c : ℕ) → c < size (sheetOf s) → saysOwed bytes c ≡ owed (sheetOf s) (decodeTable t) c
 owes-owed s t bytes is c low = rw (is .byte-is c low) (go (owed (sheetOf s) (decodeTable t) c))
   where
     go : (b : Bool) → not (eqb (owedCode b) 0) ≡ b
@@ -78,11 +78,11 @@ owes-owed s t bytes is c low = rw (is .byte-is c low) (go (owed (sheetOf s) (dec
 
 -- a telling by that array
 pub left-told : (s t bytes : List ℕ) (i : ℕ) → i < size (sheetOf s) → OwedIs (sheetOf s) (decodeTable t) bytes → {generation : ℕ} {t₂ tags₂ : List ℕ}
-    → Steps s generation (clearMark (tellBy (owes bytes) (sheetOf s) (decodeTable t) i) i) t₂ tags₂
+    → Steps s generation (clearMark (tellBy (saysOwed bytes) (sheetOf s) (decodeTable t) i) i) t₂ tags₂
     → Left s (clearMark (tell (sheetOf s) (decodeTable t) i) i) t₂
 left-told s t bytes i low is steps =
     record {
-      table-is = steps .table-is ∙ ap (λ U. clearMark U i) (tell-by (sheetOf s) (sheet-ordered s) (decodeTable t) (owes bytes) (owes-owed s t bytes is) i low);
+      table-is = steps .table-is ∙ ap (λ U. clearMark U i) (tell-by (sheetOf s) (sheet-ordered s) (decodeTable t) (saysOwed bytes) (owes-owed s t bytes is) i low);
       formed = steps .formed;
     }
 

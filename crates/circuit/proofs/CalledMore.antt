@@ -1,4 +1,4 @@
--- Catching up may go by what was owed at its start, and call on any other UNK children besides (`catchUp-by`, `caught-by`): their notices
+-- Catching up may go by what was owed at its start, and by any w that has more (`catchUp-by`, `reached-by`, `caught-by`): the notices more
 -- stand on figures that lead to nothing stored, no look-up for a stored figure meets them, and they are stepped away. Assumes that the sheet
 -- is ordered.
 use Prim.Native.Nat.{ℕ, zero, suc, _<_, _≤_}
@@ -24,7 +24,7 @@ use Rattle.circuit.proofs.View.{never, strong}
 use Rattle.circuit.proofs.Fill.{upd-same, upd-other, upd-self, Filling, stays, fills, Fill, work-right, lookUp-is}
 use Rattle.circuit.proofs.Closure.{member-listed, lowest-marked}
 use Rattle.circuit.proofs.Owed.{Within, stored-leans, false-before, parent-leans, within-refl, within-upd, within-owed, within-trans, work-within}
-use Rattle.circuit.proofs.CatchUp.{caught-unique, QuietBelow, none-quiet, some-quiet, lowest-some, catchUp-ascends, catchUp-still, catchUp-ends}
+use Rattle.circuit.proofs.CatchUp.{caught-unique, QuietBelow, none-quiet, some-quiet, lowest-some, catchUp-ascends, catchUp-still, catchUp-ends, lowest-none, ascended-quiet, stepMarked-below}
 use Rattle.circuit.proofs.CalledOn.{filled-stored, below-within, tell-unowed}
 
 unmarked-both : (f g : Bool) → (f ≡ true → g ≡ true) → isMark (noticeIf g) ≡ false → f ≡ g
@@ -428,8 +428,47 @@ module _ (S : Sheet) (ordered : Ordered S) where
         (later (stepMarked S U k) (within-trans S ordered T U (stepMarked S U k) (ascended-within T k) (step-within U k)))
         (near-lower k (stepMarked S U k) (stepMarkedBy w S Y k) once)
 
+    -- where the pass has gone, no mark stands by w either
+    alike-quiet : (k b : ℕ) (X Y : Table) → b ≤ k → Near k X Y → QuietBelow X b → QuietBelow Y b
+    alike-quiet k b X Y l near quiet j h = go (near j)
+      where
+        go : Alike k X Y j → isMarked (Y j) ≡ false
+        go (alike e) = rw (← e) (quiet j h)
+        go (apart f g more low high e q o) = absurd (omega arith)
+
+    -- a step by w of the lowest marked item, before a chain of them
+    chain-back : (Y U : Table) (k : ℕ) → k < size S → QuietBelow Y k → CaughtUpBy w S (stepMarkedBy w S Y k) U → CaughtUpBy w S Y U
+    unfolding stepMarkedBy
+    chain-back Y U k low quiet chain = go (isMarked (Y k)) refl chain
+      where
+        go : (b : Bool) → isMarked (Y k) ≡ b → CaughtUpBy w S (stepIfBy (isMarked (Y k)) w S Y k) U → CaughtUpBy w S Y U
+        go true m rest = stepped-by k (lowest-some Y k quiet m (size S) low) (rw m at rest)
+        go false m rest = rw m at rest
+
+    pass-back : (U : Table) (k : ℕ) → k ≤ size S → CaughtUpBy w S (ascendBelowBy w S T k) U → CaughtUpBy w S T U
+    unfolding ascendBelowBy
+    pass-back U zero l chain = chain
+    pass-back U (suc k) l chain = pass-back U k (omega arith) (chain-back Y U k l quiet (chain-back (stepMarkedBy w S Y k) U k l again chain))
+      where
+        X : Table
+        X = ascendBelow S T k
+
+        Y : Table
+        Y = ascendBelowBy w S T k
+
+        exact : QuietBelow X k
+        exact = ascended-quiet S ordered T k (omega arith)
+
+        quiet : QuietBelow Y k
+        quiet = alike-quiet k k X Y (omega arith) (ascend-near k) exact
+
+        again : QuietBelow (stepMarkedBy w S Y k) k
+        again =
+            alike-quiet (suc k) k (stepMarked S X k) (stepMarkedBy w S Y k) (omega arith) (step-near X Y w k (later X (ascended-within T k)) (ascend-near k))
+            (stepMarked-below S ordered X k l exact)
+
     -- The ascending pass may go by w, if w has all that is owed at its start.
-    pub ascends-by : ascendBy w S T ≡ ascend S T
+    ascends-by : ascendBy w S T ≡ ascend S T
     unfolding ascend ascendBy
     ascends-by = fun-ext λ j. go j (ascend-near (size S) j)
       where
@@ -440,6 +479,16 @@ module _ (S : Sheet) (ordered : Ordered S) where
 
     pub catchUp-by : ascendBy w S T ≡ catchUp S T
     catchUp-by = ascends-by ∙ sym (catchUp-ascends S ordered T)
+
+    -- stepping the lowest marked item by w until none is marked leads there
+    pub reached-by : CaughtUpBy w S T (catchUp S T)
+    unfolding ascendBy
+    reached-by = rw (sym catchUp-by) (pass-back (ascendBelowBy w S T (size S)) (size S) (omega arith) (still-by (lowest-none _ (size S) quiet)))
+      where
+        quiet : QuietBelow (ascendBelowBy w S T (size S)) (size S)
+        quiet =
+            alike-quiet (size S) (size S) (ascendBelow S T (size S)) (ascendBelowBy w S T (size S)) (omega arith) (ascend-near (size S))
+            (ascended-quiet S ordered T (size S) (omega arith))
 
   -- ---- stepping the lowest marked item until none is marked, by w
 

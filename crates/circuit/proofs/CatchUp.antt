@@ -140,7 +140,7 @@ module _ (S : Sheet) (ordered : Ordered S) where
       })
       i low (omega arith) (λ c l. omega (arith, ordered c i l)) T quiet
 
-  stepMarked-below : (T : Table) (i : ℕ) → i < size S → QuietBelow T i → QuietBelow (stepMarked S T i) i
+  pub stepMarked-below : (T : Table) (i : ℕ) → i < size S → QuietBelow T i → QuietBelow (stepMarked S T i) i
   unfolding stepMarked
   stepMarked-below T i low quiet = go (isMarked (T i))
     where

@@ -24,7 +24,7 @@ use Rattle.circuit.proofs.Closing.{close-above, close-works}
 use Rattle.circuit.proofs.Closure.{lowest-marked, listed-member, member-listed}
 use Rattle.circuit.proofs.Owed.{Child, stored-leans, leaning-cases, cases-leaning, owed-child, owed-finds, owed-unique, owed-leads, leads-owed}
 use Rattle.circuit.proofs.CalledOn.{told-owed, tell-unowed}
-use Rattle.circuit.proofs.CalledMore.{caught-by}
+use Rattle.circuit.proofs.CalledMore.{reached-by, caught-by}
 use Rattle.circuit.proofs.RuleLaws.{same-true, same-refl}
 use Rattle.circuit.proofs.CatchUp.{caught-unique, lowest-none, lowest-some, none-quiet, some-quiet, catchUp-quiet, catchUp-ends}
 
@@ -66,8 +66,8 @@ module _ (S : Sheet) (T : Table) (c : ℕ) where
   unfolding tellChild
   telling-child =
       record {
-        owes = λ f e o. rw (o, e);
-        owes-not = λ f e o. rw (o, e);
+        calls-on = λ f e o. rw (o, e);
+        passes-over = λ f e o. rw (o, e);
         forgets = λ v m e s. ap (tellCell (owed S T c) S T c) e ∙ ap (λ x. tellStored x S T c v m) s;
         defers = λ v m e s n. ap (tellCell (owed S T c) S T c) e ∙ ap (λ x. tellStored x S T c v m) s ∙ deferred v m n;
         renews = λ v m e how. renewal v m (ap (tellCell (owed S T c) S T c) e ∙ by v m how);
@@ -101,7 +101,7 @@ owing S ordered T =
           (λ i c l e. solves i .1 (c, (l, leaning-cases (T c) (w c) e)))
           (λ i e. let c = solves i .0 e in (c .0, (c .1 .0, cases-leaning (T (c .0)) (w (c .0)) (c .1 .1))));
       leads = λ i. (owed-leads S ordered T i, λ k. leads-owed S ordered T i (k .0) (k .1 .0) (stored-leans (T (k .0)) (owed S T (k .0)) (k .1 .1)));
-      when-told = λ i k l. told-owed S ordered T i k;
+      when-told = told-owed S ordered T;
       none-called = tell-unowed S ordered T;
     }
 
@@ -172,6 +172,7 @@ equations =
             reached = catchUp-ends S ordered T;
             only = λ U caught. caught-unique caught (catchUp-ends S ordered T);
             quiet = catchUp-quiet S ordered T;
-            whoever = caught-by S ordered T;
+            reached-by = reached-by S ordered T;
+            only-by = caught-by S ordered T;
           };
     }

@@ -10,7 +10,7 @@ use lib.IntN.{pos, negsuc}
 use Rattle.circuit.specs.Value.{Value, null, num, inRange, limit, partsOf}
 use Rattle.circuit.specs.Rules.{sum, difference, apply, numbers, total, anyOut}
 use Rattle.circuit.specs.Sheet.{Sheet, entry, figure, defer, renew, member}
-use Rattle.circuit.specs.Table.{Table, held, unmarked, notice, openBare, openFull}
+use Rattle.circuit.specs.Table.{Table, unk, held, unmarked, notice, openBare, openFull}
 use Rattle.circuit.specs.Machine.{Looked, gather, workOutBy, lookFor, lookUp, workOut, storePosting, keepFigure, dropFigure, tellChild, tellBelow, tell, clearMark, stepItem, lowestMarked}
 use Rattle.circuit.specs.Machine.{catchUpIn, catchUp}
 use Rattle.circuit.specs.Owed.{anyBelow, owedFor, owed}
@@ -53,6 +53,12 @@ chain-kept = refl
 pub chain-read : perform chain chainTable (ask 2) .reading ≡ some (num (pos 6))
 unfolding machine chain chainCalls chainTable run
 chain-read = refl
+
+-- With nothing stored, the step of entry 0 passes figure 1 over; once figure 2 is stored, figure 1 is owed, and gets notice.
+pub chain-passed : (run chain (openBare chain) (post 0 3 (pos 1) ∷ step 0 ∷ []) 1 ≡ unk false)
+    × (run chain (openBare chain) (post 0 3 (pos 1) ∷ keep 2 ∷ step 0 ∷ []) 1 ≡ unk true)
+unfolding machine chain run
+chain-passed = (refl, refl)
 
 -- A season-close run stores 6 in both figures, the stale one too, and no mark is left.
 pub chain-closed : (perform chain chainTable close .table 0 ≡ held (num (pos 6)) unmarked)

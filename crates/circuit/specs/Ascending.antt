@@ -1,6 +1,6 @@
 -- What the code runs to catch up: one ascending pass, in which each item is stepped while it is marked, and in which w, fixed at the
--- start, says which UNK children are called on. That it is 01's "step the lowest marked item until none is marked" is
--- `catchUp-ascends` (proofs/CatchUp); that w may say yes to more than are owed is `catchUp-by` (proofs/CalledMore). Assumes nothing.
+-- start, says what counts as owed. That it is 01's "step the lowest marked item until none is marked" is
+-- `catchUp-ascends` (proofs/CatchUp); that w may have more than is owed is `catchUp-by` (proofs/CalledMore). Assumes nothing.
 use Prim.Native.Nat.{ℕ, zero, suc}
 use mathlib.Core.Bool.{Bool, true, false}
 use Rattle.circuit.specs.Sheet.{Sheet, size, isChild}
@@ -23,7 +23,7 @@ ascendBelow S T (suc k) = stepMarked S (stepMarked S (ascendBelow S T k) k) k
 unfoldable pub ascend : Sheet → Table → Table
 ascend S T = ascendBelow S T (size S)
 
--- the same, by w
+-- the same, where w says what counts as owed
 
 unfoldable pub tellChildBy : Bool → Sheet → Table → ℕ → Table
 tellChildBy called S T c = tellCell called S T c (T c)
@@ -36,7 +36,7 @@ unfoldable pub tellBelowBy : (ℕ → Bool) → Sheet → ℕ → Table → ℕ 
 tellBelowBy w S i T zero = T
 tellBelowBy w S i T (suc k) = tellIfBy (isChild S i k) (w k) S (tellBelowBy w S i T k) k
 
--- where i is not owed, no child is told
+-- where i does not count as owed, no child is told
 abbrev pub tellWhere : Bool → (ℕ → Bool) → Sheet → Table → ℕ → Table
 tellWhere true w S T i = tellBelowBy w S i T (size S)
 tellWhere false w S T i = T

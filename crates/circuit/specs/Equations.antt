@@ -62,16 +62,16 @@ pub record Owing (S : Sheet) (T : Table) : Type 0 where
   pub only : (w : ℕ → Bool) → ((i : ℕ) → (w i ≡ true) ↔ SomeChild w S T i) → (i : ℕ) → w i ≡ owed S T i
   -- an item is owed exactly if it leads to one that is stored
   pub leads : (i : ℕ) → (owed S T i ≡ true) ↔ ((k : ℕ) × (LeadsTo (circuitOf S) i k × (isStored (T k) ≡ true)))
-  -- Telling goes by the table as it then is; in one telling that is the table at its start.
-  pub when-told : (i k : ℕ) → Listed i (parents S k) → owed S (tellBelow S i T k) k ≡ owed S T k
+  -- Telling goes by the table as it then is; a child that is told is owed then exactly if it was at the start.
+  pub when-told : (i k : ℕ) → owed S (tellBelow S i T k) k ≡ owed S T k
   -- where i is not owed, telling changes nothing
   pub none-called : (i : ℕ) → owed S T i ≡ false → tell S T i ≡ T
 
--- 01's "telling" a child c, by its cell and its spread; `r` is what working it out gives.
+-- 01's "telling" a child c, with 02's job 5, by its cell and its spread; `r` is what working it out gives.
 pub record TellingChild (S : Sheet) (T : Table) (c : ℕ) : Type 0 where
   -- An UNK child gets notice if it is owed, and is passed over if it is not.
-  pub owes : (f : Bool) → T c ≡ unk f → owed S T c ≡ true → tellChild S T c ≡ upd T c (unk true)
-  pub owes-not : (f : Bool) → T c ≡ unk f → owed S T c ≡ false → tellChild S T c ≡ T
+  pub calls-on : (f : Bool) → T c ≡ unk f → owed S T c ≡ true → tellChild S T c ≡ upd T c (unk true)
+  pub passes-over : (f : Bool) → T c ≡ unk f → owed S T c ≡ false → tellChild S T c ≡ T
   -- Forget makes it UNK with notice.
   pub forgets : (v : Value) (m : Mark) → T c ≡ held v m → spreadOf (itemAt S c) ≡ forget → tellChild S T c ≡ upd T c (unk true)
   -- Defer sets refresh, unless its mark is notice, when it acts as renew.
@@ -127,13 +127,14 @@ pub record LowestFound (T : Table) (n : ℕ) : Type 0 where
   pub item : (i : ℕ) → (lowestMarked T n ≡ some i) ↔ MarkedFirst T n i
 
 -- Catching up: "step the lowest marked item until none is marked" (`CaughtUp`) leads to this table and to no other, and no
--- mark stands on it. It leads to the same table, whichever UNK children are called on besides the owed (`CaughtUpBy`): also if all of
--- them are, as before 02's job 5.
+-- mark stands on it. Whatever counts as owed besides (`CaughtUpBy`), it leads to the same table and to no other: also if all items do, as
+-- before 02's job 5.
 pub record CatchingUp (S : Sheet) (T : Table) : Type 0 where
   pub reached : CaughtUp S T (catchUp S T)
   pub only : (U : Table) → CaughtUp S T U → U ≡ catchUp S T
   pub quiet : Quiet S (catchUp S T)
-  pub whoever : (w : ℕ → Bool) → ((c : ℕ) → owed S T c ≡ true → w c ≡ true) → (U : Table) → CaughtUpBy w S T U → U ≡ catchUp S T
+  pub reached-by : (w : ℕ → Bool) → ((c : ℕ) → owed S T c ≡ true → w c ≡ true) → CaughtUpBy w S T (catchUp S T)
+  pub only-by : (w : ℕ → Bool) → ((c : ℕ) → owed S T c ≡ true → w c ≡ true) → (U : Table) → CaughtUpBy w S T U → U ≡ catchUp S T
 
 pub record Equations : Type 0 where
   pub looking : (S : Sheet) → Ordered S → (T : Table) → LookingUp S T

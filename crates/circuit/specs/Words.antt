@@ -25,7 +25,7 @@ pub data CaughtUp (S : Sheet) : Table → Table → Type 0 where
   still : {T : Table} → lowestMarked T (size S) ≡ none → CaughtUp S T T
   stepped : {T U : Table} (i : ℕ) → lowestMarked T (size S) ≡ some i → CaughtUp S (stepItem S T i) U → CaughtUp S T U
 
--- the same, where w says which UNK children are called on; with w true of every item it is catching up as it was before 02's job 5
+-- the same, where w says what counts as owed; with w true of every item it is catching up as it was before 02's job 5
 pub data CaughtUpBy (w : ℕ → Bool) (S : Sheet) : Table → Table → Type 0 where
   still-by : {T : Table} → lowestMarked T (size S) ≡ none → CaughtUpBy w S T T
   stepped-by : {T U : Table} (i : ℕ) → lowestMarked T (size S) ≡ some i → CaughtUpBy w S (stepBy w S T i) U → CaughtUpBy w S T U

@@ -6,7 +6,7 @@ use Rattle.circuit.proofs.Board.{listed-count, listed-at}
 use Rattle.office.specs.Demands.{Refuses, Means, Agrees, Demands}
 use Rattle.office.proofs.Refusals.{turned-back, board-refuses, close-refuses, accepted-lent}
 use Rattle.office.proofs.Examples.{each-given}
-use Rattle.office.proofs.Older.{lower-accepted}
+use Rattle.office.proofs.Older.{lower-accepted, former-refused}
 use Rattle.office.proofs.Words.{sheet-words}
 use Rattle.office.proofs.Meaning.{opens-exactly, opening-writes, fits-sheet, one-layout, accepted-opened, bare-unstored, gives-solution}
 use Rattle.office.proofs.Leaves.{leaves}
@@ -28,6 +28,7 @@ refuses =
       boards = board-refuses;
       closes = close-refuses;
       older = lower-accepted;
+      former = former-refused;
       each = each-given;
       words = sheet-words;
     }

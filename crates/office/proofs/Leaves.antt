@@ -456,7 +456,7 @@ module _ (s : List ℕ) (kept : Office) (lent : AcceptedLent s kept) where
           index-kept = index-same;
           accepted = stays-accepted;
           bytes = stays-bytes bytes;
-          owes = owes-right;
+          owed-right = owes-right;
           posts = post-leaves;
           keeps = keep-leaves;
           drops = drop-leaves;

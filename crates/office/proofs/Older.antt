@@ -1,13 +1,14 @@
--- Older tables: what is accepted under a lower limit of the range is accepted, and what its stored figures may still hold. Assumes
--- nothing.
-use Prim.Native.Nat.{ℕ, _+_, _≤_, _<_}
+-- Older tables: those of the former width are refused with 8. What is accepted under a lower limit of the range is accepted, and what its
+-- stored figures may still hold. Assumes nothing.
+use Prim.Native.Nat.{ℕ, _+_, _*_, _≤_, _<_}
 use native.Mathlib.Omega.{arith}
-use mathlib.Core.Path.{_≡_, refl}
+use mathlib.Core.Path.{_≡_, refl, ap, _∙_}
 use mathlib.Core.Bool.{Bool, true}
 use mathlib.Core.List.{List, [], _∷_, _++_}
 use mathlib.Core.Logic.{inl, inr}
 use lib.Dec.{leb}
 use lib.IntN.{ℤ, pos, natAbs}
+use lib.ListN.{length}
 use borrow.Author.Tests.{leb-true}
 use Rattle.word.specs.Word.{bytes64}
 use Rattle.circuit.specs.Value.{limit}
@@ -15,14 +16,19 @@ use Rattle.circuit.specs.Sheet.{size}
 use Rattle.circuit.specs.Call.{post, drop, ask, bare}
 use Rattle.circuit.proofs.Examples.{machine}
 use Rattle.layout.specs.Opened.{sheetOf}
+use Rattle.layout.specs.Read.{Placed, opens, readSheet}
+use Rattle.layout.specs.Causes.{Faultless}
+use Rattle.layout.proofs.Scan.{opened-count}
+use Rattle.layout.proofs.Causes.{opens-faultless}
 use Rattle.layout.proofs.Examples.{exampleBytes}
 use Rattle.table.specs.Rows.{row, allBelow}
 use Rattle.table.specs.Record.{width, numberIn}
 use Rattle.table.proofs.Rows.{below-true}
 use Rattle.office.specs.Office.{Office, keeping, openOn, runOn}
 use Rattle.office.specs.Demand1Words.{BeyondLimit, RecordBroken, kindUnknown, markUnknown, entryUnk, entryOut, entryRefresh, unkRefresh, numberNotZero, beyondRange}
-use Rattle.office.specs.Demand1Words.{TableBrokenUnder, AcceptedUnder, AcceptedLent}
-use Rattle.office.proofs.Refusals.{accepted-lent}
+use Rattle.office.specs.Demand1Words.{TableBrokenUnder, AcceptedUnder, AcceptedLent, Invocation, opening, calling, serve, LengthsWrong, formerWidth, causesOf, First, byLent}
+use Rattle.office.proofs.Agreeing.{sized}
+use Rattle.office.proofs.Refusals.{turned-back, opens-sheet, accepted-lent}
 use Rattle.office.proofs.Examples.{calls, exampleIndex, zeros8, nullRecord, unkRecord, unowed, owing, answers, answer}
 
 -- a record is broken under another range too, if a number beyond the one is beyond the other
@@ -47,6 +53,22 @@ accepted-under most other s o h a = record { sheet = a .sheet; lent = (a .lent .
     unbroken (i, low, inl broken) = a .lent .1 .1 .0 (i, low, inl (record-under (h i low) broken))
     unbroken (i, low, inr false-byte) = a .lent .1 .1 .0 (i, low, inr false-byte)
 
+-- a sheet without a fault has an item, and so a table of the former width is not of today's
+pub former-refused : (r : Invocation) (s : List ℕ) (o : Office) → Faultless s → length (o .table) ≡ formerWidth * size (sheetOf s)
+    → (serve r s o .number ≡ 8) × (serve r s o .offset ≡ 0)
+former-refused r s o faultless long = turned-back r s o .given 8 0 (λ e. omega arith) .1 (byLent faultless (first r) refl)
+  where
+    some : (edition : ℕ) × (ps : List Placed) × (readSheet s ≡ opens edition ps) → 0 < size (sheetOf s)
+    some (edition, ps, e) =
+        omega (arith, opened-count s edition ps e, ap size (opens-sheet s edition ps e) ∙ sized s edition ps e)
+
+    other : LengthsWrong (size (sheetOf s)) o
+    other = inr (λ now. omega (arith, some (opens-faultless s .1 faultless)))
+
+    first : (q : Invocation) → First (causesOf s o q) 8
+    first (opening how) = inl (refl, other)
+    first (calling c) = inl (refl, other)
+
 -- what is accepted under a lower limit is accepted
 pub lower-accepted : (most : ℕ) → most ≤ limit → (s : List ℕ) (o : Office) → AcceptedUnder most s o → AcceptedLent s o
 lower-accepted most h s o a = accepted-under most limit s o (λ i low b. omega arith) a
@@ -59,11 +81,11 @@ former-lower : formerLimit ≤ limit
 unfolding formerLimit limit
 former-lower = omega arith
 
--- and so is every table from before
+-- and so is what is accepted under that one
 pub older-accepted : (s : List ℕ) (o : Office) → AcceptedUnder formerLimit s o → AcceptedLent s o
 older-accepted s o a = lower-accepted formerLimit former-lower s o a
 
--- A table from before, of the example sheet: A holds the former limit and S holds 1; T, which sums them, is stored as OUT and has no
+-- A table within that limit, of the example sheet: A holds the former limit and S holds 1; T, which sums them, is stored as OUT and has no
 -- mark.
 unfoldable pub olderTable : List ℕ
 olderTable =
@@ -81,7 +103,7 @@ older-numbers = refl
 abbrev older : Office
 older = keeping exampleIndex olderTable
 
--- It was accepted under the former range. It is accepted still, and asks give A, S and T as they are stored. T worked out anew is the
+-- It is accepted under the former range, and under today's, and asks give A, S and T as they are stored. T worked out anew is the
 -- sum of A and S, and so it is on a table opened since, with the same postings; a table that holds it was not accepted under the former
 -- range.
 pub older-out : AcceptedUnder formerLimit exampleBytes older

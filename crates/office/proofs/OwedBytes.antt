@@ -20,7 +20,7 @@ use Rattle.table.specs.Rows.{row, allBelow}
 use Rattle.table.specs.Record.{width, kindIn, markIn, numberIn, owedIn, markCoded, owedCode, decodeCell}
 use Rattle.table.specs.Bytes.{decodeTable, owedTrueAt, owedTrue}
 use Rattle.table.proofs.Rows.{below-true, true-below}
-use Rattle.office.specs.Demand1Words.{StoredOrOwed, SomeChildOwes, OwedFalse, owedUnknown, noChild, someChild}
+use Rattle.office.specs.Demand1Words.{StoredOrOwed, SomeChildLeans, OwedFalse, owedUnknown, noChild, someChild}
 
 -- the code of a byte that is 1 or 0
 coded : (b : Bool) → eqb (owedCode b) 1 ≡ b
@@ -64,7 +64,7 @@ module _ (S : Sheet) (ordered : Ordered S) (t : List ℕ) where
   abbrev judged : ℕ → Bool
   judged i = anyBelow (λ c. isChild S i c && leaning (decodeTable t c) (said c)) (size S)
 
-  tells-child : (i : ℕ) → Tells (SomeChildOwes S t i) (judged i)
+  tells-child : (i : ℕ) → Tells (SomeChildLeans S t i) (judged i)
   tells-child i = go (judged i) refl
     where
       p : ℕ → Bool
@@ -84,14 +84,14 @@ module _ (S : Sheet) (ordered : Ordered S) (t : List ℕ) where
           told (holds q) = refl
           told (fails n) = absurd (n h)
 
-      go : (b : Bool) → judged i ≡ b → Tells (SomeChildOwes S t i) b
+      go : (b : Bool) → judged i ≡ b → Tells (SomeChildLeans S t i) b
       go true e =
           let r : Passing p (size S) = any-passing p (size S) e in
           let both = both-true (isChild S i (r .number)) _ (r .passes) in
           holds (r .number, member-listed i (parents S (r .number)) (both .0), leant (r .number) (both .1))
       go false e = fails none
         where
-          none : SomeChildOwes S t i → ⊥
+          none : SomeChildLeans S t i → ⊥
           none (c, l, h) =
               let found : anyBelow p (size S) ≡ true
               = any-holds p (size S) c (parent-within S i c l) (rw (listed-member i (parents S c) l) (leans-there c h)) in
@@ -107,7 +107,7 @@ module _ (S : Sheet) (ordered : Ordered S) (t : List ℕ) where
       o : ℕ
       o = owedIn (row width t i)
 
-      go : {b : Bool} → Tells (SomeChildOwes S t i) b → Refutes (OwedFalse S t i) (eqb o (owedCode b))
+      go : {b : Bool} → Tells (SomeChildLeans S t i) b → Refutes (OwedFalse S t i) (eqb o (owedCode b))
       go (holds h) = by (tells-eq o 1)
         where
           by : {b : Bool} → Tells (o ≡ 1) b → Refutes (OwedFalse S t i) b
@@ -185,7 +185,7 @@ module _ (S : Sheet) (ordered : Ordered S) (t : List ℕ) where
 
   -- a byte that is not false is right
   pub unfalse-right : (i : ℕ) → ¬ OwedFalse S t i
-      → ((owedIn (row width t i) ≡ 1) × SomeChildOwes S t i) ⊎ ((owedIn (row width t i) ≡ 0) × (¬ SomeChildOwes S t i))
+      → ((owedIn (row width t i) ≡ 1) × SomeChildLeans S t i) ⊎ ((owedIn (row width t i) ≡ 0) × (¬ SomeChildLeans S t i))
   unfalse-right i n = go (tells-child i)
     where
       o : ℕ
@@ -199,6 +199,6 @@ module _ (S : Sheet) (ordered : Ordered S) (t : List ℕ) where
           at (fails a) (holds e) = omega (arith, e)
           at (fails a) (fails b) = absurd (n (owedUnknown (omega (arith, a, b))))
 
-      go : {b : Bool} → Tells (SomeChildOwes S t i) b → ((o ≡ 1) × SomeChildOwes S t i) ⊎ ((o ≡ 0) × (¬ SomeChildOwes S t i))
+      go : {b : Bool} → Tells (SomeChildLeans S t i) b → ((o ≡ 1) × SomeChildLeans S t i) ⊎ ((o ≡ 0) × (¬ SomeChildLeans S t i))
       go (holds h) = let some : ¬ (o ≡ 0) = λ e. n (someChild e h) in inl (omega (arith, small, some), h)
       go (fails m) = let none : ¬ (o ≡ 1) = λ e. n (noChild e m) in inr (omega (arith, small, none), m)

@@ -42,6 +42,10 @@ resultsLentTo (calling c) = resultsLent c
 abbrev pub LengthsWrong : ℕ → Office → Type 0
 LengthsWrong n o = (¬ (length (o .index) ≡ indexWidth * n)) ⊎ (¬ (length (o .table) ≡ width * n))
 
+-- how many bytes an item had before 02's job 5
+abbrev pub formerWidth : ℕ
+formerWidth = 10
+
 -- 9: index not as opening writes it
 abbrev pub IndexNotAsOpened : List Placed → List ℕ → Type 0
 IndexNotAsOpened ps x = ¬ (x ≡ indexBytes ps)
@@ -78,15 +82,15 @@ abbrev pub StoredOrOwed : List ℕ → Type 0
 StoredOrOwed r = (¬ (kindIn r ≡ 0)) ⊎ ((kindIn r ≡ 0) × (owedIn r ≡ 1))
 
 -- some child is
-abbrev pub SomeChildOwes : Sheet → List ℕ → ℕ → Type 0
-SomeChildOwes S t i = (c : ℕ) × Listed i (parents S c) × StoredOrOwed (row width t c)
+abbrev pub SomeChildLeans : Sheet → List ℕ → ℕ → Type 0
+SomeChildLeans S t i = (c : ℕ) × Listed i (parents S c) × StoredOrOwed (row width t c)
 
 -- The owed byte of item i is false: it is neither 1 nor 0, or 1 without such a child, or 0 with one. The children are judged by their own
 -- bytes: only the true bytes are false nowhere (`Owing`, circuit/specs/Equations).
 pub data OwedFalse (S : Sheet) (t : List ℕ) (i : ℕ) : Type 0 where
   owedUnknown : 1 < owedIn (row width t i) → OwedFalse S t i
-  noChild : owedIn (row width t i) ≡ 1 → ¬ SomeChildOwes S t i → OwedFalse S t i
-  someChild : owedIn (row width t i) ≡ 0 → SomeChildOwes S t i → OwedFalse S t i
+  noChild : owedIn (row width t i) ≡ 1 → ¬ SomeChildLeans S t i → OwedFalse S t i
+  someChild : owedIn (row width t i) ≡ 0 → SomeChildLeans S t i → OwedFalse S t i
 
 -- the table breaks its form, or a number the range from -most to most, or an owed byte is false
 abbrev pub TableBrokenUnder : ℕ → Sheet → List ℕ → Type 0

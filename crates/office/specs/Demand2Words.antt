@@ -28,7 +28,7 @@ use Rattle.table.specs.Rows.{row}
 use Rattle.table.specs.Record.{width, owedPlace, kindIn, markIn, numberIn, owedIn}
 use Rattle.table.specs.Bytes.{encodeTable, decodeTable}
 use Rattle.office.specs.Office.{Office, Given, callOn, resultsOf}
-use Rattle.office.specs.Demand1Words.{SomeChildOwes, AcceptedLent}
+use Rattle.office.specs.Demand1Words.{SomeChildLeans, AcceptedLent}
 
 -- ---- what a call answers
 
@@ -142,7 +142,7 @@ pub record ResultWords (r : List ℕ) (kind : ℕ) (z : ℤ) : Type 0 where
 abbrev pub OwedRight : Sheet → List ℕ → Type 0
 OwedRight S t =
     (i : ℕ) → i < size S
-    → ((owedIn (row width t i) ≡ 1) × SomeChildOwes S t i) ⊎ ((owedIn (row width t i) ≡ 0) × (¬ SomeChildOwes S t i))
+    → ((owedIn (row width t i) ≡ 1) × SomeChildLeans S t i) ⊎ ((owedIn (row width t i) ≡ 0) × (¬ SomeChildLeans S t i))
 
 -- the table's bytes are those of the cells T, with their owed bytes
 abbrev pub HasCells : Sheet → List ℕ → Table → Type 0
@@ -231,7 +231,7 @@ pub record CallsLeave (s : List ℕ) (o : Office) : Type 0 where
   pub accepted : (c : Call) → AcceptedLent s (callOn s o c .after)
   pub bytes : (c : Call) → Bytes (callOn s o c .after .table)
   -- 02's "Every call keeps it true"
-  pub owes : (c : Call) → OwedRight (sheetOf s) (callOn s o c .after .table)
+  pub owed-right : (c : Call) → OwedRight (sheetOf s) (callOn s o c .after .table)
   pub posts : (i kind : ℕ) (z : ℤ) → let g : Given = callOn s o (post i kind z) in
       g .number ≡ 0 → PostLeaves (size (sheetOf s)) (o .table) i kind z (g .after .table)
   pub keeps : (i : ℕ) → let g : Given = callOn s o (keep i) in g .number ≡ 0 → KeepLeaves (sheetOf s) (o .table) i (g .after .table)

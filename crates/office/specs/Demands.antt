@@ -1,14 +1,16 @@
--- The three demands of document 01, with 02's board, older tables and season-close run, a record for each, in its order. They are
+-- The three demands of document 01, with 02's board, season-close run and owed bytes, a record for each, in its order. They are
 -- demands on `openOn` and `callOn` (Office), which the contracts of the exported functions cite: a function gives and leaves exactly what
 -- these say, for all lent bytes. That every call ends and touches only what it was lent is proved of each function by the language.
 -- Assumes nothing.
-use Prim.Native.Nat.{ℕ, _≤_}
+use Prim.Native.Nat.{ℕ, _*_, _≤_}
 use mathlib.Core.Path.{_≡_}
 use mathlib.Core.Bool.{true}
 use mathlib.Core.List.{List}
 use mathlib.Core.Logic.{_↔_}
 use lib.IntN.{pos}
+use lib.ListN.{length}
 use Rattle.circuit.specs.Value.{Value, limit, kindOf, numberOf, wellFormed}
+use Rattle.circuit.specs.Sheet.{size}
 use Rattle.circuit.specs.Equations.{Equations}
 use Rattle.circuit.specs.Call.{Call, drop, board, close, Opening, bare}
 use Rattle.circuit.specs.Calls.{drops}
@@ -18,7 +20,7 @@ use Rattle.layout.specs.Opened.{sheetOf}
 use Rattle.layout.specs.Causes.{Faultless}
 use Rattle.office.specs.Office.{Office, resultOf, callOn, openOn, runOn}
 use Rattle.office.specs.Demand1Words.{Invocation, serve, resultsLentTo, causesOf, First, ByNumber, Lowest, Refused, NoCause, Gets}
-use Rattle.office.specs.Demand1Words.{AcceptedUnder, AcceptedLent, BoardRefuses, CloseRefuses, SheetWords}
+use Rattle.office.specs.Demand1Words.{formerWidth, AcceptedUnder, AcceptedLent, BoardRefuses, CloseRefuses, SheetWords}
 use Rattle.office.specs.Demand2Words.{FollowsLayout, Writes, NoneStored, OnlySolution, entriesIn, Gives, ListWords, ResultWords, CallsLeave}
 use Rattle.office.specs.Demand3Words.{acceptedPosts, askAfter, freshFrom, SameAnswers, Retains, CountsAsAsks, ClosesRight, OfficeAccepted}
 
@@ -41,16 +43,18 @@ pub record Refuses : Type 0 where
   pub boards : (s : List ℕ) (o : Office) (items results : List ℕ) → BoardRefuses s o items results
   -- of a season-close run: 1 to 10, and no others
   pub closes : (s : List ℕ) (o : Office) → CloseRefuses s o
-  -- 02's "older tables are accepted": what is accepted under a range with a lower limit, every other cause the same, is accepted
+  -- what is accepted under a range with a lower limit, every other cause the same, is accepted
   pub older : (most : ℕ) → most ≤ limit → (s : List ℕ) (o : Office) → AcceptedUnder most s o → AcceptedLent s o
+  -- 02's "old tables are opened anew": a table of the former width is given 8 by every opening and call, if the sheet has no fault
+  pub former : (r : Invocation) (s : List ℕ) (o : Office) → Faultless s → length (o .table) ≡ formerWidth * size (sheetOf s)
+      → (serve r s o .number ≡ 8) × (serve r s o .offset ≡ 0)
   -- each number has its cause (15 is the printer's, printer/specs/Causes, and 16 the day program's, day_meaning/specs/Causes)
   pub each : Gets 1 × Gets 2 × Gets 3 × Gets 4 × Gets 5 × Gets 6 × Gets 7 × Gets 8 × Gets 9 × Gets 10 × Gets 11 × Gets 12 × Gets 13 × Gets 14 × Gets 17
   -- the sheet's words in the causes are those of its bytes
   pub words : (s : List ℕ) → Faultless s → SheetWords s
 
 -- Demand 2. A sheet opens exactly if it follows the layout; a figure worked out with nothing stored is the circuit's solution;
--- every call leaves exactly the table that 01 describes, a board the table and the results, and a season-close run the table, that 02
--- describes.
+-- every call leaves exactly the table that 01 and 02 describe, and a board the results that 02 describes.
 pub record Means : Type 0 where
   -- a sheet that is lent with an index and a table of 4 and 11 bytes an item
   pub opens : (how : Opening) (s : List ℕ) (o : Office) → Bytes s → (openOn how s o .number ≡ 0) ↔ FollowsLayout s o
@@ -70,7 +74,8 @@ pub record Means : Type 0 where
   pub lists : (items : List ℕ) → ListWords items
   -- a result holds the kind and the number of its value
   pub results : (v : Value) → wellFormed v ≡ true → ResultWords (resultOf (kindOf v) (numberOf v)) (kindOf v) (numberOf v)
-  -- looking up, working out, telling, catching up and the fresh office as 01 has them, and the season-close run as 02 has it
+  -- looking up, working out, catching up and the fresh office as 01 has them, telling as 01 has it with 02's job 5, and owed and the
+  -- season-close run as 02 has them
   pub equations : Equations
 
 -- Demand 3, about whole lists of calls.

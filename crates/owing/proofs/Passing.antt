@@ -22,16 +22,16 @@ use Rattle.item.proofs.Located.{sheet-ordered, located-item}
 use Rattle.table.specs.Record.{width, owedCode, decodeCell}
 use Rattle.table.specs.Bytes.{decodeTable}
 use Rattle.table.proofs.Cases.{kind-read}
-use Rattle.owing.specs.Owing.{owes, Blank, OwedIs, oweEach}
+use Rattle.owing.specs.Owing.{saysOwed, Blank, OwedIs, oweEach}
 
 -- ---- whether an item leans, by its kind and its byte
 
 module _ (t : List ℕ) (bytes : List ℕ) (c : ℕ) where
-  pub stored-leans : (getD t (c * width) 0 ≡ 0 → ⊥) → true ≡ leaning (decodeTable t c) (owes bytes c)
+  pub stored-leans : (getD t (c * width) 0 ≡ 0 → ⊥) → true ≡ leaning (decodeTable t c) (saysOwed bytes c)
   unfolding decodeCell
   stored-leans h = rw (kind-read t c, ne-eqb (getD t (c * width) 0) 0 h)
 
-  pub unk-leans : getD t (c * width) 0 ≡ 0 → not (eqb (getD bytes c 0) 0) ≡ leaning (decodeTable t c) (owes bytes c)
+  pub unk-leans : getD t (c * width) 0 ≡ 0 → not (eqb (getD bytes c 0) 0) ≡ leaning (decodeTable t c) (saysOwed bytes c)
   unfolding decodeCell
   unk-leans h = rw (kind-read t c, h)
 
@@ -127,7 +127,7 @@ module _ (S : Sheet) (ordered : Ordered S) (T : Table) (room : ℕ) where
       record { room = omega (arith, p .fits, p .kept); byte-is = λ i h. says-owed S ordered T c i (omega arith) (p .says i h) }
 
   -- at item k the code's test is whether k leans
-  module _ (c k : ℕ) (next : c ≡ suc k) (bytes : List ℕ) (p : Passed S T room c bytes) (r : Bool) (tested : r ≡ leaning (T k) (owes bytes k)) where
+  module _ (c k : ℕ) (next : c ≡ suc k) (bytes : List ℕ) (p : Passed S T room c bytes) (r : Bool) (tested : r ≡ leaning (T k) (saysOwed bytes k)) where
     leans-is : r ≡ leans S T k
     leans-is =
         tested ∙ ap (λ b. leaning (T k) (not (eqb b 0))) (says-owed S ordered T c k (omega arith) (p .says k (omega (arith, p .within))))

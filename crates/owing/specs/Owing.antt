@@ -11,10 +11,10 @@ use Rattle.circuit.specs.Owed.{owed}
 use Rattle.table.specs.Record.{width, owedPlace, owedCode}
 
 -- the array says that item i is owed
-abbrev pub owes : List ℕ → ℕ → Bool
-owes bytes i = not (eqb (getD bytes i 0) 0)
+abbrev pub saysOwed : List ℕ → ℕ → Bool
+saysOwed bytes i = not (eqb (getD bytes i 0) 0)
 
--- room for n items, of which it says nothing yet
+-- room for n items, of which it says that none is owed
 pub record Blank (n : ℕ) (bytes : List ℕ) : Type 0 where
   pub room : n ≤ length bytes
   pub none : (i : ℕ) → i < n → getD bytes i 0 ≡ 0
@@ -24,12 +24,12 @@ pub record OwedIs (S : Sheet) (T : Table) (bytes : List ℕ) : Type 0 where
   pub room : size S ≤ length bytes
   pub byte-is : (i : ℕ) → i < size S → getD bytes i 0 ≡ owedCode (owed S T i)
 
--- the first k of the parents ps are owed
+-- the array after a 1 for each of the first k of the parents ps
 unfoldable pub oweEach : List ℕ → List ℕ → ℕ → List ℕ
 oweEach bytes ps zero = bytes
 oweEach bytes ps (suc k) = set (oweEach bytes ps k) (getD ps k 0) 1
 
--- the owed bytes of the first n records of the table are those of the array
+-- the table after the owed bytes of its first n records were set to those of the array
 unfoldable pub oweRows : List ℕ → List ℕ → ℕ → List ℕ
 oweRows t bytes zero = t
 oweRows t bytes (suc n) = set (oweRows t bytes n) (width * n + owedPlace) (getD bytes n 0)

@@ -12,7 +12,7 @@ ghost use Rattle.item.specs.Item.{ItemField, fieldItem};
 ghost use Rattle.table.specs.Rows.{row, allBelow};
 ghost use Rattle.table.specs.Record.{width, owedIn};
 ghost use Rattle.table.specs.Bytes.{encodeTable, decodeTable, tableForm, owedTrue};
-ghost use Rattle.owing.specs.Owing.{owes, Blank, OwedIs, oweEach, oweRows};
+ghost use Rattle.owing.specs.Owing.{saysOwed, Blank, OwedIs, oweEach, oweRows};
 
 // Where a record's owed byte stands.
 const OWED_PLACE: usize = 10;
@@ -20,7 +20,7 @@ const OWED_PLACE: usize = 10;
 // Whether item c leans on its parents: it is stored, or the array says that it is owed.
 fn leans(table: &[u8], owed: &[u8], c: usize) -> bool
     requires { ⌜ width * c + width ≤ length (now table) ⌝ ∗ ⌜ c < length (now owed) ⌝ }
-    ensures { λ r. ⌜ r ≡ leaning (decodeTable (now (table .entry)) c) (owes (now (owed .entry)) c) ⌝ }
+    ensures { λ r. ⌜ r ≡ leaning (decodeTable (now (table .entry)) c) (saysOwed (now (owed .entry)) c) ⌝ }
 {
     if table[c * table::WIDTH] != 0 {
         return true;

@@ -19,7 +19,7 @@ use Rattle.circuit.proofs.CalledMore.{catchUp-by}
 use Rattle.layout.specs.Opened.{sheetOf}
 use Rattle.item.proofs.Located.{sheet-ordered, size-most}
 use Rattle.table.specs.Bytes.{decodeTable, LowestMarked}
-use Rattle.owing.specs.Owing.{owes, OwedIs}
+use Rattle.owing.specs.Owing.{saysOwed, OwedIs}
 use Rattle.memo.specs.Memo.{NoneFrom}
 use Rattle.looking.proofs.Gathering.{lent-on}
 use Rattle.looking.specs.Pass.{Lent}
@@ -144,7 +144,7 @@ module _ {w : ℕ → Bool} {s offsets t₀ tags₀ : List ℕ} {numbers₀ : Li
       }
 
 -- the array of what is owed says so of every item that is
-owed-called : (s bytes : List ℕ) (T : Table) → OwedIs (sheetOf s) T bytes → (c : ℕ) → owed (sheetOf s) T c ≡ true → owes bytes c ≡ true
+owed-called : (s bytes : List ℕ) (T : Table) → OwedIs (sheetOf s) T bytes → (c : ℕ) → owed (sheetOf s) T c ≡ true → saysOwed bytes c ≡ true
 owed-called s bytes T is c o =
     let child : Child (sheetOf s) T c = owed-finds (sheetOf s) (sheet-ordered s) T c o in
     let low : c < size (sheetOf s)
@@ -152,14 +152,14 @@ owed-called s bytes T is c o =
     rw (is .byte-is c low, o)
 
 pub ascending-done : {s offsets t₀ tags₀ bytes : List ℕ} {numbers₀ : List ℤ} {n i : ℕ} {t tags : List ℕ} {numbers : List ℤ}
-    → OwedIs (sheetOf s) (decodeTable t₀) bytes → Ascending (owes bytes) s offsets t₀ tags₀ numbers₀ n i t tags numbers → n ≤ i
+    → OwedIs (sheetOf s) (decodeTable t₀) bytes → Ascending (saysOwed bytes) s offsets t₀ tags₀ numbers₀ n i t tags numbers → n ≤ i
     → Steps s (2 * n) (catchUp (sheetOf s) (decodeTable t₀)) t tags
 unfolding ascendBy
 ascending-done {s} {offsets} {t₀} {tags₀} {bytes} {numbers₀} {n} {i} {t} {tags} {numbers} is inv h =
     record {
       table-is =
-          inv .table-is ∙ ap (ascendBelowBy (owes bytes) (sheetOf s) (decodeTable t₀)) (end ∙ inv .n-is)
-          ∙ catchUp-by (sheetOf s) (sheet-ordered s) (decodeTable t₀) (owes bytes) (owed-called s bytes (decodeTable t₀) is);
+          inv .table-is ∙ ap (ascendBelowBy (saysOwed bytes) (sheetOf s) (decodeTable t₀)) (end ∙ inv .n-is)
+          ∙ catchUp-by (sheetOf s) (sheet-ordered s) (decodeTable t₀) (saysOwed bytes) (owed-called s bytes (decodeTable t₀) is);
       formed = inv .lent .formed;
       older = subst (λ k. NoneFrom 0 tags (2 * k + 1)) end (inv .ready .older);
     }

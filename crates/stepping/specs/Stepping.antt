@@ -20,7 +20,7 @@ pub record Ready (s : List ℕ) (tags : List ℕ) (numbers : List ℤ) (generati
   pub generations : generation < 2_147_483_648
   pub older : NoneFrom 0 tags generation
 
--- The child lists of the sheet: built, or two arrays that are blank and have room for them.
+-- The child lists of the sheet: built, or two arrays with room for them, of which the heads are blank.
 pub record Lists (S : Sheet) (built : Bool) (heads links : List ℕ) : Type 0 where
   pub head-room : size S ≤ length heads
   pub link-room : maxParents * size S ≤ length links

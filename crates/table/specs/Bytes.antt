@@ -31,6 +31,10 @@ recordInForm S bs i = recordForm (isFigure (itemAt S i)) (row width bs i)
 unfoldable pub tableForm : Sheet → List ℕ → Bool
 tableForm S bs = allBelow (recordInForm S bs) (size S)
 
+-- the tables that such records are
+abbrev pub Holdable : Sheet → Table → Type 0
+Holdable S T = (i : ℕ) → i < size S → mayHold (isFigure (itemAt S i)) (T i) ≡ true
+
 -- the owed byte of item i is the true one
 abbrev pub owedTrueAt : Sheet → List ℕ → ℕ → Bool
 owedTrueAt S bs i = eqb (owedIn (row width bs i)) (owedCode (owed S (decodeTable bs) i))
@@ -38,10 +42,6 @@ owedTrueAt S bs i = eqb (owedIn (row width bs i)) (owedCode (owed S (decodeTable
 -- each owed byte is the true one
 unfoldable pub owedTrue : Sheet → List ℕ → Bool
 owedTrue S bs = allBelow (owedTrueAt S bs) (size S)
-
--- the tables that such bytes are
-abbrev pub Holdable : Sheet → Table → Type 0
-Holdable S T = (i : ℕ) → i < size S → mayHold (isFigure (itemAt S i)) (T i) ≡ true
 
 -- k is the lowest marked item below n, or n where none is
 pub record LowestMarked (T : Table) (n k : ℕ) : Type 0 where

@@ -1,4 +1,4 @@
-// The work table in bytes, a record for each item: kind, mark and number. Its form, and reading and storing one cell.
+// The work table in bytes, a record for each item: kind, mark, number and owed. The form of the first three, and reading and storing one cell.
 ghost use mathlib.Core.Path.{_≡_};
 ghost use Prim.Native.Nat.{_+_, _*_, _≤_};
 ghost use lib.ListN.{length};
@@ -111,7 +111,7 @@ fn store_record(table: &mut [u8], at: usize, kind: u8, mark: u8, number: i64)
     word::write_i64(table, at + 2, number);
 }
 
-// Stores the cell of item i, and changes no other byte. Every store to a work table is made here.
+// Stores the cell of item i, and changes no other byte. Every store of a cell is made here; owed bytes are written by crate owing.
 pub fn store_cell(table: &mut [u8], i: usize, cell: Cell)
     requires { ⌜ width * i + width ≤ length (now table) ⌝ }
     ensures { λ _. ⌜ now (table .exit) ≡ setRow width (now (table .entry)) i (encodeCell (cellMeaning cell)) ⌝ }

@@ -15,7 +15,7 @@ use Rattle.circuit.specs.Ascending.{tellChildBy, tellIfBy, tellBelowBy, tellWhe
 use Rattle.layout.specs.Opened.{sheetOf}
 use Rattle.item.proofs.Located.{sheet-ordered}
 use Rattle.table.specs.Bytes.{decodeTable}
-use Rattle.owing.specs.Owing.{owes}
+use Rattle.owing.specs.Owing.{saysOwed}
 use Rattle.children.specs.Children.{NoChild, Leads, Linked}
 use Rattle.children.proofs.Linking.{Child, leads-child, leads-end, left, next-less, place-child}
 use Rattle.memo.specs.Memo.{Memo, NoneFrom}
@@ -161,8 +161,8 @@ telling-none w {s} {offsets} {t} {tags} {numbers} {generation} {i} lent memo non
     (record { table-is = refl; formed = lent .formed; memo = memo; fresh = λ j h. none-from j (omega arith) })
 
 -- what the array says of an item, by its byte
-pub byte-owes : (bytes : List ℕ) (i : ℕ) → (getD bytes i 0 ≡ 0 → ⊥) → owes bytes i ≡ true
-byte-owes bytes i n = rw (ne-eqb (getD bytes i 0) 0 n)
+pub byte-owed : (bytes : List ℕ) (i : ℕ) → (getD bytes i 0 ≡ 0 → ⊥) → saysOwed bytes i ≡ true
+byte-owed bytes i n = rw (ne-eqb (getD bytes i 0) 0 n)
 
-pub byte-unowed : (bytes : List ℕ) (i : ℕ) → getD bytes i 0 ≡ 0 → owes bytes i ≡ false
+pub byte-unowed : (bytes : List ℕ) (i : ℕ) → getD bytes i 0 ≡ 0 → saysOwed bytes i ≡ false
 byte-unowed bytes i e = rw e

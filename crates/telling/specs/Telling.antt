@@ -10,7 +10,7 @@ use Rattle.circuit.specs.Sheet.{Sheet, Spread, defer, renew, forget, size, item
 use Rattle.circuit.specs.Table.{Table, Mark, unmarked, refresh, notice, held}
 use Rattle.layout.specs.Opened.{sheetOf}
 use Rattle.table.specs.Bytes.{decodeTable, tableForm}
-use Rattle.owing.specs.Owing.{owes}
+use Rattle.owing.specs.Owing.{saysOwed}
 use Rattle.children.specs.Children.{Linked}
 use Rattle.memo.specs.Memo.{Memo, NoneFrom}
 use Rattle.telling.specs.declared.Told.{Told}
@@ -28,7 +28,7 @@ pub record Moves (s : List ℕ) (generation b : ℕ) (U : Table) (t′ tags′ :
 pub record Telling (S : Sheet) (heads links bytes : List ℕ) (i : ℕ) : Type 0 where
   pub low : i < size S
   pub room : size S ≤ length bytes
-  pub linked : owes bytes i ≡ true → Linked S heads links
+  pub linked : saysOwed bytes i ≡ true → Linked S heads links
 
 -- item i is a figure of the sheet, and its record holds v
 pub record Renewable (s t : List ℕ) (i : ℕ) (v : Value) : Type 0 where

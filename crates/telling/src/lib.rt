@@ -10,7 +10,7 @@ ghost use Rattle.value.specs.Meaning.{meaning};
 ghost use Rattle.item.specs.Item.{spreadMeaning};
 ghost use Rattle.table.specs.Bytes.{decodeTable};
 ghost use Rattle.table.specs.Meaning.{markMeaning};
-ghost use Rattle.owing.specs.Owing.{owes};
+ghost use Rattle.owing.specs.Owing.{saysOwed};
 ghost use Rattle.memo.specs.Memo.{Memo, NoneFrom};
 ghost use Rattle.looking.specs.Pass.{Lent};
 ghost use Rattle.telling.specs.Telling.{Moves, Telling, Renewable, toldBy};
@@ -129,8 +129,8 @@ fn wide(edge: u16) -> usize
     edge as usize
 }
 
-// Tells the children of item i, lowest first, by their list. They have higher numbers. UNK children are called on where the array `owed` says
-// that they are owed. If it does not say so of item i, no child is stored or owed, and there is nobody to tell.
+// Tells the children of item i, lowest first, by their list. They have higher numbers. UNK children are called on where the array says that
+// they are owed. Where it does not say so of item i, nobody is told: arrays that are true, or were at the start, say so if a child leans on i.
 pub fn tell_children(
     sheet: &[u8],
     offsets: &[usize],
@@ -144,7 +144,7 @@ pub fn tell_children(
     i: usize,
 )
     requires { ⌜ Lent (now sheet) (now offsets) (now table) ⌝ ∗ ⌜ Memo (sheetOf (now sheet)) (decodeTable (now table)) (now tags) (now numbers) generation ⌝ ∗ ⌜ NoneFrom 0 (now tags) generation ⌝ ∗ ⌜ Telling (sheetOf (now sheet)) (now heads) (now links) (now owed) i ⌝ }
-    ensures { λ _. ⌜ Moves (now (sheet .entry)) generation (size (sheetOf (now (sheet .entry)))) (tellBy (owes (now (owed .entry))) (sheetOf (now (sheet .entry))) (decodeTable (now (table .entry))) i) (now (table .exit)) (now (tags .exit)) (now (numbers .exit)) ⌝ }
+    ensures { λ _. ⌜ Moves (now (sheet .entry)) generation (size (sheetOf (now (sheet .entry)))) (tellBy (saysOwed (now (owed .entry))) (sheetOf (now (sheet .entry))) (decodeTable (now (table .entry))) i) (now (table .exit)) (now (tags .exit)) (now (numbers .exit)) ⌝ }
 {
     if owed[i] == 0 {
         return;

@@ -4,7 +4,7 @@ use native.Mathlib.Omega.{arith}
 use mathlib.Core.Path.{sym, _∙_}
 use borrow.Author.Tests.{not-true, not-false}
 use Rattle.item.proofs.Located.{size-most}
-use Rattle.owing.specs.Owing.{owes}
+use Rattle.owing.specs.Owing.{saysOwed}
 use Rattle.stepping.proofs.Stepping.{still-older}
 use Rattle.stepping.proofs.Ascending.{unmarked-twice, ready-after}
 use borrow.Author.Needs.{needs}
@@ -16,7 +16,7 @@ returns c =
     let a = c .before .before .before .before .before .before .before .before .before .before .args in
     let p = c .before .before .before .before .before .before .before .before .before .before .pre in
     let older = still-older (a .tags .now) (2 * a .i + 1) (p .1 .0 .older) in
-    (unmarked-twice (owes (a .owed .now)) (p .0) (a .i) _ (c .before .is-marked .ensures) (not-true _ (c .if1 .taken)) (2 * a .i + 1) older, p .1 .1 .0)
+    (unmarked-twice (saysOwed (a .owed .now)) (p .0) (a .i) _ (c .before .is-marked .ensures) (not-true _ (c .if1 .taken)) (2 * a .i + 1) older, p .1 .1 .0)
 
 link-once-requires : tie.Need-link-once-requires
 link-once-requires c κs =

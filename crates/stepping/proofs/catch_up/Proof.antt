@@ -6,7 +6,7 @@ use mathlib.Core.Path.{_≡_, refl, _∙_}
 use lib.ListN.{length}
 use Rattle.layout.specs.Opened.{sheetOf}
 use Rattle.item.proofs.Located.{size-most}
-use Rattle.owing.specs.Owing.{owes}
+use Rattle.owing.specs.Owing.{saysOwed}
 use Rattle.stepping.specs.Stepping.{Lists}
 use Rattle.stepping.proofs.Ascending.{Ascending, ascending-start, ascending-next, ascending-done}
 use Rattle.stepping.proofs.catch_up.Statement.{statement}
@@ -14,7 +14,7 @@ use Rattle.stepping.proofs.catch_up.Tie as tie
 
 abbrev Inv-loop : tie.InvT-loop
 Inv-loop sheet offsets table₀ tags₀ numbers₀ heads₀ links₀ owed first n built₀ i₀ table tags numbers heads links built i =
-    Ascending (owes owed) sheet offsets table₀ tags₀ numbers₀ n i table tags numbers × Lists (sheetOf sheet) built heads links
+    Ascending (saysOwed owed) sheet offsets table₀ tags₀ numbers₀ n i table tags numbers × Lists (sheetOf sheet) built heads links
     × (length heads ≡ length heads₀) × (length links ≡ length links₀)
 
 abbrev μ-loop : tie.MeasureT-loop
@@ -24,7 +24,7 @@ loop-holds : tie.Need-loop-holds Inv-loop μ-loop
 loop-holds c =
     let a = c .before .before .before .before .before .before .before .args in
     let q = c .before .before .before .before .before .before .before .pre in
-    (ascending-start (owes (a .owed .now)) (q .0) (q .1 .0) (q .1 .1 .1 .0 .0) (q .1 .1 .1 .1), q .1 .1 .0, refl, refl)
+    (ascending-start (saysOwed (a .owed .now)) (q .0) (q .1 .0) (q .1 .1 .1 .0 .0) (q .1 .1 .1 .1), q .1 .1 .0, refl, refl)
 
 advance-requires : tie.Need-advance-requires Inv-loop μ-loop
 advance-requires c κs =

@@ -1,7 +1,7 @@
 -- `stepping::step_item` meets its contract. Assumes nothing.
 use mathlib.Core.Path.{sym, _∙_}
 use Rattle.stepping.proofs.Stepping.{steps-noticed, steps-unnoticed}
-use Rattle.owing.specs.Owing.{owes}
+use Rattle.owing.specs.Owing.{saysOwed}
 use borrow.Author.Needs.{needs}
 use Rattle.stepping.proofs.step_item.Statement.{statement}
 use Rattle.stepping.proofs.step_item.Tie as tie
@@ -14,14 +14,14 @@ step-refresh-requires c κs =
 returns : tie.Need-returns
 returns c =
     let a = c .before .before .before .before .before .before .before .before .before .before .before .before .before .before .before .before .before .before .before .args in
-    steps-noticed (owes (a .owed .now)) (a .sheet .now) (a .table .now) (a .i) _ (c .before .before .before .before .before .before .before .before .before .before .is-noticed .ensures)
+    steps-noticed (saysOwed (a .owed .now)) (a .sheet .now) (a .table .now) (a .i) _ (c .before .before .before .before .before .before .before .before .before .before .is-noticed .ensures)
     (c .before .before .before .before .before .before .before .before .before .if1 .taken) (c .before .before .before .before .before .tell-and-clear .ensures)
 
 returns-2 : tie.Need-returns-2
 returns-2 c =
     let d = c .before .before .before .before .before in
     let a = d .before .before .before .before .before .before .before .before .before .before .before .before .before .before .args in
-    steps-unnoticed (owes (a .owed .now)) (a .sheet .now) (a .table .now) (a .i) _ (d .before .before .before .before .before .is-noticed .ensures)
+    steps-unnoticed (saysOwed (a .owed .now)) (a .sheet .now) (a .table .now) (a .i) _ (d .before .before .before .before .before .is-noticed .ensures)
     (d .before .before .before .before .if1 .left) (d .step-refresh .ensures)
 
 pub step-item-spec : {M : Type 1} → statement M

@@ -1,7 +1,7 @@
 -- `stepping::step_twice` meets its contract. Assumes nothing.
 use mathlib.Core.Path.{refl, sym}
 use Rattle.stepping.proofs.Ascending.{second-lent, second-ready, stepped-twice, ready-before}
-use Rattle.owing.specs.Owing.{owes}
+use Rattle.owing.specs.Owing.{saysOwed}
 use borrow.Author.Needs.{needs}
 use Rattle.stepping.proofs.step_twice.Statement.{statement}
 use Rattle.stepping.proofs.step_twice.Tie as tie
@@ -18,9 +18,9 @@ step-marked-requires c κs =
     let l = c .before .before .before .before .before .before .before .before .step-item in
     let marked = sym (q .1 .1 .1 .1) in
     let n = l .last .1 .1 .1 .1 .0 in (
-      second-lent (owes (a .owed .now)) (q .0) (q .1 .0) (a .i) _ marked refl _ _ n (l .kept .1 .1 .0) (l .kept .1 .1 .1 .0) (l .kept .1 .1 .1 .1 .0) (l .ensures),
+      second-lent (saysOwed (a .owed .now)) (q .0) (q .1 .0) (a .i) _ marked refl _ _ n (l .kept .1 .1 .0) (l .kept .1 .1 .1 .0) (l .kept .1 .1 .1 .1 .0) (l .ensures),
       (
-        second-ready (owes (a .owed .now)) (q .0) (q .1 .0) (a .i) _ marked refl _ _ n (l .kept .1 .1 .0) (l .kept .1 .1 .1 .0) (l .kept .1 .1 .1 .1 .0) (l .ensures),
+        second-ready (saysOwed (a .owed .now)) (q .0) (q .1 .0) (a .i) _ marked refl _ _ n (l .kept .1 .1 .0) (l .kept .1 .1 .1 .0) (l .kept .1 .1 .1 .1 .0) (l .ensures),
         q .1 .1 .1 .0,
       ),
     )
@@ -31,7 +31,7 @@ returns c =
     let a = u .before .before .before .before .before .before .before .before .before .before .before .before .before .before .before .before .before .before .before .before .args in
     let q = u .before .before .before .before .before .before .before .before .before .before .before .before .before .before .before .before .before .before .before .before .pre in
     let l = u .before .before .before .before .before .before .before .before .before .step-item in
-    stepped-twice (owes (a .owed .now)) (q .0) (q .1 .0) (a .i) _ (sym (q .1 .1 .1 .1)) refl _ _ (l .last .1 .1 .1 .1 .0) (l .kept .1 .1 .0) (l .kept .1 .1 .1 .0)
+    stepped-twice (saysOwed (a .owed .now)) (q .0) (q .1 .0) (a .i) _ (sym (q .1 .1 .1 .1)) refl _ _ (l .last .1 .1 .1 .1 .0) (l .kept .1 .1 .0) (l .kept .1 .1 .1 .0)
     (l .kept .1 .1 .1 .1 .0) (l .ensures) (u .step-marked .ensures)
 
 pub step-twice-spec : {M : Type 1} → statement M

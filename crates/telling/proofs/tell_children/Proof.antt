@@ -4,16 +4,16 @@ use native.Mathlib.Omega.{arith}
 use borrow.Author.Needs.{needs}
 use Rattle.circuit.specs.Rules.{maxParents}
 use Rattle.item.proofs.Located.{size-most, located-narrow}
-use Rattle.owing.specs.Owing.{owes}
+use Rattle.owing.specs.Owing.{saysOwed}
 use Rattle.children.proofs.Linking.{left}
 use Rattle.telling.proofs.Children.{ToldBelow, telling-start, telling-memo, child-low, child-figure, child-fresh, edge-low, telling-less, telling-next, telling-done}
-use Rattle.telling.proofs.Children.{telling-none, byte-owes, byte-unowed}
+use Rattle.telling.proofs.Children.{telling-none, byte-owed, byte-unowed}
 use Rattle.telling.proofs.tell_children.Statement.{statement}
 use Rattle.telling.proofs.tell_children.Tie as tie
 
 abbrev Inv-loop : tie.InvT-loop
 Inv-loop sheet offsets table₀ tags₀ numbers₀ heads links owed generation i edge₀ table tags numbers edge =
-    ToldBelow (owes owed) sheet offsets table₀ tags₀ numbers₀ generation i edge table tags numbers
+    ToldBelow (saysOwed owed) sheet offsets table₀ tags₀ numbers₀ generation i edge table tags numbers
 
 abbrev μ-loop : tie.MeasureT-loop
 μ-loop sheet offsets table₀ tags₀ numbers₀ heads links owed generation i edge₀ table tags numbers edge = left links edge
@@ -27,7 +27,7 @@ returns : tie.Need-returns Inv-loop μ-loop
 returns c =
     let q = c .before .before .before .before .before .before .before .before .before .pre in
     let a = c .before .before .before .before .before .before .before .before .before .args in
-    telling-none (owes (a .owed .now)) (q .0) (q .1 .0) (q .1 .1 .0) (byte-unowed (a .owed .now) (a .i) (c .if1 .taken))
+    telling-none (saysOwed (a .owed .now)) (q .0) (q .1 .0) (q .1 .1 .0) (byte-unowed (a .owed .now) (a .i) (c .if1 .taken))
 
 mul-wide : tie.Need-mul-wide Inv-loop μ-loop
 mul-wide c =
@@ -38,7 +38,7 @@ shared-slice-read-wide : tie.Need-shared-slice-read-wide Inv-loop μ-loop
 shared-slice-read-wide c =
     let a = c .before .before .before .before .before .before .before .before .before .before in
     let t = a .pre .1 .1 .1 in
-    omega (arith, t .linked (byte-owes (a .args .owed .now) (a .args .i) (c .before .if1 .left)) .head-room, t .low)
+    omega (arith, t .linked (byte-owed (a .args .owed .now) (a .args .i) (c .before .if1 .left)) .head-room, t .low)
 
 wide-requires : tie.Need-wide-requires Inv-loop μ-loop
 wide-requires c κs = search needs
@@ -48,7 +48,7 @@ loop-holds c =
     let a = c .before .before .before .before .before .before .before .before .before .before .before .args in
     let q = c .before .before .before .before .before .before .before .before .before .before .before .pre in
     let t = q .1 .1 .1 in
-    telling-start (owes (a .owed .now)) (q .0) (q .1 .0) (q .1 .1 .0) (t .linked (byte-owes (a .owed .now) (a .i) (c .before .before .if1 .left))) (t .low) _
+    telling-start (saysOwed (a .owed .now)) (q .0) (q .1 .0) (q .1 .1 .0) (t .linked (byte-owed (a .owed .now) (a .i) (c .before .before .if1 .left))) (t .low) _
     (c .wide .ensures)
 
 shared-slice-read-tell-child : tie.Need-shared-slice-read-tell-child Inv-loop μ-loop
@@ -82,7 +82,7 @@ shared-slice-read-wide-2 c =
     let inv = l .loop .inv in
     let more = c .before .before .before .before .before .before .before .before .before .before .before .loop-test .taken in
     let narrow = located-narrow (a .args .sheet .now) (a .args .offsets .now) (inv .lent .located) _ (child-low inv more) in
-    edge-low inv more (a .pre .1 .1 .1 .linked (byte-owes (a .args .owed .now) (a .args .i) (l .before .before .before .if1 .left))) narrow
+    edge-low inv more (a .pre .1 .1 .1 .linked (byte-owed (a .args .owed .now) (a .args .i) (l .before .before .before .if1 .left))) narrow
 
 wide-requires-2 : tie.Need-wide-requires-2 Inv-loop μ-loop
 wide-requires-2 c κs = search needs
@@ -94,7 +94,7 @@ loop-less c =
     let inv = l .loop .inv in
     let more = c .before .before .before .before .before .before .before .before .before .before .before .before .loop-test .taken in
     let narrow = located-narrow (a .args .sheet .now) (a .args .offsets .now) (inv .lent .located) _ (child-low inv more) in
-    telling-less inv more (a .pre .1 .1 .1 .linked (byte-owes (a .args .owed .now) (a .args .i) (l .before .before .before .if1 .left))) narrow _ (c .wide2 .ensures)
+    telling-less inv more (a .pre .1 .1 .1 .linked (byte-owed (a .args .owed .now) (a .args .i) (l .before .before .before .if1 .left))) narrow _ (c .wide2 .ensures)
 
 loop-again : tie.Need-loop-again Inv-loop μ-loop
 unfolding maxParents
@@ -105,7 +105,7 @@ loop-again c =
     let more = c .before .before .before .before .before .before .before .before .before .before .before .before .loop-test .taken in
     let narrow = located-narrow (a .args .sheet .now) (a .args .offsets .now) (inv .lent .located) _ (child-low inv more) in
     let told = c .before .before .before .before .before .before .before .tell-child in
-    let linked = a .pre .1 .1 .1 .linked (byte-owes (a .args .owed .now) (a .args .i) (l .before .before .before .if1 .left)) in
+    let linked = a .pre .1 .1 .1 .linked (byte-owed (a .args .owed .now) (a .args .i) (l .before .before .before .if1 .left)) in
     telling-next inv more linked narrow _ _ _ (told .kept .1 .1 .0) (told .kept .1 .1 .1 .0) (told .kept .1 .1 .1 .1 .0) (told .ensures) _ (c .wide2 .ensures)
 
 same-length : tie.Need-same-length Inv-loop μ-loop
@@ -120,7 +120,7 @@ same-length-3 c = c .before .loop .inv .numbers-length
 returns-2 : tie.Need-returns-2 Inv-loop μ-loop
 returns-2 c =
     let a = c .before .before .before .before .before .before .before .before .before .before .before .before .before .args in
-    telling-done (c .before .loop .inv) (byte-owes (a .owed .now) (a .i) (c .before .before .before .before .if1 .left)) (c .loop-test .left)
+    telling-done (c .before .loop .inv) (byte-owed (a .owed .now) (a .i) (c .before .before .before .before .if1 .left)) (c .loop-test .left)
 
 pub tell-children-spec : {M : Type 1} → statement M
 tell-children-spec =
