@@ -132,7 +132,11 @@ static struct book_fault former_fault(const struct book *book, const uint8_t *in
     return no_fault;
 }
 
-/* Posts the entries of a table without a fault to the opened one: 0, or a refusal. */
+/*
+ * Posts the entries of a table without a fault to the opened one: 0, or a refusal. Each of them can
+ * be posted. So the first post is refused, and nothing has changed, if index and table are not as
+ * an opening writes them; if it is accepted, so are the others.
+ */
 static uint64_t post_entries(struct book *book, const uint8_t *table)
 {
     size_t count = rozhinal_item_count(book->sheet, book->sheet_len);

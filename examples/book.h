@@ -46,7 +46,9 @@ struct book_fault {
  * leaves both as they were; BOOK_DAMAGED has a fault besides.
  *
  * A table from before version 3.0.0 has no owed bytes, and no call takes it. Its entries are posted
- * to the opened table, lowest first; its figures are as the opening has left them.
+ * to the opened table, lowest first; its figures are as the opening has left them. Every record is
+ * tested before that, so that no post is refused once one was accepted, and the table is never left
+ * half posted.
  *
  * An older book is to be shown, not to be gone on with: its weights are kilograms.
  */

@@ -34,7 +34,7 @@
  *
  * Stack: looking up goes from a figure to its parents, so the depth is bounded by the levels of a
  * sheet (at most ROZHINAL_MAX_LEVEL), and each call has scratch space for ROZHINAL_MAX_ITEMS items.
- * On sheets of 64 levels an ask and a board were measured at 102,288 bytes, a step at 101,712, a
+ * On sheets of 64 levels an ask and a board were measured at 102,320 bytes, a step at 101,712, a
  * keep at 65,584, a close at 11,592, a drop at 11,544 and a post at 10,536; ROZHINAL_STACK_BYTES is
  * enough for every call.
  */
@@ -151,7 +151,8 @@ static inline size_t rozhinal_item_count(const uint8_t *sheet, size_t sheet_len)
  *
  * The children of an item are the figures that list it as a parent. An item is owed while a stored
  * figure leans on it, directly or through figures that are not stored; entries have an owed byte
- * too. Every call keeps the owed bytes true, and refuses a table in which one is false.
+ * too. Every accepted call leaves the owed bytes true, and every call but the openings refuses a
+ * table in which one is false.
  */
 #define ROZHINAL_RECORD_BYTES 11
 #define ROZHINAL_TABLE_BYTES(n) ((size_t)ROZHINAL_RECORD_BYTES * (n))
