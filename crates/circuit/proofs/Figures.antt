@@ -1,4 +1,4 @@
--- The figures to check (P), as one table and one theorem. Assumes nothing.
+-- The figures to check (P), with those of 02's job 6, as one table and one theorem. Assumes nothing.
 use Prim.Native.Nat.{ℕ}
 use mathlib.Core.Path.{_≡_, refl}
 use mathlib.Core.List.{List, [], _∷_, map}
@@ -28,6 +28,13 @@ figures =
     ∷ figure 5 (num (negsuc 0) ∷ num (pos 5000) ∷ []) (num (negsuc 0))
     ∷ figure 5 (num (pos 7) ∷ num (pos 10_001) ∷ []) out
     ∷ figure 6 (num (pos 0) ∷ num (pos 7) ∷ num (pos 9) ∷ []) (num (pos 9))
+    ∷ figure 6 (out ∷ num (pos 1) ∷ num (pos 2) ∷ []) out
+    ∷ figure 6 (null ∷ out ∷ out ∷ []) null
+    ∷ figure 6 (num (pos 1) ∷ num (pos 7) ∷ out ∷ []) (num (pos 7))
+    ∷ figure 6 (num (pos 0) ∷ out ∷ num (pos 9) ∷ []) (num (pos 9))
+    ∷ figure 6 (num (pos 1) ∷ out ∷ num (pos 9) ∷ []) out
+    ∷ figure 6 (num (pos 2) ∷ null ∷ num (pos 9) ∷ []) null
+    ∷ figure 6 (num (negsuc 0) ∷ num (pos 4) ∷ null ∷ []) null
     ∷ figure 7 (null ∷ num (pos 4) ∷ []) (num (pos 1))
     ∷ figure 8 (num (pos 3) ∷ num (pos 3) ∷ []) (num (pos 1))
     ∷ figure 3 (null ∷ num (negsuc 1) ∷ []) (num (negsuc 1))

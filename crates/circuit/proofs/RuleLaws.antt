@@ -1,6 +1,6 @@
--- Laws of values and rules: equal values are the same value; every rule gives NULL where all parents are NULL, OUT where
--- one is OUT, and a well-formed value where all are well formed; a quotient is rounded down; a sum of numbers within the
--- range is at most that many times the limit. Assumes nothing.
+-- Laws of values and rules: equal values are the same value; every rule gives NULL where all parents are NULL, and a well-formed
+-- value where all are well formed; every rule but choice gives OUT where a parent is OUT, and choice what it picks; a quotient is
+-- rounded down; a sum of numbers within the range is at most that many times the limit. Assumes nothing.
 use Prim.Native.Nat.{ℕ, zero, suc, _+_, _-_, _*_, _/_, _≤_, _<_}
 use mathlib.Core.Bool.{Bool, true, false, cond, _&&_, _||_}
 use mathlib.Core.List.{List, [], _∷_, _++_, map}
@@ -13,7 +13,7 @@ use lib.Dec.{ltb}
 use lib.IntN.{ℤ, pos, negsuc, natAbs, negℤ, sucℤ, subℕ, _+ℤ_, _-ℤ_, _*ℤ_}
 use lib.Signed.{leZ, ltZ}
 use Rattle.circuit.specs.Rules.{Operation, sum, difference, smallest, largest, share, choice, count, atLeast, apply, anyOut, numbers, nth, ofNumbers, total, least, greatest, howMany}
-use Rattle.circuit.specs.Rules.{orZero, floorDiv, whole}
+use Rattle.circuit.specs.Rules.{orZero, floorDiv, choiceOf, whole}
 use Rattle.circuit.specs.Value.{Value, null, out, num, limit, inRange, isNull, isOut, wellFormed, ranged, same, sameNumber}
 use Rattle.circuit.specs.WellFormed.{allWellFormed}
 
@@ -88,23 +88,23 @@ all-null difference vs e = rw (allNull-anyOut vs e, allNull-nth vs 0 e, allNull-
 all-null smallest vs e = rw (allNull-anyOut vs e, allNull-numbers vs e)
 all-null largest vs e = rw (allNull-anyOut vs e, allNull-numbers vs e)
 all-null share vs e = rw (allNull-anyOut vs e, allNull-nth vs 0 e)
-all-null choice vs e = rw (allNull-anyOut vs e, allNull-nth vs 0 e)
+all-null choice vs e = rw (allNull-nth vs 0 e)
 all-null count vs e = rw (allNull-anyOut vs e, allNull-numbers vs e)
 all-null atLeast vs e = rw (allNull-anyOut vs e, allNull-nth vs 0 e)
 
 -- ---- a parent OUT
 
--- every rule gives OUT where a parent is
-pub any-out : (op : Operation) (vs : List Value) → anyOut vs ≡ true → apply op vs ≡ out
+-- every rule but choice gives OUT where a parent is
+pub any-out : (op : Operation) → ¬ (op ≡ choice) → (vs : List Value) → anyOut vs ≡ true → apply op vs ≡ out
 unfolding apply
-any-out sum vs e = rw e
-any-out difference vs e = rw e
-any-out smallest vs e = rw e
-any-out largest vs e = rw e
-any-out share vs e = rw e
-any-out choice vs e = rw e
-any-out count vs e = rw e
-any-out atLeast vs e = rw e
+any-out sum other vs e = rw e
+any-out difference other vs e = rw e
+any-out smallest other vs e = rw e
+any-out largest other vs e = rw e
+any-out share other vs e = rw e
+any-out choice other vs e = absurd (other refl)
+any-out count other vs e = rw e
+any-out atLeast other vs e = rw e
 
 anyOut-member : (vs ws : List Value) → anyOut (vs ++ (out ∷ ws)) ≡ true
 unfolding anyOut
@@ -116,8 +116,23 @@ anyOut-member (v ∷ vs) ws = go (isOut v) (anyOut-member vs ws)
     go false e = e
 
 -- wherever it stands in the list
-pub out-gives-out : (op : Operation) (vs ws : List Value) → apply op (vs ++ (out ∷ ws)) ≡ out
-out-gives-out op vs ws = any-out op (vs ++ (out ∷ ws)) (anyOut-member vs ws)
+pub out-gives-out : (op : Operation) → ¬ (op ≡ choice) → (vs ws : List Value) → apply op (vs ++ (out ∷ ws)) ≡ out
+out-gives-out op other vs ws = any-out op other (vs ++ (out ∷ ws)) (anyOut-member vs ws)
+
+-- ---- a choice, by its first parent
+
+pub choice-out : (b c : Value) → apply choice (out ∷ b ∷ c ∷ []) ≡ out
+unfolding apply
+choice-out b c = refl
+
+pub choice-null : (b c : Value) → apply choice (null ∷ b ∷ c ∷ []) ≡ null
+unfolding apply
+choice-null b c = refl
+
+-- the second or the third, whatever it is
+pub choice-picks : (z : ℤ) (b c : Value) → apply choice (num z ∷ b ∷ c ∷ []) ≡ cond (ltZ (pos 0) z) b c
+unfolding apply
+choice-picks z b c = refl
 
 -- ---- well-formed values
 
@@ -172,6 +187,11 @@ ofNumbers-wellFormed : (f : ℤ → List ℤ → ℤ) (zs : List ℤ) → wellFo
 ofNumbers-wellFormed f [] = refl
 ofNumbers-wellFormed f (z ∷ zs) = ranged-wellFormed (f z zs)
 
+choiceOf-wellFormed : (a b c : Value) → wellFormed b ≡ true → wellFormed c ≡ true → wellFormed (choiceOf a b c) ≡ true
+choiceOf-wellFormed null b c e f = refl
+choiceOf-wellFormed out b c e f = refl
+choiceOf-wellFormed (num z) b c e f = cond-wellFormed (ltZ (pos 0) z) b c e f
+
 -- every rule gives a well-formed value on well-formed values
 pub apply-wellFormed : (op : Operation) (vs : List Value) → allWellFormed vs ≡ true → wellFormed (apply op vs) ≡ true
 unfolding apply
@@ -184,10 +204,7 @@ apply-wellFormed share vs e =
     cond-wellFormed (anyOut vs) _ _ refl
     (cond-wellFormed (isNull (nth vs 0) || isNull (nth vs 1)) _ _ refl
     (cond-wellFormed (leZ (pos 0) (orZero (nth vs 1)) && leZ (orZero (nth vs 1)) (pos whole)) _ _ (ranged-wellFormed (floorDiv (orZero (nth vs 0) *ℤ orZero (nth vs 1)) whole)) refl))
-apply-wellFormed choice vs e =
-    cond-wellFormed (anyOut vs) _ _ refl
-    (cond-wellFormed (isNull (nth vs 0)) _ _ refl
-    (cond-wellFormed (ltZ (pos 0) (orZero (nth vs 0))) _ _ (nth-wellFormed vs 1 e) (nth-wellFormed vs 2 e)))
+apply-wellFormed choice vs e = choiceOf-wellFormed (nth vs 0) (nth vs 1) (nth vs 2) (nth-wellFormed vs 1 e) (nth-wellFormed vs 2 e)
 apply-wellFormed count vs e = cond-wellFormed (anyOut vs) _ _ refl (ofNumbers-wellFormed howMany (numbers vs))
 apply-wellFormed atLeast vs e =
     cond-wellFormed (anyOut vs) _ _ refl

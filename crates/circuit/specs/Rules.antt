@@ -51,7 +51,7 @@ allowed (some op) n = cond (countAllowed op n) (some op) none
 unfoldable pub operationOf : ℕ → ℕ → Option Operation
 operationOf code n = allowed (coded code) n
 
--- The non-NULL, in order. (OUT never gets here: see `strict`.)
+-- The non-NULL, in order. (OUT never gets here: the rules that use it are `strict`.)
 unfoldable pub numbers : List Value → List ℤ
 numbers [] = []
 numbers (null ∷ vs) = numbers vs
@@ -113,9 +113,12 @@ shareOf x y =
 abbrev pub atLeastOf : ℤ → ℤ → Value
 atLeastOf x y = ranged (cond (leZ y x) (pos 1) (pos 0))
 
--- a parent's value as it is, so within the range where the parents' are
+-- 02's job 6: OUT or NULL where the first is; otherwise it picks, the second if it is above 0 and else the third, whose value is the
+-- result, OUT and NULL included. So the result is within the range where the parents' are.
 abbrev pub choiceOf : Value → Value → Value → Value
-choiceOf a b c = cond (isNull a) null (cond (ltZ (pos 0) (orZero a)) b c)
+choiceOf null b c = null
+choiceOf out b c = out
+choiceOf (num z) b c = cond (ltZ (pos 0) z) b c
 
 -- the k-th parent's value
 abbrev pub nth : List Value → ℕ → Value
@@ -125,7 +128,7 @@ unfoldable pub anyOut : List Value → Bool
 anyOut [] = false
 anyOut (v ∷ vs) = isOut v || anyOut vs
 
--- any OUT parent gives OUT, otherwise the rule decides
+-- Any OUT parent gives OUT, otherwise the rule decides: 01 of every rule, and since 02's job 6 of every rule but choice.
 abbrev pub strict : (List Value → Value) → List Value → Value
 strict rule vs = cond (anyOut vs) out (rule vs)
 
@@ -136,6 +139,6 @@ apply difference = strict λ vs. differenceOf (nth vs 0) (nth vs 1)
 apply smallest = strict λ vs. ofNumbers least (numbers vs)
 apply largest = strict λ vs. ofNumbers greatest (numbers vs)
 apply share = strict λ vs. ofBoth shareOf (nth vs 0) (nth vs 1)
-apply choice = strict λ vs. choiceOf (nth vs 0) (nth vs 1) (nth vs 2)
+apply choice = λ vs. choiceOf (nth vs 0) (nth vs 1) (nth vs 2)
 apply count = strict λ vs. ofNumbers howMany (numbers vs)
 apply atLeast = strict λ vs. ofBoth atLeastOf (nth vs 0) (nth vs 1)

@@ -7,10 +7,12 @@ use lib.IntN.{ℤ, pos, _-ℤ_}
 use lib.Signed.{leZ, ltZ}
 use mir.Syntax.{w64}
 use mir.Val.{SFits}
-use Rattle.circuit.proofs.RuleLaws.{any-out, size-inRange}
+use Rattle.circuit.proofs.RuleLaws.{any-out, choice-null, choice-out, choice-picks, size-inRange}
 use Rattle.circuit.specs.Rules as rules
 use Rattle.circuit.specs.Value as circuit
+use Rattle.value.specs.declared.Amount.the-variants.{Null, Out, Number}
 use Rattle.value.specs.declared.Value.{Value}
+use Rattle.value.specs.Meaning.{meaning}
 use Rattle.value.proofs.Signed.{back, difference-fits, read}
 
 -- ---- a difference
@@ -32,10 +34,6 @@ anyOut-two a b = go (circuit.isOut a) (circuit.isOut b)
     go false true = refl
     go false false = refl
 
-anyOut-three : (a b c : circuit.Value) → rules.anyOut (a ∷ b ∷ c ∷ []) ≡ (circuit.isOut a || (circuit.isOut b || circuit.isOut c))
-unfolding rules.anyOut
-anyOut-three a b c = ap (λ (t : Bool). circuit.isOut a || t) (anyOut-two b c)
-
 orZero-is : (v : circuit.Value) → rules.orZero v ≡ circuit.numberOf v
 orZero-is circuit.null = refl
 orZero-is circuit.out = refl
@@ -55,8 +53,8 @@ abbrev bothRule : (ℤ → ℤ → circuit.Value) → List circuit.Value → cir
 bothRule f = rules.strict λ vs. rules.ofBoth f (rules.nth vs 0) (rules.nth vs 1)
 
 module _ (a b : circuit.Value) (t : Bool) (et : t ≡ (circuit.isOut a || circuit.isOut b)) where
-  pub two-out : (op : rules.Operation) → t ≡ true → circuit.out ≡ rules.apply op (a ∷ b ∷ [])
-  two-out op h = sym (any-out op (a ∷ b ∷ []) (anyOut-two a b ∙ sym et ∙ h))
+  pub two-out : (op : rules.Operation) → ¬ (op ≡ rules.choice) → t ≡ true → circuit.out ≡ rules.apply op (a ∷ b ∷ [])
+  two-out op other h = sym (any-out op other (a ∷ b ∷ []) (anyOut-two a b ∙ sym et ∙ h))
 
   module _ (no : t ≡ false) where
     none-out : rules.anyOut (a ∷ b ∷ []) ≡ false
@@ -91,22 +89,14 @@ module _ (a b : circuit.Value) (t : Bool) (et : t ≡ (circuit.isOut a || circui
 pub at-least-by : (x y : ℤ) (t : Bool) → leZ y x ≡ t → (r : circuit.Value) → r ≡ circuit.ranged (cond t (pos 1) (pos 0)) → r ≡ rules.atLeastOf x y
 at-least-by x y t e r er = er ∙ sym (rw e)
 
-module _ (a b c : circuit.Value) (s t : Bool) (es : s ≡ circuit.isOut a) (et : t ≡ (circuit.isOut b || circuit.isOut c)) where
-  pub first-out : s ≡ true → circuit.out ≡ rules.apply rules.choice (a ∷ b ∷ c ∷ [])
-  first-out h = sym (any-out rules.choice (a ∷ b ∷ c ∷ []) (anyOut-three a b c ∙ rw (sym es ∙ h)))
+-- a choice, by its first parent and the test of its number
+module _ (a : Value) (b c : circuit.Value) where
+  pub null-chooses : a .amount ≡ Null → circuit.null ≡ rules.apply rules.choice (meaning a ∷ b ∷ c ∷ [])
+  null-chooses e = rw e (sym (choice-null b c))
 
-  pub later-out : s ≡ false → t ≡ true → circuit.out ≡ rules.apply rules.choice (a ∷ b ∷ c ∷ [])
-  later-out g h = sym (any-out rules.choice (a ∷ b ∷ c ∷ []) (anyOut-three a b c ∙ rw (sym es ∙ g, sym et ∙ h)))
+  pub out-chooses : a .amount ≡ Out → circuit.out ≡ rules.apply rules.choice (meaning a ∷ b ∷ c ∷ [])
+  out-chooses e = rw e (sym (choice-out b c))
 
-  module _ (no : s ≡ false) (nor : t ≡ false) where
-    three-in : rules.anyOut (a ∷ b ∷ c ∷ []) ≡ false
-    three-in = anyOut-three a b c ∙ rw (sym es ∙ no, sym et ∙ nor)
-
-    pub choice-null : (n : Bool) → n ≡ circuit.isNull a → n ≡ true → circuit.null ≡ rules.apply rules.choice (a ∷ b ∷ c ∷ [])
-    unfolding rules.apply
-    choice-null n en h = rw (three-in, sym en ∙ h)
-
-    pub choice-is : (n : Bool) → n ≡ circuit.isNull a → n ≡ false → (x : ℤ) → x ≡ circuit.numberOf a → SFits w64 x
-        → (u : Bool) → ltZ (pos 0) (read x) ≡ u → cond u b c ≡ rules.apply rules.choice (a ∷ b ∷ c ∷ [])
-    unfolding rules.apply
-    choice-is n en h x ex f u eu = rw (three-in, sym en ∙ h, rw (back x f ∙ ex ∙ sym (orZero-is a)) at eu)
+  pub number-chooses : (x : ℤ) → a .amount ≡ Number x → SFits w64 x → (u : Bool) → ltZ (pos 0) (read x) ≡ u
+      → cond u b c ≡ rules.apply rules.choice (meaning a ∷ b ∷ c ∷ [])
+  number-chooses x e f u test = rw (e, choice-picks x b c, rw (back x f) at test)

@@ -10,6 +10,7 @@ ghost use Rattle.circuit.specs.Rules as rules;
 ghost use Rattle.circuit.specs.WellFormed.{allWellFormed};
 ghost use Rattle.value.specs.Meaning.{meaning, firstValues};
 ghost use Rattle.rules.specs.Operations.{operationMeaning, allows, Applied};
+use value::Amount;
 use value::MAX_PARENTS;
 use value::Value;
 
@@ -153,19 +154,16 @@ fn share(a: Value, b: Value) -> Value
     share_of(a.number_or_zero(), b.number_or_zero())
 }
 
+// The only rule that lets an OUT parent be: what is not picked counts for nothing.
 fn choice(a: Value, b: Value, c: Value) -> Value
     ensures { λ r. ⌜ meaning r ≡ rules.apply rules.choice (meaning a ∷ meaning b ∷ meaning c ∷ []) ⌝ }
 {
-    if a.is_out() {
-        return Value::OUT;
+    let test = a.amount;
+    match test {
+        Amount::Null => Value::NULL,
+        Amount::Out => Value::OUT,
+        Amount::Number(n) => if 0 < n { b } else { c },
     }
-    if either_out(b, c) {
-        return Value::OUT;
-    }
-    if a.is_null() {
-        return Value::NULL;
-    }
-    if 0 < a.number_or_zero() { b } else { c }
 }
 
 fn at_least(a: Value, b: Value) -> Value

@@ -1,13 +1,14 @@
 -- `rules::at_least` meets its contract. Assumes nothing.
 use borrow.Author.Needs.{needs}
 use Rattle.circuit.specs.Rules as rules
+use Rattle.circuit.proofs.View.{never}
 use Rattle.value.proofs.Signed.{read}
 use Rattle.rules.proofs.Pairs.{two-out, either-null, both-is, at-least-by}
 use Rattle.rules.proofs.at_least.Statement.{statement}
 use Rattle.rules.proofs.at_least.Tie as tie
 
 returns : tie.Need-returns
-returns c = two-out _ _ _ (c .before .either-out .ensures) rules.atLeast (c .if1 .taken)
+returns c = two-out _ _ _ (c .before .either-out .ensures) rules.atLeast (λ e. never (cc)) (c .if1 .taken)
 
 returns-2 : tie.Need-returns-2
 unfolding rules.apply

@@ -1,13 +1,14 @@
 -- `rules::difference` meets its contract. Assumes nothing.
 use borrow.Author.Needs.{needs}
 use Rattle.circuit.specs.Rules as rules
+use Rattle.circuit.proofs.View.{never}
 use Rattle.value.specs.Meaning.{meaning}
 use Rattle.rules.proofs.Pairs.{two-out, difference-null, difference-is, number-fits}
 use Rattle.rules.proofs.difference.Statement.{statement}
 use Rattle.rules.proofs.difference.Tie as tie
 
 returns : tie.Need-returns
-returns c = two-out _ _ _ (c .before .either-out .ensures) rules.difference (c .if1 .taken)
+returns c = two-out _ _ _ (c .before .either-out .ensures) rules.difference (λ e. never (cc)) (c .if1 .taken)
 
 returns-2 : tie.Need-returns-2
 returns-2 c =

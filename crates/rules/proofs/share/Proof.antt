@@ -1,13 +1,14 @@
 -- `rules::share` meets its contract. Assumes nothing.
 use borrow.Author.Needs.{needs}
 use Rattle.circuit.specs.Rules as rules
+use Rattle.circuit.proofs.View.{never}
 use Rattle.value.specs.Meaning.{meaning}
 use Rattle.rules.proofs.Pairs.{two-out, either-null, both-is, number-fits}
 use Rattle.rules.proofs.share.Statement.{statement}
 use Rattle.rules.proofs.share.Tie as tie
 
 returns : tie.Need-returns
-returns c = two-out _ _ _ (c .before .either-out .ensures) rules.share (c .if1 .taken)
+returns c = two-out _ _ _ (c .before .either-out .ensures) rules.share (λ e. never (cc)) (c .if1 .taken)
 
 returns-2 : tie.Need-returns-2
 unfolding rules.apply
