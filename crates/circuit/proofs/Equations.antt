@@ -9,24 +9,36 @@ use mathlib.Core.Option.{some}
 use borrow.Author.Tests.{le-leb, lt-leb}
 use Rattle.circuit.specs.Sheet.{Sheet, defer, renew, size, itemAt, isFigure, parents, parentsOf, spreadOf, member, evaluate, Ordered, Entries}
 use Rattle.circuit.specs.Table.{Table, Mark, unmarked, refresh, notice, held, upd, valueIn, isNotice}
-use Rattle.circuit.specs.Value.{Value, same}
+use Rattle.circuit.specs.Value.{Value, null, same}
 use Rattle.circuit.specs.Circuit.{Listed}
 use Rattle.circuit.specs.Owed.{owed}
 use Rattle.circuit.specs.Machine.{looked, gather, workOutBy, lookCell, lookUp, workOut, refreshCleared, renewChild, deferChild}
 use Rattle.circuit.specs.Machine.{tellStored, tellCell, tellChild, tellIf, tellBelow, tell, lowestMarked}
 use Rattle.circuit.specs.Closing.{closedValue, closeItem, closeBelow, closeAll}
 use Rattle.circuit.specs.Fresh.{give, freshAsk, giveItem}
-use Rattle.circuit.specs.Equations.{LookingUp, Owing, TellingChild, Telling, Closing, FreshGives, MarkedFirst, LowestFound, Equations}
+use Rattle.circuit.specs.Equations.{OutAndNull, LookingUp, Owing, TellingChild, Telling, Closing, FreshGives, MarkedFirst, LowestFound, Equations}
 use Rattle.circuit.proofs.View.{never}
 use Rattle.circuit.proofs.Fill.{lookUp-is}
+use Rattle.circuit.proofs.OnTheWay.{SameLook, each-parent, look-forms}
 use Rattle.circuit.proofs.Solution.{give-equation, figure-below}
 use Rattle.circuit.proofs.Closing.{close-above, close-works}
 use Rattle.circuit.proofs.Closure.{lowest-marked, listed-member, member-listed}
 use Rattle.circuit.proofs.Owed.{Child, stored-leans, leaning-cases, cases-leaning, owed-child, owed-finds, owed-unique, owed-leads, leads-owed}
 use Rattle.circuit.proofs.CalledOn.{told-owed, tell-unowed}
 use Rattle.circuit.proofs.CalledMore.{reached-by, caught-by}
-use Rattle.circuit.proofs.RuleLaws.{same-true, same-refl}
+use Rattle.circuit.proofs.RuleLaws.{same-true, same-refl, allNull-map, all-null, out-gives-out, choice-out, choice-null, choice-picks}
 use Rattle.circuit.proofs.CatchUp.{caught-unique, lowest-none, lowest-some, none-quiet, some-quiet, catchUp-quiet, catchUp-ends}
+
+outs-and-nulls : OutAndNull
+outs-and-nulls =
+    record {
+      any-out = out-gives-out;
+      first-out = choice-out;
+      first-null = choice-null;
+      picks-second = λ z b c e. choice-picks z b c ∙ rw e;
+      picks-third = λ z b c e. choice-picks z b c ∙ rw e;
+      all-null = λ op ps. all-null op (map (λ p. null) ps) (allNull-map (λ p. null) (λ p. refl) ps);
+    }
 
 looking-up : (S : Sheet) → Ordered S → (T : Table) → LookingUp S T
 unfolding gather workOutBy workOut
@@ -38,6 +50,8 @@ looking-up S ordered T =
       worked = λ i op keep spread ps it. rw it;
       none-gathered = refl;
       next-gathered = λ p ps. refl;
+      each-parent = each-parent S T;
+      whatever-rules = λ R alike i. let r : SameLook (lookUp R T i) (lookUp S T i) = look-forms R S alike T T (λ k. refl) i in (r .forms, r .flag);
     }
 
 -- values that differ are told apart
@@ -160,6 +174,7 @@ lowest-item T n =
 pub equations : Equations
 equations =
     record {
+      out-and-null = outs-and-nulls;
       looking = looking-up;
       owing = owing;
       telling-child = telling-child;

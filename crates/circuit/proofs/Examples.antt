@@ -1,5 +1,5 @@
 -- Worked cases, computed by the definitions: a chain of two figures that is caught up in part, and closed; a figure that its own
--- telling stores; a stored NULL; the example day.
+-- telling stores; a stored NULL; a guarded share; the example day.
 -- Assumes nothing.
 use Prim.Native.Nat.{ℕ}
 use mathlib.Core.Path.{_≡_, refl}
@@ -7,8 +7,8 @@ use mathlib.Core.Bool.{Bool, true, false}
 use mathlib.Core.List.{List, [], _∷_}
 use mathlib.Core.Option.{Option, none, some}
 use lib.IntN.{pos, negsuc}
-use Rattle.circuit.specs.Value.{Value, null, num, inRange, limit, partsOf}
-use Rattle.circuit.specs.Rules.{sum, difference, apply, numbers, total, anyOut}
+use Rattle.circuit.specs.Value.{Value, null, out, num, inRange, limit, partsOf}
+use Rattle.circuit.specs.Rules.{sum, difference, share, choice, apply, numbers, total, anyOut, whole}
 use Rattle.circuit.specs.Sheet.{Sheet, entry, figure, defer, renew, member}
 use Rattle.circuit.specs.Table.{Table, unk, held, unmarked, notice, openBare, openFull}
 use Rattle.circuit.specs.Machine.{Looked, gather, workOutBy, lookFor, lookUp, workOut, storePosting, keepFigure, dropFigure, tellChild, tellBelow, tell, clearMark, stepItem, lowestMarked}
@@ -20,7 +20,7 @@ use Rattle.circuit.specs.Calls.{Outcome, perform, run, tests, firstCause
 
 -- to unfold these is to unfold all that looking up and the season-close run compute with, and all that the calls do
 unfoldable pub looking : Sheet → Table → ℕ → Looked
-unfolding lookUp lookFor workOut workOutBy gather apply numbers total anyOut inRange limit member
+unfolding lookUp lookFor workOut workOutBy gather apply numbers total anyOut whole inRange limit member
 looking S T i = lookUp S T i
 
 unfoldable pub closing : Sheet → Table → Table
@@ -87,6 +87,23 @@ nullCalls = post 0 3 (pos 5) ∷ step 0 ∷ drop 2 ∷ keep 2 ∷ post 0 1 (pos 
 pub null-read : perform chain (run chain (openFull chain) nullCalls) (ask 2) .reading ≡ some null
 unfolding machine chain nullCalls run
 null-read = refl
+
+-- a guarded share: entry 0 is shared by entry 1 in figure 2, which is kept; figure 4 is figure 2 if entry 3 is above 0, and else entry 0
+unfoldable pub guarded : Sheet
+guarded =
+    entry ∷ entry ∷ figure share true defer (0 ∷ 1 ∷ []) ∷ entry ∷ figure choice false defer (3 ∷ 2 ∷ 0 ∷ []) ∷ []
+
+-- the ten-thousandths are mistyped, and the guard is shut
+unfoldable pub guardedTable : Table
+guardedTable = run guarded (openBare guarded) (post 0 3 (pos 600) ∷ post 1 3 (pos 10_001) ∷ post 3 3 (pos 0) ∷ ask 4 ∷ [])
+
+-- The choice reads 600, though the share is OUT; the share, which was not picked, was looked up too and is stored. Picked, it is the
+-- result.
+pub guard-holds : (perform guarded guardedTable (ask 4) .reading ≡ some (num (pos 600)))
+    × (guardedTable 2 ≡ held out unmarked) × (guardedTable 4 ≡ unk false)
+    × (perform guarded (run guarded guardedTable (post 3 3 (pos 1) ∷ [])) (ask 4) .reading ≡ some out)
+unfolding machine guarded guardedTable run
+guard-holds = (refl, refl, refl, refl)
 
 -- the example sheet: entries 0, 1, 2; figure 3 = sum of items 0 and 2, kept; figure 4 = item 3 minus item 1
 unfoldable pub daySheet : Sheet

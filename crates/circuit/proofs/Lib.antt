@@ -6,7 +6,9 @@ pub mod Acyclic
 pub mod Solution
 pub mod Fresh
 pub mod View
+pub mod Former
 pub mod Fill
+pub mod OnTheWay
 pub mod Closure
 pub mod Owed
 pub mod Accepted

@@ -1,22 +1,46 @@
 -- Looking up, working out, catching up and the fresh office recurse with a bound on the depth or on the number of steps,
--- which 01 does not have, and owed has one that 02 does not have. Here are their equations without a bound, and those of telling and of the
--- season-close run, in the papers' words, for every sheet whose parents have lower numbers, every table and every item. Proved in proofs/Equations. Assumes nothing.
+-- which 01 does not have, and owed has one that 02 does not have. Here are their equations without a bound, those of telling and of the
+-- season-close run, and what the rules make of OUT and NULL, in the papers' words, for every sheet whose parents have lower numbers, every
+-- table and every item. Proved in proofs/Equations. Assumes nothing.
 use Prim.Native.Nat.{ℕ, suc, _<_, _≤_}
 use mathlib.Core.Path.{_≡_}
 use mathlib.Core.Logic.{_⊎_, _↔_}
 use mathlib.Core.Bool.{Bool, true, false, _||_}
-use mathlib.Core.List.{List, [], _∷_, map}
+use mathlib.Core.List.{List, [], _∷_, _++_, map}
 use mathlib.Core.Option.{none, some}
-use Rattle.circuit.specs.Value.{Value}
-use Rattle.circuit.specs.Rules.{Operation, apply}
-use Rattle.circuit.specs.Sheet.{Sheet, Spread, defer, renew, forget, entry, figure, size, itemAt, parents, spreadOf, Ordered, Entries, circuitOf}
-use Rattle.circuit.specs.Table.{Table, Mark, unmarked, refresh, notice, unk, held, upd, isStored, valueIn, isNotice, noticeIf, isMarked}
+use lib.IntN.{ℤ, pos}
+use lib.Signed.{ltZ}
+use Rattle.circuit.specs.Value.{Value, null, out, num}
+use Rattle.circuit.specs.Rules.{Operation, sum, choice, apply}
+use Rattle.circuit.specs.Sheet.{Sheet, Item, Spread, defer, renew, forget, entry, figure, size, itemAt, parents, keptOf, spreadOf, Ordered, Entries, circuitOf}
+use Rattle.circuit.specs.Table.{Table, Cell, Mark, unmarked, refresh, notice, unk, held, upd, isStored, valueIn, isNotice, noticeIf, isMarked}
 use Rattle.circuit.specs.Owed.{owed}
 use Rattle.circuit.specs.Machine.{Looked, looked, Gathered, gathered, gather, lookUp, workOut, refreshCleared, tellChild, tellBelow, tell, lowestMarked, catchUp}
 use Rattle.circuit.specs.Closing.{closeBelow, closeAll}
 use Rattle.circuit.specs.Circuit.{Listed, LeadsTo}
 use Rattle.circuit.specs.Fresh.{give, freshAsk}
 use Rattle.circuit.specs.Words.{Quiet, CaughtUp, CaughtUpBy}
+
+-- What the rules make of OUT and NULL parents. 01's "Any OUT parent gives OUT" is said of every rule but choice, since 02's job 6.
+pub record OutAndNull : Type 0 where
+  pub any-out : (op : Operation) → ¬ (op ≡ choice) → (before after : List Value) → apply op (before ++ (out ∷ after)) ≡ out
+  -- Choice: "a first parent that is OUT gives OUT, NULL gives NULL, and otherwise the picked parent's value is the result, OUT and NULL
+  -- included."
+  pub first-out : (b c : Value) → apply choice (out ∷ b ∷ c ∷ []) ≡ out
+  pub first-null : (b c : Value) → apply choice (null ∷ b ∷ c ∷ []) ≡ null
+  pub picks-second : (z : ℤ) (b c : Value) → ltZ (pos 0) z ≡ true → apply choice (num z ∷ b ∷ c ∷ []) ≡ b
+  pub picks-third : (z : ℤ) (b c : Value) → ltZ (pos 0) z ≡ false → apply choice (num z ∷ b ∷ c ∷ []) ≡ c
+  -- NULL alone gives NULL, by every rule; so the NULLs of a full opening are right
+  pub all-null : (op : Operation) (ps : List ℕ) → apply op (map (λ p. null) ps) ≡ null
+
+-- an item whatever its rule is, and a cell whatever its value is
+abbrev pub ruleless : Item → Item
+ruleless entry = entry
+ruleless (figure op keep spread ps) = figure sum keep spread ps
+
+abbrev pub valueless : Cell → Cell
+valueless (unk f) = unk f
+valueless (held v m) = held null m
 
 -- 01's "looking up" and "working out". `gather (lookUp S) T ps` looks the items ps up, one after the other.
 pub record LookingUp (S : Sheet) (T : Table) : Type 0 where
@@ -47,6 +71,12 @@ pub record LookingUp (S : Sheet) (T : Table) : Type 0 where
       → let r : Looked = lookUp S T p in
       let g : Gathered = gather (lookUp S) (r .table) ps in
       gather (lookUp S) T (p ∷ ps) ≡ gathered (g .table) (r .value ∷ g .values) (r .flag || g .flag)
+  -- Every parent is looked up, also what a choice does not pick: it is stored afterwards if it was, or if its keep byte is 1.
+  pub each-parent : (i p : ℕ) → Listed p (parents S i) → isStored (workOut S T i .table p) ≡ (isStored (T p) || keptOf (itemAt S p))
+  -- What is stored and flagged does not depend on the rules: on a sheet R that is S but for its figures' rules, the same cells are
+  -- stored, with the same marks.
+  pub whatever-rules : (R : Sheet) → ((k : ℕ) → ruleless (itemAt R k) ≡ ruleless (itemAt S k)) → (i : ℕ)
+      → ((k : ℕ) → valueless (lookUp R T i .table k) ≡ valueless (lookUp S T i .table k)) × (lookUp R T i .flag ≡ lookUp S T i .flag)
 
 -- a child makes its parent owed: it "is stored, or is UNK and itself owed", where w says what is owed
 abbrev pub Leaning : (ℕ → Bool) → Table → ℕ → Type 0
@@ -137,6 +167,7 @@ pub record CatchingUp (S : Sheet) (T : Table) : Type 0 where
   pub only-by : (w : ℕ → Bool) → ((c : ℕ) → owed S T c ≡ true → w c ≡ true) → (U : Table) → CaughtUpBy w S T U → U ≡ catchUp S T
 
 pub record Equations : Type 0 where
+  pub out-and-null : OutAndNull
   pub looking : (S : Sheet) → Ordered S → (T : Table) → LookingUp S T
   pub owing : (S : Sheet) → Ordered S → (T : Table) → Owing S T
   pub telling-child : (S : Sheet) (T : Table) (c : ℕ) → TellingChild S T c
