@@ -111,6 +111,24 @@ fn shares(n: i64) {
     figure(b"share", 5, 2, x, Value::number(10000), Value::NULL);
 }
 
+// Choices by their first parent: OUT, NULL, above 0 and not; what is not picked counts for nothing.
+fn choices() {
+    let none = Value::NULL;
+    let out = Value::OUT;
+    let one = Value::number(1);
+    let two = Value::number(2);
+    let seven = Value::number(7);
+    let nine = Value::number(9);
+    figure(b"choice", 6, 3, Value::number(0), seven, nine);
+    figure(b"choice", 6, 3, out, one, two);
+    figure(b"choice", 6, 3, none, out, out);
+    figure(b"choice", 6, 3, one, seven, out);
+    figure(b"choice", 6, 3, Value::number(0), out, nine);
+    figure(b"choice", 6, 3, one, out, nine);
+    figure(b"choice", 6, 3, two, none, nine);
+    figure(b"choice", 6, 3, Value::number(-1), Value::number(4), none);
+}
+
 fn main() {
     let none = Value::NULL;
     let top = Value::number(LIMIT);
@@ -124,14 +142,7 @@ fn main() {
     figure(b"difference", 2, 2, none, three, none);
     figure(b"share", 5, 2, minus_one, Value::number(5000), none);
     figure(b"share", 5, 2, Value::number(7), Value::number(10001), none);
-    figure(
-        b"choice",
-        6,
-        3,
-        Value::number(0),
-        Value::number(7),
-        Value::number(9),
-    );
+    choices();
     figure(b"count", 7, 2, none, Value::number(4), none);
     figure(b"at least", 8, 2, three, three, none);
     figure(b"smallest", 3, 2, none, Value::number(-2), none);

@@ -1,5 +1,5 @@
--- Older tables: those of the former width are refused with 8. What is accepted under a lower limit of the range is accepted, and what its
--- stored figures may still hold. Assumes nothing.
+-- Older tables: those of the former width are refused with 8. What is accepted under a lower limit of the range is accepted. What stored
+-- figures may still hold: an OUT of the lower range, or of the choice before 02's job 6. Assumes nothing.
 use Prim.Native.Nat.{ℕ, _+_, _*_, _≤_, _<_}
 use native.Mathlib.Omega.{arith}
 use mathlib.Core.Path.{_≡_, refl, ap, _∙_}
@@ -13,7 +13,7 @@ use borrow.Author.Tests.{leb-true}
 use Rattle.word.specs.Word.{bytes64}
 use Rattle.circuit.specs.Value.{limit}
 use Rattle.circuit.specs.Sheet.{size}
-use Rattle.circuit.specs.Call.{post, drop, ask, bare}
+use Rattle.circuit.specs.Call.{post, drop, ask, close, bare}
 use Rattle.circuit.proofs.Examples.{machine}
 use Rattle.layout.specs.Opened.{sheetOf}
 use Rattle.layout.specs.Read.{Placed, opens, readSheet}
@@ -130,3 +130,34 @@ older-out = (
 
     above : BeyondLimit formerLimit (pos (formerLimit + 1))
     above = omega arith
+
+-- A guarded share in bytes: entries A and P, figure S = share of A and P, kept; entry G, figure C = choice of G, S and A.
+unfoldable pub guardedBytes : List ℕ
+guardedBytes =
+    0x01 ∷ 0x04 ∷ 0x00 ∷ 0x01 ∷ 0x00 ∷ 0x05 ∷ 0x00
+    ∷ 0x02 ∷ 0x01 ∷ 0x00 ∷ 0x41
+    ∷ 0x02 ∷ 0x01 ∷ 0x00 ∷ 0x50
+    ∷ 0x03 ∷ 0x09 ∷ 0x00 ∷ 0x05 ∷ 0x01 ∷ 0x00 ∷ 0x02 ∷ 0x00 ∷ 0x00 ∷ 0x01 ∷ 0x00 ∷ 0x53
+    ∷ 0x02 ∷ 0x01 ∷ 0x00 ∷ 0x47
+    ∷ 0x03 ∷ 0x0B ∷ 0x00 ∷ 0x06 ∷ 0x00 ∷ 0x00 ∷ 0x03 ∷ 0x03 ∷ 0x00 ∷ 0x02 ∷ 0x00 ∷ 0x00 ∷ 0x00 ∷ 0x43
+    ∷ 0x04 ∷ 0x00 ∷ 0x00 ∷ []
+
+-- A holds 600, P 10,001 and G 0. S is stored, as OUT; C is stored as the choice of before gave it, which looked at S: OUT, with no mark.
+unfoldable pub staleTable : List ℕ
+staleTable =
+    owing (3 ∷ 0 ∷ bytes64 (pos 600)) ++ owing (3 ∷ 0 ∷ bytes64 (pos 10_001)) ++ owing (2 ∷ 0 ∷ zeros8) ++ owing (3 ∷ 0 ∷ zeros8) ++ unowed (2 ∷ 0 ∷ zeros8)
+
+unfoldable pub guardedIndex : List ℕ
+guardedIndex = 7 ∷ 0 ∷ 0 ∷ 0 ∷ 11 ∷ 0 ∷ 0 ∷ 0 ∷ 15 ∷ 0 ∷ 0 ∷ 0 ∷ 27 ∷ 0 ∷ 0 ∷ 0 ∷ 31 ∷ 0 ∷ 0 ∷ 0 ∷ []
+
+abbrev stale : Office
+stale = keeping guardedIndex staleTable
+
+-- It is accepted, and an ask gives that OUT. After a season-close run an ask gives 600, as the choice of now picks A; so it does after a
+-- drop of C, and on a table opened since, with the same postings.
+pub older-choice : (answers guardedBytes stale (ask 4 ∷ close ∷ ask 4 ∷ []) ≡ answer 0 2 (pos 0) ∷ answer 0 0 (pos 0) ∷ answer 0 3 (pos 600) ∷ [])
+    × (answers guardedBytes stale (drop 4 ∷ ask 4 ∷ []) ≡ answer 0 0 (pos 0) ∷ answer 0 3 (pos 600) ∷ [])
+    × (answers guardedBytes (openOn bare guardedBytes stale .after) (post 0 3 (pos 600) ∷ post 1 3 (pos 10_001) ∷ post 3 3 (pos 0) ∷ ask 4 ∷ [])
+    ≡ answer 0 0 (pos 0) ∷ answer 0 0 (pos 0) ∷ answer 0 0 (pos 0) ∷ answer 0 3 (pos 600) ∷ [])
+unfolding calls machine answers guardedBytes guardedIndex staleTable
+older-choice = (refl, refl, refl)
