@@ -237,6 +237,17 @@ _Static_assert(INT64_MAX / (ROZHINAL_WHOLE - RATES_WITHIN)
                    < ROZHINAL_LIMIT - (RATES + SHARED) * DAYS * PRIME,
                "every product is beyond a signed 64-bit number");
 
+/* The same for a sheet of guarded shares: every second rate is above BOUND, each day the others. */
+static int64_t amount_guarded(size_t item, size_t day)
+{
+    int64_t drawn = (int64_t)((item + 1) * (day + 1) * PRIME);
+    if (item == BOUND)
+        return ROZHINAL_WHOLE;
+    if (item < RATES)
+        return drawn % ROZHINAL_WHOLE + ((item + day) % 2 ? ROZHINAL_WHOLE + 1 : 0);
+    return drawn % MOST_POSTED;
+}
+
 static void post_every_entry(int64_t (*amount_of)(size_t, size_t), size_t day)
 {
     for (size_t i = 0; i < sheet.count; i++)
@@ -473,6 +484,34 @@ static void count_shares(void)
     count("close, shares at the limit", call_of(CLOSE, 0));
 }
 
+/* All is stored: every second share is OUT, by a rate above BOUND, and all else is a number. */
+static void check_guards(size_t guards, size_t day)
+{
+    uint8_t kinds[ROZHINAL_MAX_ITEMS];
+    memset(kinds, ROZHINAL_NUMBER, sizeof kinds);
+    for (size_t g = (day + 1) % 2; g < guards; g += 2)
+        kinds[GUARDS_AT + GUARD_ITEMS * g] = ROZHINAL_OUT;
+    for (size_t i = 0; i < sheet.count; i++)
+        if (library.table[ROZHINAL_RECORD_BYTES * i] != kinds[i])
+            fail("not guarded");
+}
+
+/* Every share becomes OUT, or is so no longer, and every choice picks another parent. */
+static void count_guarded_shares(void)
+{
+    enum { GUARDS = 288 };
+    make_guarded_shares(&sheet, GUARDS);
+    prepare(call_of(OPEN_FULL, 0));
+    post_every_entry(amount_guarded, 0);
+    prepare(call_of(ASK, sheet.top));
+    post_every_entry(amount_guarded, 1);
+    count("ask, guarded shares", call_of(ASK, sheet.top));
+    check_guards(GUARDS, 1);
+    post_every_entry(amount_guarded, 0);
+    count("close, guarded shares", call_of(CLOSE, 0));
+    check_guards(GUARDS, 0);
+}
+
 /* Numbers of each length in the range, of both signs. */
 static void count_lengths(void)
 {
@@ -530,6 +569,7 @@ int main(void)
     count_unstored_fan(800);
     count_unstored_fan(400);
     count_shares();
+    count_guarded_shares();
     count_printer();
     return 0;
 }

@@ -190,10 +190,11 @@ static struct value share(struct value whole, struct value parts)
     return number_value(units * parts.number + over * parts.number / ROZHINAL_WHOLE);
 }
 
+/* What is not picked counts for nothing, OUT included. */
 static struct value choice(struct value test, struct value yes, struct value no)
 {
-    if (test.kind == ROZHINAL_NULL)
-        return null_value;
+    if (test.kind != ROZHINAL_NUMBER)
+        return test;
     return test.number > 0 ? yes : no;
 }
 
@@ -208,6 +209,8 @@ static struct value at_least(struct value a, struct value b)
 __attribute__((always_inline))
 static inline struct value apply(uint8_t rule, const struct value *parents, size_t count)
 {
+    if (rule == ROZHINAL_CHOICE)
+        return choice(parents[0], parents[1], parents[2]);
     for (size_t k = 0; k < count; k++)
         if (parents[k].kind == ROZHINAL_OUT)
             return out_value;
@@ -221,8 +224,6 @@ static inline struct value apply(uint8_t rule, const struct value *parents, size
         return extreme(parents, count, rule == ROZHINAL_LARGEST);
     case ROZHINAL_SHARE:
         return share(parents[0], parents[1]);
-    case ROZHINAL_CHOICE:
-        return choice(parents[0], parents[1], parents[2]);
     case ROZHINAL_COUNT:
         return count_numbers(parents, count);
     default: /* ROZHINAL_AT_LEAST */

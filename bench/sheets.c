@@ -241,3 +241,39 @@ void make_shares(struct sheet *sheet, size_t figures)
     }
     end_sheet(sheet);
 }
+
+static void put_guarded(struct sheet *sheet, uint8_t rule, size_t a, size_t b, size_t c)
+{
+    struct figure item = {
+        .rule = rule,
+        .level = rule == ROZHINAL_CHOICE ? 2 : 1,
+        .spread = draw(2) ? ROZHINAL_RENEW : ROZHINAL_DEFER,
+        .parent_count = rule == ROZHINAL_CHOICE ? 3 : 2,
+        .parents = { a, b, c },
+    };
+    draw_name(&item);
+    put_item(sheet, &item, 0);
+}
+
+void make_guarded_shares(struct sheet *sheet, size_t guards)
+{
+    struct figure sum = { .rule = ROZHINAL_SUM, .level = 3 };
+    size_t sums = (guards + ROZHINAL_MAX_PARENTS - 1) / ROZHINAL_MAX_PARENTS;
+    begin_sheet(sheet, GUARDS_AT + GUARD_ITEMS * guards + sums);
+    put_entries(sheet, GUARDS_AT);
+    for (size_t g = 0; g < guards; g++) {
+        size_t share = sheet->count, test = share + 1, rate = g % RATES;
+        put_guarded(sheet, ROZHINAL_SHARE, RATES + draw(SHARED), rate, 0);
+        put_guarded(sheet, ROZHINAL_AT_LEAST, BOUND, rate, 0);
+        put_guarded(sheet, ROZHINAL_CHOICE, test, share, RATES + draw(SHARED));
+    }
+    for (size_t g = 0; g < guards; g += sum.parent_count) {
+        sum.spread = draw(2) ? ROZHINAL_RENEW : ROZHINAL_DEFER;
+        sum.parent_count = guards - g < ROZHINAL_MAX_PARENTS ? guards - g : ROZHINAL_MAX_PARENTS;
+        for (size_t k = 0; k < sum.parent_count; k++)
+            sum.parents[k] = GUARDS_AT + GUARD_ITEMS * (g + k) + GUARD_ITEMS - 1;
+        draw_name(&sum);
+        put_item(sheet, &sum, 0);
+    }
+    end_sheet(sheet);
+}

@@ -8,6 +8,9 @@ enum { SHEET_BYTES = 65536, GROUP_ITEMS = 125, COMMON_ENTRIES = 4, RATE = 1 };
 enum { MOST_POSTED = 100000000 }; /* grams */
 enum { RATES = 8, SHARED = 24 };
 
+/* Of a sheet of guarded shares: the entry that rates are held against, and the first share. */
+enum { BOUND = RATES + SHARED, GUARDS_AT = BOUND + 1, GUARD_ITEMS = 3 };
+
 struct sheet {
     uint8_t bytes[SHEET_BYTES];
     size_t length;
@@ -35,6 +38,13 @@ void make_fan(struct sheet *sheet, size_t figures, int keeping);
  * stored, a share is worked out anew whenever a parent was posted.
  */
 void make_shares(struct sheet *sheet, size_t figures);
+
+/*
+ * The same entries and BOUND, then guards of GUARD_ITEMS items each: a share, a test whether its
+ * rate is at most BOUND, and a choice of the share if it is, else of an entry. The rates take turns.
+ * Last, sums of all the choices. No figure is forgotten.
+ */
+void make_guarded_shares(struct sheet *sheet, size_t guards);
 
 /* Whether the item is an entry. */
 int is_entry(const struct sheet *sheet, size_t item);
