@@ -1,5 +1,5 @@
 /*
- * Rozhinal 3.0.0: an engine for quota ledgers.
+ * Rozhinal 4.0.0: an engine for quota ledgers.
  *
  * A sheet is a circuit of items. An entry is posted; a figure is worked out from earlier items, its
  * parents, by one of eight rules. The caller lends three slices of bytes to each call:
@@ -26,6 +26,9 @@
  *   - A table that only the engine has written since an opening is always accepted (with its own
  *     sheet and index). A table with bytes from elsewhere may be accepted too, but its readings are
  *     then not promised, until rozhinal_close has worked every figure out anew.
+ *   - A table from version 3.0.0 is accepted, but until they are worked out again its stored figures
+ *     may hold an OUT of the choice of before (ROZHINAL_CHOICE). Close it, and its readings are
+ *     promised again; or open the sheet anew, and post its entries.
  *   - A table from before version 3.0.0 has 10 bytes an item, and is refused with 8. Open the sheet
  *     anew, and post the entries of the older table: no posting is lost. In a table from before
  *     2.0.0 weights are kilograms; they are posted in grams.
@@ -48,10 +51,10 @@
 extern "C" {
 #endif
 
-#define ROZHINAL_VERSION_MAJOR 3
+#define ROZHINAL_VERSION_MAJOR 4
 #define ROZHINAL_VERSION_MINOR 0
 #define ROZHINAL_VERSION_PATCH 0
-#define ROZHINAL_VERSION "3.0.0"
+#define ROZHINAL_VERSION "4.0.0"
 
 /* ---- Limits ---------------------------------------------------------------------------------- */
 
@@ -95,8 +98,9 @@ enum rozhinal_tag {
 };
 
 /*
- * The rules. A parent that is OUT makes every rule OUT; a result beyond the range is OUT. NULL is
- * "nothing recorded", and each rule gives NULL if all its parents are NULL.
+ * The rules. A parent that is OUT makes every rule OUT but choice, which looks only at its first
+ * parent and the one that this points to; a result beyond the range is OUT. NULL is "nothing
+ * recorded", and each rule gives NULL if all its parents are NULL.
  */
 enum rozhinal_rule {
     ROZHINAL_SUM = 1,        /* 1 to 16 parents: the sum of those not NULL */
@@ -105,8 +109,8 @@ enum rozhinal_rule {
     ROZHINAL_LARGEST = 4,    /* 1 to 16 parents: the largest of those not NULL */
     ROZHINAL_SHARE = 5,      /* 2 parents: first * second / ROZHINAL_WHOLE, rounded down; NULL if
                                 either is; OUT if the second is not from 0 to ROZHINAL_WHOLE */
-    ROZHINAL_CHOICE = 6,     /* 3 parents: the second if the first is above 0, else the third; NULL
-                                if the first is */
+    ROZHINAL_CHOICE = 6,     /* 3 parents: OUT or NULL if the first is; else the second if the first
+                                is above 0, and the third if not, also where that is OUT or NULL */
     ROZHINAL_COUNT = 7,      /* 1 to 16 parents: how many are not NULL */
     ROZHINAL_AT_LEAST = 8    /* 2 parents: 1 if first >= second, else 0; NULL if either is */
 };
