@@ -17,12 +17,21 @@
 
 enum { MARK_BYTES = 16, LENGTH_BYTES = 4, SUM_BYTES = 8 };
 enum { HEAD_BYTES = MARK_BYTES + 3 * LENGTH_BYTES };
-static const char book_mark[MARK_BYTES + 1] = "rozhinal book 3\n";
+static const char book_mark[MARK_BYTES + 1] = "rozhinal book 4\n";
+/* Of books from before version 4.0.0. The form is the same, but a stored choice may be OUT. */
+static const char stale_mark[MARK_BYTES + 1] = "rozhinal book 3\n";
 /* Of books from before versions 3.0.0 and 2.0.0. Their records have kind, mark and number alone. */
 static const char former_mark[MARK_BYTES + 1] = "rozhinal book 2\n";
 static const char older_mark[MARK_BYTES + 1] = "rozhinal book 1\n";
 enum { NUMBER_AT = 2, NUMBER_BYTES = 8, FORMER_RECORD_BYTES = NUMBER_AT + NUMBER_BYTES };
 static const struct book_fault no_fault = { 0, BOOK_NO_ITEM };
+
+/* What stands in the bytes of a file, and whether its sum is right. */
+struct parts {
+    uint8_t *sheet, *index, *table;
+    size_t sheet_len, index_len, table_len;
+    bool whole;
+};
 
 #define BOOK_MOST                                                                                \
     (HEAD_BYTES + SHEET_MOST + ROZHINAL_INDEX_BYTES(ROZHINAL_MAX_ITEMS)                          \
@@ -80,16 +89,36 @@ int book_take(const struct book *book)
     return -1;
 }
 
+#define LENT(p) (p)->sheet, (p)->sheet_len, (p)->index, (p)->index_len, (p)->table, (p)->table_len
+
 /*
  * The library's word on sheet, index and table, 0 if they are good: a step of no item is then
  * refused with 11.
  */
-static uint64_t refusal_of(const struct book *book, const uint8_t *index, size_t index_len,
-                           uint8_t *table, size_t table_len)
+static uint64_t refusal_of(const struct parts *parts)
 {
-    rozhinal_answer answer = rozhinal_step(book->sheet, book->sheet_len, index, index_len, table,
-                                           table_len, UINT64_MAX);
+    rozhinal_answer answer = rozhinal_step(LENT(parts), UINT64_MAX);
     return answer.number == ROZHINAL_REFUSED_ITEM ? 0 : answer.number;
+}
+
+/* ---- Tables from before version 4.0.0 ---- */
+
+/*
+ * Works every figure of an accepted table out anew: 0, or a refusal. The close stores them all;
+ * those that were not stored before are dropped again. The entries stay as they are.
+ */
+static uint64_t renew_figures(const struct parts *parts)
+{
+    bool stored[ROZHINAL_MAX_ITEMS];
+    size_t count = rozhinal_item_count(parts->sheet, parts->sheet_len);
+    for (size_t i = 0; i < count; i++)
+        stored[i] = parts->table[ROZHINAL_TABLE_BYTES(i)] != ROZHINAL_UNK;
+    rozhinal_answer answer = rozhinal_close(LENT(parts));
+    for (size_t i = 0; i < count && answer.number == ROZHINAL_ACCEPTED; i++) {
+        if (!stored[i])
+            answer = rozhinal_drop(LENT(parts), i);
+    }
+    return answer.number;
 }
 
 /* ---- Tables from before version 3.0.0 ---- */
@@ -116,17 +145,16 @@ static bool former_record_fits(const uint8_t *record, bool figure)
 }
 
 /* The fault of index and table, as the library told it; the refusal is 0 if there is none. */
-static struct book_fault former_fault(const struct book *book, const uint8_t *index,
-                                      size_t index_len, const uint8_t *table, size_t table_len)
+static struct book_fault former_fault(const struct book *book, const struct parts *parts)
 {
     size_t count = rozhinal_item_count(book->sheet, book->sheet_len);
-    if (index_len != book->index_len || table_len != FORMER_RECORD_BYTES * count)
+    if (parts->index_len != book->index_len || parts->table_len != FORMER_RECORD_BYTES * count)
         return (struct book_fault){ ROZHINAL_REFUSED_SIZES, BOOK_NO_ITEM };
-    if (memcmp(index, book->index, index_len) != 0)
+    if (memcmp(parts->index, book->index, book->index_len) != 0)
         return (struct book_fault){ ROZHINAL_REFUSED_INDEX, BOOK_NO_ITEM };
     for (size_t i = 0; i < count; i++) {
         bool figure = item_at(book->sheet, book->index, i).figure;
-        if (!former_record_fits(table + FORMER_RECORD_BYTES * i, figure))
+        if (!former_record_fits(parts->table + FORMER_RECORD_BYTES * i, figure))
             return (struct book_fault){ ROZHINAL_REFUSED_TABLE, i };
     }
     return no_fault;
@@ -144,9 +172,7 @@ static uint64_t post_entries(struct book *book, const uint8_t *table)
         const uint8_t *record = table + FORMER_RECORD_BYTES * i;
         if (item_at(book->sheet, book->index, i).figure)
             continue;
-        rozhinal_answer answer = rozhinal_post(
-            book->sheet, book->sheet_len, book->index, book->index_len, book->table,
-            book->table_len, i, record[0], former_number(record));
+        rozhinal_answer answer = rozhinal_post(LENT(book), i, record[0], former_number(record));
         if (answer.number != ROZHINAL_ACCEPTED)
             return answer.number;
     }
@@ -160,39 +186,61 @@ static enum book_state state_of(const uint8_t *mark)
 {
     if (memcmp(mark, book_mark, MARK_BYTES) == 0)
         return BOOK_LOADED;
+    if (memcmp(mark, stale_mark, MARK_BYTES) == 0)
+        return BOOK_STALE;
     if (memcmp(mark, former_mark, MARK_BYTES) == 0)
         return BOOK_FORMER;
     return memcmp(mark, older_mark, MARK_BYTES) == 0 ? BOOK_OLDER : BOOK_DAMAGED;
 }
 
+/* Finds the parts of a file that has room for head and sum; false if its lengths are wrong. */
+static bool find_parts(uint8_t *bytes, size_t length, struct parts *parts)
+{
+    const uint8_t *lengths = bytes + MARK_BYTES;
+    parts->sheet_len = (size_t)get_number(lengths, LENGTH_BYTES);
+    parts->index_len = (size_t)get_number(lengths + LENGTH_BYTES, LENGTH_BYTES);
+    parts->table_len = (size_t)get_number(lengths + 2 * LENGTH_BYTES, LENGTH_BYTES);
+    /* Three lengths of 32 bits do not overflow 64. */
+    if (parts->sheet_len + parts->index_len + parts->table_len != length - HEAD_BYTES - SUM_BYTES)
+        return false;
+    parts->sheet = bytes + HEAD_BYTES;
+    parts->index = parts->sheet + parts->sheet_len;
+    parts->table = parts->index + parts->index_len;
+    const uint8_t *sum = parts->table + parts->table_len;
+    parts->whole = get_number(sum, SUM_BYTES) == sum_of(bytes, length - SUM_BYTES);
+    return true;
+}
+
+/* Takes index and table, which the library has accepted: 0, or a refusal and nothing taken. */
+static uint64_t take_table(struct book *book, const struct parts *parts, bool stale)
+{
+    uint64_t refusal = stale ? renew_figures(parts) : 0;
+    if (refusal == 0) {
+        memcpy(book->index, parts->index, book->index_len);
+        memcpy(book->table, parts->table, book->table_len);
+    }
+    return refusal;
+}
+
 static enum book_state load_bytes(struct book *book, uint8_t *bytes, size_t length,
                                   struct book_fault *fault)
 {
+    struct parts parts;
     enum book_state state = length < HEAD_BYTES + SUM_BYTES ? BOOK_DAMAGED : state_of(bytes);
-    if (state == BOOK_DAMAGED)
-        return state;
-    size_t sheet_len = (size_t)get_number(bytes + MARK_BYTES, LENGTH_BYTES);
-    size_t index_len = (size_t)get_number(bytes + MARK_BYTES + LENGTH_BYTES, LENGTH_BYTES);
-    size_t table_len = (size_t)get_number(bytes + MARK_BYTES + 2 * LENGTH_BYTES, LENGTH_BYTES);
-    /* Three lengths of 32 bits do not overflow 64. */
-    if (sheet_len + index_len + table_len != length - HEAD_BYTES - SUM_BYTES)
+    if (state == BOOK_DAMAGED || !find_parts(bytes, length, &parts))
         return BOOK_DAMAGED;
-    uint8_t *sheet = bytes + HEAD_BYTES, *index = sheet + sheet_len, *table = index + index_len;
-    int whole = get_number(table + table_len, SUM_BYTES) == sum_of(bytes, length - SUM_BYTES);
-    if (sheet_len != book->sheet_len || memcmp(sheet, book->sheet, sheet_len) != 0)
-        return whole ? BOOK_OTHER_SHEET : BOOK_DAMAGED;
-    if (state == BOOK_LOADED)
-        fault->refusal = refusal_of(book, index, index_len, table, table_len);
+    if (parts.sheet_len != book->sheet_len
+        || memcmp(parts.sheet, book->sheet, book->sheet_len) != 0)
+        return parts.whole ? BOOK_OTHER_SHEET : BOOK_DAMAGED;
+    bool with_owed = state == BOOK_LOADED || state == BOOK_STALE;
+    if (with_owed)
+        fault->refusal = refusal_of(&parts);
     else
-        *fault = former_fault(book, index, index_len, table, table_len);
-    if (fault->refusal != 0 || !whole)
+        *fault = former_fault(book, &parts);
+    if (fault->refusal != 0 || !parts.whole)
         return BOOK_DAMAGED;
-    if (state == BOOK_LOADED) {
-        memcpy(book->index, index, book->index_len);
-        memcpy(book->table, table, book->table_len);
-    } else {
-        fault->refusal = post_entries(book, table);
-    }
+    fault->refusal = with_owed ? take_table(book, &parts, state == BOOK_STALE)
+                               : post_entries(book, parts.table);
     return fault->refusal == 0 ? state : BOOK_DAMAGED;
 }
 

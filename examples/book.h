@@ -20,6 +20,7 @@ struct book {
 
 enum book_state {
     BOOK_LOADED,
+    BOOK_STALE,       /* whole, but from before version 4.0.0 */
     BOOK_FORMER,      /* whole, but from before version 3.0.0 */
     BOOK_OLDER,       /* whole, but from before version 2.0.0 */
     BOOK_ABSENT,      /* there is no such file */
@@ -42,8 +43,12 @@ struct book_fault {
 #define BOOK_NO_ITEM SIZE_MAX
 
 /*
- * Reads the file into index and table, which have just been opened. Any state but the first three
+ * Reads the file into index and table, which have just been opened. Any state but the first four
  * leaves both as they were; BOOK_DAMAGED has a fault besides.
+ *
+ * A table from before version 4.0.0 has today's form, but a choice that looked where it did not
+ * point may be stored as OUT, and what leans on it too. Once the library has accepted it, every
+ * figure is worked out anew; the same ones are stored as before, and no mark is left.
  *
  * A table from before version 3.0.0 has no owed bytes, and no call takes it. Its entries are posted
  * to the opened table, lowest first; its figures are as the opening has left them. Every record is

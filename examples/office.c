@@ -7,6 +7,10 @@
  * run goes on from. Commands come from standard input, one a line; `help` lists them. A command is
  * answered once its change is in the file.
  *
+ * A book from before version 4.0.0 may hold choices that are OUT for the branch that was not taken:
+ * its figures are worked out anew, the same ones stay stored, and the book is written in its new
+ * form. No entry changes.
+ *
  * A book from before version 3.0.0 has records without an owed byte: the sheet is opened anew, the
  * entries of the book are posted again, lowest first, and the book is written in its new form.
  *
@@ -507,37 +511,49 @@ static bool begin_book(const struct book *book)
     return saved >= 0;
 }
 
-static size_t count_entries(const struct book *book)
+/* How many entries the book has, or stored figures. */
+static size_t count_items(const struct book *book, bool figures)
 {
-    size_t entries = 0, count = rozhinal_item_count(book->sheet, book->sheet_len);
-    for (size_t i = 0; i < count; i++)
-        entries += !item_at(book->sheet, book->index, i).figure;
-    return entries;
+    size_t found = 0, count = rozhinal_item_count(book->sheet, book->sheet_len);
+    for (size_t i = 0; i < count; i++) {
+        bool stored = book->table[ROZHINAL_TABLE_BYTES(i)] != ROZHINAL_UNK;
+        found += stored && item_at(book->sheet, book->index, i).figure == figures;
+    }
+    return found;
+}
+
+/* What became of a book that has just been written for the first time in its form. */
+static void show_begun(const struct book *book, enum book_state state, const char *opening)
+{
+    if (state == BOOK_STALE)
+        printf("%s was from before version 4.0.0: stored figures worked out anew: %zu\n",
+               book->path, count_items(book, true));
+    else if (state == BOOK_FORMER)
+        printf("%s was from before version 3.0.0: opened %s anew, entries posted again: %zu\n",
+               book->path, opening, count_items(book, false));
+    else
+        printf("opened %s: %s begins\n", opening, book->path);
 }
 
 /* Goes on from the book, or begins it with the table that the opening wrote. */
 static bool open_book(struct book *book, bool full)
 {
     struct book_fault fault;
-    const char *opening = full ? "full" : "bare";
-    switch (book_load(book, &fault)) {
+    enum book_state state = book_load(book, &fault);
+    switch (state) {
     case BOOK_LOADED:
         printf("going on with %s\n", book->path);
         return true;
+    case BOOK_STALE:
     case BOOK_FORMER:
+    case BOOK_ABSENT:
         if (!begin_book(book))
             return false;
-        printf("%s was from before version 3.0.0: opened %s anew, entries posted again: %zu\n",
-               book->path, opening, count_entries(book));
+        show_begun(book, state, full ? "full" : "bare");
         return true;
     case BOOK_OLDER:
         show_older(book);
         return false;
-    case BOOK_ABSENT:
-        if (!begin_book(book))
-            return false;
-        printf("opened %s: %s begins\n", opening, book->path);
-        return true;
     case BOOK_OTHER_SHEET:
         fprintf(stderr, "office: %s belongs to another sheet\n", book->path);
         return false;
