@@ -1,4 +1,4 @@
--- The three demands of document 01, with 02's board, season-close run and owed bytes, a record for each, in its order. They are
+-- The three demands of document 01, with 02's board, season-close run, owed bytes and choice, a record for each, in its order. They are
 -- demands on `openOn` and `callOn` (Office), which the contracts of the exported functions cite: a function gives and leaves exactly what
 -- these say, for all lent bytes. That every call ends and touches only what it was lent is proved of each function by the language.
 -- Assumes nothing.
@@ -74,8 +74,8 @@ pub record Means : Type 0 where
   pub lists : (items : List ℕ) → ListWords items
   -- a result holds the kind and the number of its value
   pub results : (v : Value) → wellFormed v ≡ true → ResultWords (resultOf (kindOf v) (numberOf v)) (kindOf v) (numberOf v)
-  -- looking up, working out, catching up and the fresh office as 01 has them, telling as 01 has it with 02's job 5, and owed and the
-  -- season-close run as 02 has them
+  -- looking up, working out, catching up and the fresh office as 01 has them, telling as 01 has it with 02's job 5, what the rules make of
+  -- OUT and NULL as 01 has it with 02's job 6, and owed and the season-close run as 02 has them
   pub equations : Equations
 
 -- Demand 3, about whole lists of calls.
