@@ -19,11 +19,11 @@ use Rattle.circuit.proofs.Fill.{upd-same, upd-cases}
 
 module _ (S : Sheet) where
   -- the cell of k stays stored, or becomes stored if k is kept
-  abbrev StoredAs : ℕ → Bool → Bool → Type 0
+  abbrev pub StoredAs : ℕ → Bool → Bool → Type 0
   StoredAs k before after = (after ≡ before) ⊎ ((keptOf (itemAt S k) ≡ true) × (after ≡ true))
 
   -- from T to U figures have become stored, and only those that are kept
-  abbrev Stores : Table → Table → Type 0
+  abbrev pub Stores : Table → Table → Type 0
   Stores T U = (k : ℕ) → StoredAs k (isStored (T k)) (isStored (U k))
 
   stores-trans : (T U X : Table) → Stores T U → Stores U X → Stores T X
@@ -34,7 +34,7 @@ module _ (S : Sheet) where
       go (inl e) (inl f) = inl (f ∙ e)
       go (inr (kept, e)) (inl f) = inr (kept, f ∙ e)
 
-  abbrev AllStore : (Table → ℕ → Looked) → Type 0
+  abbrev pub AllStore : (Table → ℕ → Looked) → Type 0
   AllStore look = (T : Table) (i : ℕ) → Stores T (look T i .table)
 
   gather-stores : (look : Table → ℕ → Looked) → AllStore look → (ps : List ℕ) (T : Table) → Stores T (gather look T ps .table)
@@ -65,7 +65,7 @@ module _ (S : Sheet) where
   lookFor-stores zero T i = λ k. inl refl
   lookFor-stores (suc fuel) T i = lookCell-stores (lookFor fuel S) (lookFor-stores fuel) T i (T i)
 
-  look-stores : AllStore (lookUp S)
+  pub look-stores : AllStore (lookUp S)
   unfolding lookUp
   look-stores T i = lookFor-stores (suc i) T i
 
@@ -143,7 +143,7 @@ module _ (R S : Sheet) (alike : (k : ℕ) → ruleless (itemAt R k) ≡ ruleless
   parents-alike : (k : ℕ) → parents R k ≡ parents S k
   parents-alike k = sym (parents-ruleless (itemAt R k)) ∙ ap parentsOf (alike k) ∙ parents-ruleless (itemAt S k)
 
-  abbrev AllSame : (Table → ℕ → Looked) → (Table → ℕ → Looked) → Type 0
+  abbrev pub AllSame : (Table → ℕ → Looked) → (Table → ℕ → Looked) → Type 0
   AllSame look other = (T U : Table) → SameForms T U → (i : ℕ) → SameLook (look T i) (other U i)
 
   gather-forms : (look other : Table → ℕ → Looked) → AllSame look other → (ps : List ℕ) (T U : Table) → SameForms T U
