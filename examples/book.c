@@ -18,7 +18,10 @@
 enum { MARK_BYTES = 16, LENGTH_BYTES = 4, SUM_BYTES = 8 };
 enum { HEAD_BYTES = MARK_BYTES + 3 * LENGTH_BYTES };
 static const char book_mark[MARK_BYTES + 1] = "rozhinal book 4\n";
-/* Of books from before version 4.0.0. The form is the same, but a stored choice may be OUT. */
+/*
+ * Of books from before version 4.0.0. The form is the same, but a choice, or what leans on one, may be
+ * stored as OUT for the branch that was not taken.
+ */
 static const char stale_mark[MARK_BYTES + 1] = "rozhinal book 3\n";
 /* Of books from before versions 3.0.0 and 2.0.0. Their records have kind, mark and number alone. */
 static const char former_mark[MARK_BYTES + 1] = "rozhinal book 2\n";

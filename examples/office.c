@@ -7,8 +7,8 @@
  * run goes on from. Commands come from standard input, one a line; `help` lists them. A command is
  * answered once its change is in the file.
  *
- * A book from before version 4.0.0 may hold choices that are OUT for the branch that was not taken:
- * its figures are worked out anew, the same ones stay stored, and the book is written in its new
+ * A book from before version 4.0.0 may hold choices, and what leans on them, that are OUT for the
+ * branch that was not taken: its figures are worked out anew, the same ones stay stored, and the book is written in its new
  * form. No entry changes.
  *
  * A book from before version 3.0.0 has records without an owed byte: the sheet is opened anew, the

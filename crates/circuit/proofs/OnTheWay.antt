@@ -1,5 +1,5 @@
--- What a look-up stores and flags on the way: only figures whose keep byte is 1, and each parent that is looked up; and nothing
--- of it depends on the rules. Assumes nothing.
+-- What a look-up stores and flags on the way: only figures whose keep byte is 1, and of a figure that is worked out each such parent;
+-- nothing of it depends on the rules. Assumes nothing.
 use Prim.Native.Nat.{ℕ, zero, suc}
 use mathlib.Core.Path.{_≡_, refl, sym, ap, ap₂, _∙_}
 use mathlib.Core.Logic.{_⊎_, inl, inr}
