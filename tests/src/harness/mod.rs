@@ -7,6 +7,7 @@ pub mod compare;
 pub mod days;
 pub mod fixed;
 pub mod fixed_boards;
+pub mod fixed_choices;
 pub mod fixed_closes;
 pub mod fixed_owed;
 pub mod lists;
