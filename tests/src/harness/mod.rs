@@ -2,6 +2,7 @@
 
 pub mod before;
 pub mod boards;
+pub mod choices;
 pub mod closes;
 pub mod compare;
 pub mod days;
