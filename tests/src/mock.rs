@@ -3,6 +3,7 @@
 //! the owed bytes at each change, and another printer. It can be made wrong in one respect.
 
 mod board;
+mod choice;
 mod close;
 mod older;
 mod owed;
@@ -15,6 +16,7 @@ use crate::model::day::run_day;
 use crate::model::sheet::{read_sheet, Item, Spread};
 use crate::model::table::{to_pair, Cell, Mark};
 use crate::model::value::{apply, in_range, Value, WHOLE};
+use choice::Where;
 use owed::By;
 
 /// An enum with `ALL`, the list of its variants after the first.
@@ -152,6 +154,34 @@ with_all! {
         TakesFalseOwedOfUnk,
         TakesTablesWithoutOwed,
         RefusesUnowedNotice,
+        ChoiceStrict,
+        ChoiceStrictInSecond,
+        ChoiceStrictInThird,
+        ChoiceStrictInCalls,
+        ChoiceStrictOnBoards,
+        ChoiceStrictInRuns,
+        ChoiceStrictInLookUps,
+        ChoiceStrictInRenewals,
+        ChoiceOutFirstGivesNull,
+        ChoiceOutFirstPicksSecond,
+        ChoiceOutFirstPicksThird,
+        ChoiceNullFirstPicksThird,
+        ChoiceExchanged,
+        ChoicePicksSecondAt0,
+        ChoicePicksSecondBelow0,
+        ChoicePicksThirdAt1,
+        ChoicePickedOutGivesNull,
+        ChoicePickedNullGives0,
+        ChoiceLooksUpPickedOnly,
+        ChoiceStoresPickedOnly,
+        ChoiceLeavesSecond,
+        ChoiceLeavesThird,
+        ChoiceStopsAtNullOrOut,
+        ChoiceFlaggedByPickedOnly,
+        ChoiceNotFlaggedByFirst,
+        OthersTakeOutAsNull,
+        OthersStrictInFirst,
+        OthersNullBeforeOut,
     }
 }
 
@@ -176,31 +206,36 @@ struct Sweep<'a> {
     wrong: Wrong,
 }
 
-impl Sweep<'_> {
-    fn rule(&self, rule: u8, parents: &[Value]) -> Value {
-        let numbers: Vec<i128> = parents
-            .iter()
-            .filter_map(|v| if let Value::Number(x) = v { Some(*x as i128) } else { None })
-            .collect();
-        let right = apply(rule, parents);
-        match (self.wrong, rule) {
-            (wrong, 5) if matches!(right, Value::Number(_)) => {
-                wrong.result(share(wrong, numbers[0], numbers[1]))
-            }
-            (Wrong::TestsRangeAtEachAddition, 1) => {
-                let mut sum = 0;
-                for x in numbers {
-                    sum += x;
-                    if !in_range(sum) {
-                        return Value::Out;
-                    }
-                }
-                right
-            }
-            (wrong, _) => wrong.result(right),
-        }
+/// A rule on its parents' values.
+fn rule(wrong: Wrong, rule: u8, parents: &[Value]) -> Value {
+    if rule == 6 {
+        return wrong.result(wrong.choice(parents));
     }
+    let parents = wrong.others(rule, parents);
+    let numbers: Vec<i128> = parents
+        .iter()
+        .filter_map(|v| if let Value::Number(x) = v { Some(*x as i128) } else { None })
+        .collect();
+    let right = apply(rule, &parents);
+    match (wrong, rule) {
+        (_, 5) if matches!(right, Value::Number(_)) => {
+            wrong.result(share(wrong, numbers[0], numbers[1]))
+        }
+        (Wrong::TestsRangeAtEachAddition, 1) => {
+            let mut sum = 0;
+            for x in numbers {
+                sum += x;
+                if !in_range(sum) {
+                    return Value::Out;
+                }
+            }
+            right
+        }
+        _ => wrong.result(right),
+    }
+}
 
+impl Sweep<'_> {
     fn unstored(&self, i: usize) -> bool {
         let null = self.wrong == Wrong::WorksOutStoredNull
             && self.items[i].figure.is_some()
@@ -215,7 +250,7 @@ impl Sweep<'_> {
         for i in 0..=last {
             let notice = self.cells[i].mark == Mark::Notice;
             given.push(if self.unstored(i) {
-                let (value, flagged) = self.by_parents(i, &given);
+                let (value, flagged) = self.by_parents(i, &given, Where::LookUp);
                 (value, flagged || notice)
             } else {
                 (self.cells[i].stored.unwrap(), notice)
@@ -224,10 +259,11 @@ impl Sweep<'_> {
         given
     }
 
-    fn by_parents(&self, i: usize, given: &[(Value, bool)]) -> (Value, bool) {
+    fn by_parents(&self, i: usize, given: &[(Value, bool)], place: Where) -> (Value, bool) {
         let figure = self.items[i].figure.as_ref().unwrap();
         let values: Vec<Value> = figure.parents.iter().map(|&p| given[p].0).collect();
-        (self.rule(figure.rule, &values), figure.parents.iter().any(|&p| given[p].1))
+        let value = rule(self.wrong.here(place), figure.rule, &values);
+        (value, self.flagging(i, given).iter().any(|&p| given[p].1))
     }
 
     /// Stores each unstored figure with keep 1 that a look-up of these items reaches.
@@ -238,9 +274,8 @@ impl Sweep<'_> {
             if !reached[i] || !self.unstored(i) {
                 continue;
             }
-            let figure = self.items[i].figure.as_ref().unwrap();
-            figure.parents.iter().for_each(|&p| reached[p] = true);
-            if figure.keep {
+            self.looked_up(i, given).iter().for_each(|&p| reached[p] = true);
+            if self.items[i].figure.as_ref().unwrap().keep {
                 self.store(i, given[i], By::LookUp);
             }
         }
@@ -261,8 +296,8 @@ impl Sweep<'_> {
     fn work_out(&mut self, i: usize) -> Value {
         let parents = &self.items[i].figure.as_ref().unwrap().parents;
         let given = self.all(*parents.iter().max().unwrap());
-        self.fill(parents, &given);
-        self.by_parents(i, &given).0
+        self.fill(&self.looked_up(i, &given), &given);
+        self.by_parents(i, &given, Where::Renewal).0
     }
 
     fn step(&mut self, i: usize) {
@@ -411,7 +446,7 @@ impl Engine for Mock {
             return refusal;
         }
         let items = read_sheet(sheet.bytes()).unwrap();
-        let mut machine = Sweep::new(&items, &taken, wrong);
+        let mut machine = Sweep::new(&items, &taken, wrong.here(Where::Call));
         if let Some(number) = wrong.refusal(call, &machine.cells, &machine.owed) {
             return Reply { number, offset: 0, kind: 0, value: 0 };
         }

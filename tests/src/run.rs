@@ -2,6 +2,7 @@
 
 use crate::engine::{DayProgram, Engine};
 use crate::harness::before::run_before;
+use crate::harness::choices::run_choices;
 use crate::harness::closes::run_closes;
 use crate::harness::compare::Comparison;
 use crate::harness::days::{compare_fixed_days, compare_random_day};
@@ -27,6 +28,8 @@ pub struct Plan {
     pub closes: u64,
     /// Lists that are also given to the calls as they were before tables had an owed byte.
     pub before: u64,
+    /// Tables from before version 4.0.0.
+    pub choices: u64,
     pub days: u64,
     /// Slices are lent in blocks of their own, for a run under a memory checker.
     pub alone: bool,
@@ -45,6 +48,7 @@ const PAIRS: u64 = 4 << 40;
 const OLDER: u64 = 5 << 40;
 const CLOSES: u64 = 6 << 40;
 const BEFORE: u64 = 7 << 40;
+const CHOICES: u64 = 8 << 40;
 
 /// Everything compared, or the first difference.
 pub fn run(
@@ -68,6 +72,7 @@ pub fn run(
         (OLDER, plan.older),
         (CLOSES, plan.closes),
         (BEFORE, plan.before),
+        (CHOICES, plan.choices),
     ];
     for part in kinds.iter().flat_map(|&(first, count)| first..first + count) {
         run_part(plan, part, &mut c, &mut day)?;
@@ -104,6 +109,7 @@ fn run_part(
     c.rng = Rng::part(seed, part);
     let result = match (part, day) {
         (FIXED, _) => run_fixed(c),
+        (CHOICES.., _) => run_choices(c),
         (BEFORE.., _) => run_before(c),
         (CLOSES.., _) => run_closes(c),
         (OLDER.., _) => run_older(c),
@@ -133,6 +139,7 @@ mod tests {
         older: 0,
         closes: 0,
         before: 0,
+        choices: 0,
         days: 0,
         alone: false,
         only: None,
@@ -153,13 +160,14 @@ mod tests {
             older: 300,
             closes: 300,
             before: 300,
+            choices: 300,
             days: 60,
             ..SHORT
         };
         let tally = try_mock(&plan, Wrong::Nothing).unwrap();
         assert!(tally.calls() >= 50_000);
         assert_eq!((tally.pairs, tally.older_tables, tally.closed_tables), (2_000, 300, 300));
-        assert_eq!(tally.before_lists, 300);
+        assert_eq!((tally.before_lists, tally.strict_tables), (300, 300));
         assert!(
             tally.before_tables > 500 && tally.before_steps > 100 && tally.before_readings > 2_000
         );
@@ -222,6 +230,17 @@ mod tests {
         }
     }
 
+    /// A choice that is wrong in its value is found by tables from before version 4.0.0 alone.
+    #[test]
+    fn wrong_readings_after_the_choice_of_before_are_found() {
+        let plan = Plan { calls: 0, offices: 0, choices: 300, ..SHORT };
+        let values = [Wrong::ChoiceStrict, Wrong::ChoiceStrictInRuns, Wrong::ChoiceStrictInLookUps];
+        for wrong in values.into_iter().chain([Wrong::RefusesStoredOut, Wrong::WorksOutStoredOut]) {
+            let found = try_mock(&plan, wrong).unwrap_err();
+            assert!(found.contains("--seed 5 --part"), "{wrong:?}: {found}");
+        }
+    }
+
     /// Wrong closes are found by closes of any table alone, if they are wrong where nothing is refused.
     #[test]
     fn wrong_closes_are_found() {
@@ -274,6 +293,7 @@ mod tests {
             older: 300,
             closes: 300,
             before: 300,
+            choices: 300,
             ..SHORT
         };
         if let Err(difference) = run(&plan, &mut crate::ffi::Linked, None) {

@@ -10,7 +10,7 @@ mod write;
 pub use boards::{any_board, board_of, good_board};
 pub use calls::{any_call, bad_post, day_field, day_log, good_post, other_call};
 pub use damage::{bad_sheet, damaged, damaged_sheet};
-pub use sheets::{shape, sheet, small_specs, Shape};
+pub use sheets::{guard_specs, shape, sheet, small_specs, Shape};
 pub use tables::{
     accepted_table, beyond, choose_numbers, damaged_index, damaged_table, make_owed_true, narrow,
     number, older_table, share_pair, Numbers, OLDER_LIMIT,
@@ -87,8 +87,9 @@ mod tests {
                 stale += (stored.is_some() && stored != Some(machine.look_up(i).0)) as u64;
             }
         }
-        assert!(entries[1][0] * entries[1][2] * entries[3][0] * entries[3][2] > 0, "{entries:?}");
-        assert!(figures[0][0] * figures[0][2] > 0, "{figures:?}");
+        let met = [entries[1][0], entries[1][2], entries[3][0], entries[3][2]];
+        assert!(met.iter().all(|&m| m > 0), "{entries:?}");
+        assert!(figures[0][0] > 0 && figures[0][2] > 0, "{figures:?}");
         assert!(figures[1..].iter().flatten().all(|&m| m > 0), "{figures:?}");
         assert!(stale > 300, "{stale}");
     }

@@ -18,8 +18,16 @@ fn parent_count(rng: &mut Rng, rule: u8) -> u64 {
     }
 }
 
+/// The rules of random figures, and of those where choices guard what may be OUT or NULL.
+const RULES: [u8; 11] = [1, 1, 1, 2, 3, 4, 5, 5, 6, 7, 8];
+const GUARDS: [u8; 8] = [1, 2, 5, 5, 6, 6, 6, 8];
+
 /// Random items, all of them at most at level `most`; item 0 is an entry.
 pub fn random_specs(rng: &mut Rng, count: usize, entries: u64, most: usize) -> Vec<Spec> {
+    specs_of(rng, &RULES, count, entries, most)
+}
+
+fn specs_of(rng: &mut Rng, rules: &[u8], count: usize, entries: u64, most: usize) -> Vec<Spec> {
     let mut specs = vec![Spec::Entry(name(rng))];
     let mut levels = vec![0];
     while specs.len() < count {
@@ -28,7 +36,7 @@ pub fn random_specs(rng: &mut Rng, count: usize, entries: u64, most: usize) -> V
             levels.push(0);
             continue;
         }
-        let rule = *rng.pick(&[1, 1, 1, 2, 3, 4, 5, 5, 6, 7, 8]);
+        let rule = *rng.pick(rules);
         let mut parents: Vec<u16> = Vec::new();
         for _ in 0..parent_count(rng, rule) {
             let here = specs.len() as u64;
@@ -48,7 +56,14 @@ pub fn random_specs(rng: &mut Rng, count: usize, entries: u64, most: usize) -> V
 
 pub fn small_specs(rng: &mut Rng) -> Vec<Spec> {
     let (count, entries) = (rng.between(1, 10) as usize, rng.between(15, 50));
-    random_specs(rng, count, entries, MAX_LEVEL)
+    let rules: &[u8] = if rng.percent(30) { &GUARDS } else { &RULES };
+    specs_of(rng, rules, count, entries, MAX_LEVEL)
+}
+
+/// A small sheet with choices.
+pub fn guard_specs(rng: &mut Rng) -> Vec<Spec> {
+    let (count, entries) = (rng.between(6, 14) as usize, rng.between(20, 40));
+    specs_of(rng, &GUARDS, count, entries, MAX_LEVEL)
 }
 
 /// A tower of figures up to a level, each listing the one before at least twice where it can.

@@ -1,5 +1,6 @@
 //! One call on both sides, and every byte afterwards.
 
+use super::choices;
 use super::closes::solves;
 use super::owed;
 use super::tally::Tally;
@@ -125,7 +126,7 @@ impl<'a> Comparison<'a> {
         };
         let (after, guards) = (handed.lent(), handed.guards());
         if given == reply && after == *lent && guards == [true; 3] {
-            owed::judge(&mut self.tally.owed, act, reply.number, &before, lent)?;
+            self.judge(act, reply.number, &before, lent)?;
             return Ok(reply);
         }
         Err(format!(
@@ -134,6 +135,15 @@ impl<'a> Comparison<'a> {
             lent.dump("after, model"),
             after.dump("after, engine"),
         ))
+    }
+
+    /// Sees to the owed bytes, and counts what was done with them and with choices.
+    fn judge(&mut self, act: &Act, number: u64, before: &Lent, after: &Lent) -> Result<(), String> {
+        owed::judge(&mut self.tally.owed, act, number, before, after)?;
+        if number == 0 {
+            choices::count(&mut self.tally.choices, act, before, after);
+        }
+        Ok(())
     }
 
     /// A board on both sides. The result list, too, becomes what both leave.
@@ -151,8 +161,7 @@ impl<'a> Comparison<'a> {
         let list_guards = [items.guards_hold(), results.guards_hold()];
         let same = given == reply && after == *lent && left == *board;
         if same && guards == [true; 3] && list_guards == [true; 2] {
-            let act = Act::Board(lists);
-            owed::judge(&mut self.tally.owed, &act, reply.number, &before, lent)?;
+            self.judge(&Act::Board(lists), reply.number, &before, lent)?;
             return Ok(reply);
         }
         Err(format!(

@@ -5,6 +5,7 @@ use super::boards::plain_board;
 use super::closes::plain_close;
 use super::compare::{Act, Comparison, Lent};
 use super::fixed_boards::run_fixed_boards;
+use super::fixed_choices::run_fixed_choices;
 use super::fixed_closes::{closes_to, run_fixed_closes};
 use super::fixed_owed::run_fixed_owed;
 use super::lists::{plain_call, Office};
@@ -34,7 +35,8 @@ pub fn run_fixed(c: &mut Comparison) -> Result<(), String> {
     stale_ledgers(c)?;
     run_fixed_boards(c)?;
     run_fixed_closes(c)?;
-    run_fixed_owed(c)
+    run_fixed_owed(c)?;
+    run_fixed_choices(c)
 }
 
 pub fn post(item: u64, number: i64) -> Call {
@@ -318,8 +320,7 @@ pub fn figure(c: &mut Comparison, rule: u8, parents: &[Given], right: Given) -> 
     for full in [false, true] {
         let (mut lent, _) = opened(c, write_sheet(&specs), specs.len(), full)?;
         for (item, number) in (0..).zip(parents) {
-            let null = Call::Post { item, kind: 1, number: 0 };
-            c.act(&Act::Give(number.map_or(null, |x| post(item, x))), &mut lent)?;
+            c.act(&Act::Give(post_given(item, *number)), &mut lent)?;
         }
         for item in [count as u64, count as u64 + 1] {
             closes_to(c, &lent, item, right)
@@ -328,6 +329,11 @@ pub fn figure(c: &mut Comparison, rule: u8, parents: &[Given], right: Given) -> 
         }
     }
     Ok(())
+}
+
+/// A post of NULL or of a number.
+pub fn post_given(item: u64, given: Given) -> Call {
+    given.map_or(Call::Post { item, kind: 1, number: 0 }, |number| post(item, number))
 }
 
 /// Kind and number of a result.

@@ -22,7 +22,7 @@ pub fn run_fixed_owed(c: &mut Comparison) -> Result<(), String> {
     chain(c)
 }
 
-fn entry() -> Spec {
+pub fn entry() -> Spec {
     Spec::Entry(b"A".to_vec())
 }
 
@@ -151,31 +151,31 @@ fn list(c: &mut Comparison, specs: &[Spec], calls: &[Shown]) -> Result<(), Strin
     Ok(())
 }
 
-fn posted(item: u64, number: i64) -> Act {
+pub fn posted(item: u64, number: i64) -> Act {
     Act::Give(post(item, number))
 }
 
-fn keep(item: u64) -> Act {
+pub fn keep(item: u64) -> Act {
     Act::Give(Call::Keep { item })
 }
 
-fn drop(item: u64) -> Act {
+pub fn drop(item: u64) -> Act {
     Act::Give(Call::Drop { item })
 }
 
-fn step(item: u64) -> Act {
+pub fn step(item: u64) -> Act {
     Act::Give(Call::Step { item })
 }
 
-fn ask(item: u64) -> Act {
+pub fn ask(item: u64) -> Act {
     Act::Give(Call::Ask { item })
 }
 
-fn board(item: u8) -> Act {
+pub fn board(item: u8) -> Act {
     Act::Board(Board { items: vec![item, 0], results: vec![0; 9] })
 }
 
-fn sum(keep: u8, spread: u8, parents: &[u16]) -> Spec {
+pub fn sum(keep: u8, spread: u8, parents: &[u16]) -> Spec {
     spec_figure(1, keep, spread, parents)
 }
 

@@ -2,11 +2,13 @@
 
 pub mod before;
 pub mod boards;
+pub mod choices;
 pub mod closes;
 pub mod compare;
 pub mod days;
 pub mod fixed;
 pub mod fixed_boards;
+pub mod fixed_choices;
 pub mod fixed_closes;
 pub mod fixed_owed;
 pub mod lists;

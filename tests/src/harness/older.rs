@@ -9,7 +9,7 @@ use crate::gen::{self, OLDER_LIMIT};
 use crate::model::calls::Call;
 use crate::model::field::i64_at;
 use crate::model::sheet::{index_of, read_sheet, Item, EXAMPLE};
-use crate::model::table::{encode, Cell, Mark, OWED};
+use crate::model::table::{encode, Cell, Mark};
 use crate::model::value::Value;
 
 /// The example with a sum that was OUT: it is read as it is stored, until it is worked out anew.
@@ -62,13 +62,14 @@ fn without_owed(c: &mut Comparison, lent: &Lent, acts: &[Act]) -> Result<Lent, S
     Ok(older)
 }
 
-/// Opened anew, with the entries of the older table posted in their order. Every item is then read
-/// as the fresh office gives it.
-fn opened_anew(c: &mut Comparison, items: &[Item], older: &Lent) -> Result<Lent, String> {
+/// Opened anew, with the entries of the older table, whatever its records' length, posted in their
+/// order. Every item is then read as the fresh office gives it.
+pub fn opened_anew(c: &mut Comparison, items: &[Item], older: &Lent) -> Result<Lent, String> {
     let full = c.rng.percent(50);
     let (mut lent, _) = opened(c, older.sheet.clone(), items.len(), full)?;
     let mut office = Some(Office::new(items));
-    for ((item, read), record) in (0..).zip(items).zip(older.table.chunks(OWED)) {
+    let records = older.table.chunks(older.table.len() / items.len());
+    for ((item, read), record) in (0..).zip(items).zip(records) {
         if read.figure.is_none() {
             let (kind, number) = (record[0] as u64, i64_at(record, 2));
             let post = Call::Post { item, kind, number };
@@ -88,15 +89,25 @@ pub fn run_older(c: &mut Comparison) -> Result<(), String> {
     let sheet = gen::write_sheet(&gen::small_specs(&mut c.rng));
     let items = read_sheet(&sheet).unwrap();
     let table = gen::older_table(&mut c.rng, &items);
-    let call = gen::any_call(&mut c.rng, &items, &table, gen::Numbers::Any);
-    let board = gen::any_board(&mut c.rng, &items);
     let lent = Lent { sheet, index: index_of(&items), table };
     c.tally.older_tables += 1;
-    let acts = [Act::Give(call), Act::Give(Call::Ask { item: 0 }), Act::Board(board), Act::Close];
+    let acts = any_acts(c, &items, &lent.table);
     let older = without_owed(c, &lent, &acts)?;
     opened_anew(c, &items, &older)?;
+    takes(c, &lent, &acts)
+}
+
+/// Any call, an ask, any board and a close.
+pub fn any_acts(c: &mut Comparison, items: &[Item], table: &[u8]) -> [Act; 4] {
+    let call = gen::any_call(&mut c.rng, items, table, gen::Numbers::Any);
+    let board = gen::any_board(&mut c.rng, items);
+    [Act::Give(call), Act::Give(Call::Ask { item: 0 }), Act::Board(board), Act::Close]
+}
+
+/// None of the acts is refused for what it is lent.
+pub fn takes(c: &mut Comparison, lent: &Lent, acts: &[Act]) -> Result<(), String> {
     for act in acts {
-        let number = c.act(&act, &mut lent.clone())?.number;
+        let number = c.act(act, &mut lent.clone())?.number;
         if (1..=10).contains(&number) {
             return Err(format!("{act:?} on an older table gives {number}\n{lent:?}"));
         }

@@ -1,5 +1,6 @@
 //! How much was compared.
 
+use super::choices;
 use super::compare::Act;
 use super::owed;
 use super::prints::MOST_DIGITS;
@@ -59,6 +60,9 @@ pub const CLOSES: [&str; 11] = [
 /// Printed numbers, not below 0 and below it, which must be met with each count of digits.
 const DIGITS: [&str; 2] = ["digits of numbers not below 0", "digits of numbers below 0"];
 
+/// What tables from before version 4.0.0 must often hold.
+const STRICT: &str = "a value of the choice of before";
+
 /// What a share in the older range never had.
 const WIDE: &str = "a product beyond a signed 64-bit number";
 
@@ -86,6 +90,12 @@ pub struct Tally {
     pub closed_tables: u64,
     /// How often each of `owed::MET` was met.
     pub owed: owed::Times,
+    /// How often each of `choices::WAYS` met each of `choices::PARENTS`.
+    pub choices: choices::Times,
+    /// Tables from before version 4.0.0.
+    pub strict_tables: u64,
+    /// Those without a mark in which a stored value is no longer right.
+    pub strict_values: u64,
     /// Lists that were also given to the calls as they were before owed bytes.
     pub before_lists: u64,
     /// Values that these read on both sides.
@@ -210,9 +220,9 @@ impl Tally {
     }
 
     /// The refusals that some function can give, or a day print, the lists of boards, the tables and
-    /// sheets of closes, what is done to owed bytes and false ones, and numbers of each length in
-    /// print, that were never met; also products of shares beyond a signed 64-bit number, if they
-    /// were fewer than one in twenty.
+    /// sheets of closes, what is done to owed bytes and false ones, the parents of choices, and
+    /// numbers of each length in print, that were never met; also products of shares beyond a signed
+    /// 64-bit number, and values of the choice of before, if they were fewer than one in twenty.
     pub fn never_met(&self) -> Vec<String> {
         let mut missing = Vec::new();
         for ((name, numbers), given) in FUNCTIONS.iter().zip(&self.given) {
@@ -229,6 +239,11 @@ impl Tally {
         for (name, _) in owed::MET.iter().zip(&self.owed).filter(|(_, &times)| times == 0) {
             missing.push(format!("owed, {name}"));
         }
+        for (way, met) in choices::WAYS.iter().zip(&self.choices) {
+            for (name, _) in choices::PARENTS.iter().zip(met).filter(|(_, &times)| times == 0) {
+                missing.push(format!("choice {way}, {name}"));
+            }
+        }
         for (name, digits) in DIGITS.iter().zip(&self.digits) {
             for length in (1..=MOST_DIGITS).filter(|&length| digits[length] == 0) {
                 missing.push(format!("{name} {length}"));
@@ -236,6 +251,9 @@ impl Tally {
         }
         if 20 * self.wide_pairs < self.pairs {
             missing.push(format!("{WIDE} in one pair of twenty"));
+        }
+        if 20 * self.strict_values < self.strict_tables {
+            missing.push(format!("{STRICT} in one table of twenty"));
         }
         for ((word, numbers), printed) in LINES.iter().zip(&self.printed) {
             for &number in numbers.iter().filter(|&&n| self.days > 0 && printed[n] == 0) {
@@ -268,6 +286,17 @@ fn times(met: &[u64]) -> String {
 }
 
 impl Tally {
+    fn write_choices(&self, f: &mut fmt::Formatter) -> fmt::Result {
+        for (way, met) in choices::WAYS.iter().zip(&self.choices) {
+            writeln!(f, "choices {way}, by their parents: {}", named(&choices::PARENTS, met))?;
+        }
+        writeln!(
+            f,
+            "tables from before 4.0.0: {} ({} without a mark and with {STRICT})",
+            self.strict_tables, self.strict_values
+        )
+    }
+
     fn write_owed(&self, f: &mut fmt::Formatter) -> fmt::Result {
         let (done, at_fault) = (0..owed::FALSE, owed::FALSE..owed::MET.len());
         let owed = |part: Range<usize>| named(&owed::MET[part.clone()], &self.owed[part]);
@@ -302,6 +331,7 @@ impl fmt::Display for Tally {
         )?;
         writeln!(f, "tables of no opening closed, and gone on with: {}", self.closed_tables)?;
         self.write_owed(f)?;
+        self.write_choices(f)?;
         writeln!(
             f,
             "lists: {} ({} from a table of no opening); pairs of offices: {}",
@@ -337,6 +367,7 @@ mod tests {
         let mut tally = Tally { days: 1, ..Tally::default() };
         (tally.boards, tally.closes) = ([1; BOARDS.len()], [1; CLOSES.len()]);
         tally.owed = [1; owed::MET.len()];
+        tally.choices.iter_mut().for_each(|met| met.fill(1));
         for ((_, numbers), given) in FUNCTIONS.iter().zip(&mut tally.given) {
             numbers.iter().chain(&[0]).for_each(|&n| given[n] = 1);
         }
@@ -372,6 +403,13 @@ mod tests {
             let mut tally = full();
             tally.owed[at] = 0;
             assert_eq!(tally.never_met(), [format!("owed, {name}")]);
+        }
+        for (way, does) in choices::WAYS.iter().enumerate() {
+            for (at, name) in choices::PARENTS.iter().enumerate() {
+                let mut tally = full();
+                tally.choices[way][at] = 0;
+                assert_eq!(tally.never_met(), [format!("choice {does}, {name}")]);
+            }
         }
         for (at, (word, numbers)) in LINES.iter().enumerate() {
             for &number in *numbers {
@@ -412,6 +450,15 @@ mod tests {
         assert_eq!(tally.never_met(), [""; 0]);
         tally.count_pair(0, 0);
         assert_eq!(tally.never_met(), [format!("{WIDE} in one pair of twenty")]);
+    }
+
+    /// One table in twenty from before version 4.0.0 must hold a value of then.
+    #[test]
+    fn values_of_before_are_missed() {
+        let tally = Tally { strict_tables: 20, strict_values: 1, ..full() };
+        assert_eq!(tally.never_met(), [""; 0]);
+        let tally = Tally { strict_tables: 21, ..tally };
+        assert_eq!(tally.never_met(), [format!("{STRICT} in one table of twenty")]);
     }
 
     /// Each number of the paper's table is asked for somewhere.

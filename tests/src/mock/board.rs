@@ -1,6 +1,6 @@
 //! The mock's board, and how it can be wrong.
 
-use super::{By, Mock, Sweep, Wrong};
+use super::{By, Mock, Sweep, Where, Wrong};
 use crate::guarded::Guarded;
 use crate::model::board::{self, Board, ITEM, MOST_ITEMS, RESULT};
 use crate::model::calls::Reply;
@@ -91,7 +91,7 @@ impl Mock {
         if listed.is_empty() && !refused && wrong != Wrong::EmptyBoardCatchesUp {
             return reply;
         }
-        let mut machine = Sweep::new(&circuit, &taken, wrong);
+        let mut machine = Sweep::new(&circuit, &taken, wrong.here(Where::Board));
         let written = machine.board(&listed);
         machine.write(table);
         results.bytes_mut()[..written.len()].copy_from_slice(&written);

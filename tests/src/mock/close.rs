@@ -1,6 +1,6 @@
 //! The mock's season-close run, and how it can be wrong.
 
-use super::{By, Mock, Sweep, Wrong};
+use super::{By, Mock, Sweep, Where, Wrong};
 use crate::gen::make_owed_true;
 use crate::guarded::Guarded;
 use crate::model::calls::Reply;
@@ -104,7 +104,7 @@ impl Sweep<'_> {
             _ => return self.all(old.len() - 1).iter().map(|g| g.0).collect(),
         };
         let value = |i: usize| match self.items[i].figure {
-            Some(_) => self.by_parents(i, &given).0,
+            Some(_) => self.by_parents(i, &given, Where::LookUp).0,
             None => given[i].0,
         };
         (0..old.len()).map(value).collect()
@@ -175,7 +175,8 @@ impl Mock {
             taken = without_figures(&items, &taken);
         }
         let listed = wrong.with_parents(&items);
-        let mut machine = Sweep { items: &listed, ..Sweep::new(&items, &taken, wrong) };
+        let here = wrong.here(Where::Close);
+        let mut machine = Sweep { items: &listed, ..Sweep::new(&items, &taken, here) };
         match wrong {
             Wrong::CloseOnlyCatchesUp | Wrong::CloseCatchesUpAndKeeps | Wrong::CloseOnlyKeeps => {
                 machine.close_by_calls()

@@ -38,12 +38,27 @@ pub fn count_fits(rule: u8, parents: usize) -> bool {
     }
 }
 
-/// The rule with this code on its parents' values.
+/// The rule with this code on its parents' values. Of all but a choice, any OUT parent gives OUT.
 pub fn apply(rule: u8, parents: &[Value]) -> Value {
-    if parents.contains(&Out) {
-        return Out;
+    match rule {
+        6 => choice(parents[0], parents[1], parents[2]),
+        _ if parents.contains(&Out) => Out,
+        _ => without_out(rule, parents),
     }
-    // With OUT excluded, a parent is NULL or a number.
+}
+
+/// The first parent picks the second or the third, whatever the other is.
+fn choice(first: Value, second: Value, third: Value) -> Value {
+    match first {
+        Out => Out,
+        Null => Null,
+        Number(x) if x > 0 => second,
+        Number(_) => third,
+    }
+}
+
+/// One of the seven other rules on values that are NULL or numbers.
+fn without_out(rule: u8, parents: &[Value]) -> Value {
     let given: Vec<Option<i128>> = parents
         .iter()
         .map(|v| match v {
@@ -61,11 +76,6 @@ pub fn apply(rule: u8, parents: &[Value]) -> Value {
             (Some(_), Some(b)) if b < 0 || b > WHOLE as i128 => return Out,
             (Some(a), Some(b)) => Some((a * b).div_euclid(WHOLE as i128)),
             _ => None,
-        },
-        6 => match given[0] {
-            None => None,
-            Some(a) if a > 0 => given[1],
-            Some(_) => given[2],
         },
         7 => (!numbers.is_empty()).then_some(numbers.len() as i128),
         8 => match (given[0], given[1]) {
@@ -109,11 +119,19 @@ mod tests {
     }
 
     #[test]
-    fn each_rule_on_null_and_out() {
+    fn each_rule_on_null() {
         for rule in 1..=8u8 {
+            for count in (1..=16).filter(|&count| count_fits(rule, count)) {
+                assert_eq!(apply(rule, &vec![Null; count]), Null);
+            }
+        }
+    }
+
+    #[test]
+    fn each_rule_but_choice_on_out() {
+        for rule in [1, 2, 3, 4, 5, 7, 8] {
             for count in 1..=16 {
                 if count_fits(rule, count) {
-                    assert_eq!(apply(rule, &vec![Null; count]), Null);
                     for place in 0..count {
                         let mut parents = vec![Null; count];
                         parents[place] = Out;
@@ -153,6 +171,23 @@ mod tests {
         assert_eq!(apply(7, &[n(4), n(0), Null]), n(2));
         assert_eq!(apply(8, &[n(2), n(3)]), n(0));
         assert_eq!(apply(8, &[Null, n(3)]), Null);
+    }
+
+    #[test]
+    fn a_choice_looks_only_where_it_points() {
+        for (parents, result) in [
+            ([Out, n(1), n(2)], Out),
+            ([Null, Out, Out], Null),
+            ([n(1), n(7), Out], n(7)),
+            ([n(0), Out, n(9)], n(9)),
+            ([n(1), Out, n(9)], Out),
+            ([n(2), Null, n(9)], Null),
+            ([n(-1), n(4), Null], Null),
+            ([n(-LIMIT), Null, Out], Out),
+            ([n(LIMIT), n(-LIMIT), Null], n(-LIMIT)),
+        ] {
+            assert_eq!(apply(6, &parents), result, "{parents:?}");
+        }
     }
 
     /// First, and its shares of 0, 1, 9,999 and 10,000: rounded down, and exact where the product
