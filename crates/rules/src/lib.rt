@@ -154,7 +154,7 @@ fn share(a: Value, b: Value) -> Value
     share_of(a.number_or_zero(), b.number_or_zero())
 }
 
-// The only rule that lets an OUT parent be: what is not picked counts for nothing.
+// The only rule that is not OUT for every parent that is: what is not picked counts for nothing.
 fn choice(a: Value, b: Value, c: Value) -> Value
     ensures { λ r. ⌜ meaning r ≡ rules.apply rules.choice (meaning a ∷ meaning b ∷ meaning c ∷ []) ⌝ }
 {
