@@ -131,7 +131,7 @@ module _ (S : Sheet) (ordered : Ordered S) where
   look-quiet T i quiet = fill-quiet T (lookUp S T i .table) (size S) (look-right S ordered T i .fill) quiet
 
   -- a step sets no mark below its item
-  step-below : (T : Table) (i : ℕ) → i < size S → QuietBelow T i → QuietBelow (stepItem S T i) i
+  pub step-below : (T : Table) (i : ℕ) → i < size S → QuietBelow T i → QuietBelow (stepItem S T i) i
   step-below T i low quiet =
       step-closed S (λ c. i ≤ c) (λ U. QuietBelow U i)
       (record {
@@ -174,7 +174,7 @@ module _ (S : Sheet) (ordered : Ordered S) where
       go (held v refresh) e = let m : isNotice (markOf (held v refresh)) ≡ true = rw e at own in never (cc)
 
   -- what one step leaves at its item: no mark, or a stored value with notice
-  step-own : (T : Table) (i : ℕ) → isMarked (T i) ≡ true
+  pub step-own : (T : Table) (i : ℕ) → isMarked (T i) ≡ true
       → (isMarked (stepItem S T i i) ≡ false) ⊎ ((v : Value) × (stepItem S T i i ≡ held v notice))
   unfolding stepItem
   step-own T i marked = go (T i) refl

@@ -1,5 +1,5 @@
 -- Keeping every figure, lowest first, on a sound table without marks leaves in every item of the sheet the fresh office's value, without
--- a mark (`keeps-at`): what the season-close run leaves. Some steps lead from any table to one without marks (`steps-quiet`). Assumes
+-- a mark (`keeps-at`): what the season-close run leaves. Some accepted steps lead from any table to one without marks (`steps-quiet`). Assumes
 -- that the sheet is ordered.
 use Prim.Native.Nat.{ℕ, zero, suc, _<_, _≤_}
 use native.Mathlib.Omega.{arith}
@@ -16,7 +16,7 @@ use Rattle.circuit.specs.Call.{Call, keep, step}
 use Rattle.circuit.specs.Calls.{tests, firstCause, effect, perform, run}
 use Rattle.circuit.specs.Closing.{keepIf, keepsBelow, keepEvery}
 use Rattle.circuit.specs.Fresh.{give}
-use Rattle.circuit.specs.Words.{Quiet, CaughtUp, still, stepped}
+use Rattle.circuit.specs.Words.{Quiet, AllAccepted, CaughtUp, still, stepped}
 use Rattle.circuit.proofs.Solution.{give-solves}
 use Rattle.circuit.proofs.View.{never, view, view-at}
 use Rattle.circuit.proofs.Fill.{upd-same, Filling, stays, fills, Fill, fill-refl, fill-trans, keep-fill}
@@ -39,7 +39,7 @@ unfolding tests firstCause effect
 keep-performs S T i low fig = ap (λ o. o .table) (accepted-effect S T (keep i) (rw (lt-leb (size S) i low, fig)))
 
 -- what is kept is stored
-keep-stored : (S : Sheet) (T : Table) (i : ℕ) → isStored (keepFigure S T i i) ≡ true
+pub keep-stored : (S : Sheet) (T : Table) (i : ℕ) → isStored (keepFigure S T i i) ≡ true
 unfolding keepFigure
 keep-stored S T i = go (T i) refl
   where
@@ -130,16 +130,21 @@ module _ (S : Sheet) (ordered : Ordered S) (E : Entries) (T : Table) (sound : So
       stored (figure op k spread ps) e = kept .stored j low (ap isFigure e)
 
 -- the steps of catching up, as calls
-steps-run : (S : Sheet) {T U : Table} → CaughtUp S T U → (is : List ℕ) × (run S T (map step is) ≡ U)
+steps-run : (S : Sheet) {T U : Table} → CaughtUp S T U → (is : List ℕ) × AllAccepted S T (map step is) × (run S T (map step is) ≡ U)
 unfolding run tests firstCause effect
-steps-run S (still e) = ([], refl)
+steps-run S (still e) = ([], tt, refl)
 steps-run S {T} {U} (stepped i e rest) =
     let later = steps-run S rest in
     let marked = lowest-marked T (size S) i e in
-    let first : perform S T (step i) .table ≡ stepItem S T i
-    = ap (λ o. o .table) (accepted-effect S T (step i) (rw (lt-leb (size S) i (marked .0), marked .1))) in
-    (i ∷ later .0, ap (λ X. run S X (map step (later .0))) first ∙ later .1)
+    let one = accepted-effect S T (step i) (rw (lt-leb (size S) i (marked .0), marked .1)) in
+    let first : perform S T (step i) .table ≡ stepItem S T i = ap (λ o. o .table) one in (
+      i ∷ later .0,
+      (ap (λ o. o .number) one, subst (λ X. AllAccepted S X (map step (later .0))) (sym first) (later .1)),
+      ap (λ X. run S X (map step (later .0))) first ∙ later .2,
+    )
 
--- from any table some steps lead to one without marks
-pub steps-quiet : (S : Sheet) → Ordered S → (T : Table) → (is : List ℕ) × Quiet S (run S T (map step is))
-steps-quiet S ordered T = let steps = steps-run S (catchUp-ends S ordered T) in (steps .0, rw (steps .1) (catchUp-quiet S ordered T))
+-- from any table some accepted steps lead to one without marks
+pub steps-quiet : (S : Sheet) → Ordered S → (T : Table) → (is : List ℕ) × AllAccepted S T (map step is) × Quiet S (run S T (map step is))
+steps-quiet S ordered T =
+    let steps = steps-run S (catchUp-ends S ordered T) in
+    (steps .0, steps .1, rw (steps .2) (catchUp-quiet S ordered T))

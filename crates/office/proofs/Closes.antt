@@ -37,12 +37,12 @@ use Rattle.table.specs.Rows.{row}
 use Rattle.table.specs.Record.{width, owedPlace, kindIn, markIn, numberIn, encodeCell}
 use Rattle.table.specs.Bytes.{encodeTable, decodeTable, Holdable}
 use Rattle.table.proofs.Records.{kind-by, number-by}
-use Rattle.table.proofs.Tables.{encoded-cell, encoded-kind, encoded-mark, encoded-number, encodeTable-ext, holdable-wellFormed, holdable-formed}
+use Rattle.table.proofs.Tables.{encoded-cell, encoded-kind, encoded-number, encodeTable-ext, holdable-wellFormed, holdable-formed}
 use Rattle.office.specs.Office.{Office, keeping, resultsLent, callOn, openOn, runOn}
 use Rattle.office.specs.Demand1Words.{AcceptedLent}
 use Rattle.office.specs.Demand2Words.{answerOf, reading, valueOf, entriesIn, Stores, NoMarkStands, readingIn, CloseLeaves}
 use Rattle.office.specs.Demand3Words.{Posted, ifAccepted, acceptedPosts, askAfter, freshAnswer, freshFrom, ClosesRight}
-use Rattle.office.proofs.Cells.{held-kind, held-number, parts-same, mark-cell, unmarked-code}
+use Rattle.office.proofs.Cells.{held-kind, held-number, parts-same, unmarked-code, encoded-quiet}
 use Rattle.office.proofs.Holdable.{perform-holdable, run-holdable}
 use Rattle.office.proofs.Bridge.{Within, perform-within, run-within, run-performs, decode-within, givenBy}
 use Rattle.office.proofs.Agreeing as opened
@@ -96,8 +96,7 @@ module _ {s x : List ℕ} {S : Sheet} {E : Entries} {T : Table} (keep : Keeps s 
       λ j. record { number = 0; offset = 0; kind = sym (stores .0) j; value = sym (stores .1) j }
 
   closed-unmarked : NoMarkStands S (encodeTable S U)
-  closed-unmarked i low =
-      encoded-mark S U i low ∙ mark-cell (U i) ∙ unmarked-code (markOf (U i)) (close-quiet S (keep .ordered) E T (keep .holds) i low)
+  closed-unmarked = encoded-quiet S U (close-quiet S (keep .ordered) E T (keep .holds))
 
   -- an ask then looks up a stored item, and catches up nothing
   closed-asked : (i : ℕ) → i < size S → callOn s (office U) (ask i) ≡ givenBy S x [] (outcome 0 (some (give S E i)) U)
@@ -223,7 +222,7 @@ module _ (s : List ℕ) (kept : Office) (lent : AcceptedLent s kept) (bytes : By
   close-goes-on cs i = ap (λ p. askAfter s p cs i) after ∙ closed-on keep cs i
 
 -- no step posts
-steps-post : (s : List ℕ) (is : List ℕ) (p : Office) → acceptedPosts s p (map step is) ≡ []
+pub steps-post : (s : List ℕ) (is : List ℕ) (p : Office) → acceptedPosts s p (map step is) ≡ []
 unfolding acceptedPosts
 steps-post s [] p = refl
 steps-post s (i ∷ is) p = go (callOn s p (step i) .number) (steps-post s is (callOn s p (step i) .after))
@@ -311,7 +310,7 @@ module _ (s : List ℕ) (edition : ℕ) (ps : List Placed) (reads : readSheet s 
   catches : (is : List ℕ) × (acceptedPosts s (here T₁) (map step is) ≡ []) × NoMarkStands X (runOn s (here T₁) (map step is) .table)
   catches =
       let steps = steps-quiet X rising T₁ in
-      (steps .0, steps-post s (steps .0) (here T₁), λ i low. unmarked-after (steps .0) i low (steps .1 i low))
+      (steps .0, steps-post s (steps .0) (here T₁), λ i low. unmarked-after (steps .0) i low (steps .2 i low))
     where
       unmarked-after : (is : List ℕ) (i : ℕ) → i < size X → let W : Table = run X T₁ (map step is) in isMarked (W i) ≡ false
           → markIn (row width (runOn s (here T₁) (map step is) .table) i) ≡ 0

@@ -1,9 +1,9 @@
--- The three demands hold. Assumes nothing.
+-- The three demands hold, and catching up always finishes. Assumes nothing.
 use Rattle.circuit.specs.Call.{board}
 use Rattle.circuit.proofs.Equations.{equations}
 use Rattle.circuit.proofs.Retention.{drop-words}
 use Rattle.circuit.proofs.Board.{listed-count, listed-at}
-use Rattle.office.specs.Demands.{Refuses, Means, Agrees, Demands}
+use Rattle.office.specs.Demands.{Refuses, Means, Agrees, Finishes, Demands}
 use Rattle.office.proofs.Refusals.{turned-back, board-refuses, close-refuses, accepted-lent}
 use Rattle.office.proofs.Examples.{each-given}
 use Rattle.office.proofs.Older.{lower-accepted, former-refused}
@@ -14,6 +14,8 @@ use Rattle.office.proofs.Boards.{result-words, board-counts}
 use Rattle.office.proofs.Closes.{close-goes-on, office-closes}
 use Rattle.office.proofs.Accepted.{office-accepted}
 use Rattle.office.proofs.Agreeing.{offices-agree, offices-retain}
+use Rattle.office.proofs.StepsEnd.{office-steps-end}
+use Rattle.office.proofs.Arriving.{office-quiet-right, office-any-order}
 
 -- Demand 1.
 pub refuses : Refuses
@@ -63,5 +65,9 @@ agrees =
       never-refused = λ s o how e cs. office-accepted s o how e cs;
     }
 
+-- 02's job 7.
+pub finishes : Finishes
+finishes = record { steps-end = office-steps-end; quiet-right = office-quiet-right; any-order = office-any-order }
+
 pub demands : Demands
-demands = record { refuses = refuses; means = means; agrees = agrees }
+demands = record { refuses = refuses; means = means; agrees = agrees; finishes = finishes }

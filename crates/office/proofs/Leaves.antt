@@ -36,7 +36,7 @@ use Rattle.office.proofs.Holdable.{perform-holdable}
 use Rattle.office.proofs.Lent.{ordered as lent-ordered, holdable as lent-holdable, encoded}
 use Rattle.office.proofs.Boards.{board-leaves, board-asks}
 use Rattle.office.proofs.Closes.{close-leaves}
-use Rattle.office.proofs.Cells.{held-kind, held-number, unk-kind, unk-number, mark-cell, unmarked-code}
+use Rattle.office.proofs.Cells.{held-kind, held-number, unk-kind, unk-number, mark-cell, unmarked-code, stored-encoded, encoded-quiet}
 use Rattle.office.proofs.Refusals.{turned-back, form-unbroken, call-accepted, own-passed, Postable, postable}
 
 value-same : (w v : Value) → kindOf w ≡ kindOf v → numberOf w ≡ numberOf v → w ≡ v
@@ -98,13 +98,13 @@ module _ (s : List ℕ) (kept : Office) (lent : AcceptedLent s kept) where
   own : (c : Call) → callOn s kept c .number ≡ 0 → NoneHolds (ownCauses (sheetOf s) t c)
   own c z = turned-back (calling c) s kept .accepted .0 z .lent .1 .1 .1
 
-  is : (c : Call) → callOn s kept c .number ≡ 0 → callOn s kept c ≡ effectOn (sheetOf s) kept (effect (sheetOf s) (decodeTable t) c)
+  pub is : (c : Call) → callOn s kept c .number ≡ 0 → callOn s kept c ≡ effectOn (sheetOf s) kept (effect (sheetOf s) (decodeTable t) c)
   is c z = call-accepted s kept c (turned-back (calling c) s kept .accepted .0 z)
 
-  performs : (c : Call) → callOn s kept c .number ≡ 0 → perform (sheetOf s) (decodeTable t) c ≡ effect (sheetOf s) (decodeTable t) c
+  pub performs : (c : Call) → callOn s kept c .number ≡ 0 → perform (sheetOf s) (decodeTable t) c ≡ effect (sheetOf s) (decodeTable t) c
   performs c z = accepted-effect (sheetOf s) (decodeTable t) c (own-passed (sheetOf s) t c (lent .lent .1 .1 .0) (own c z))
 
-  effect-holdable : (c : Call) → callOn s kept c .number ≡ 0 → Holdable (sheetOf s) (effect (sheetOf s) (decodeTable t) c .table)
+  pub effect-holdable : (c : Call) → callOn s kept c .number ≡ 0 → Holdable (sheetOf s) (effect (sheetOf s) (decodeTable t) c .table)
   effect-holdable c z = subst (λ o. Holdable (sheetOf s) (o .table)) (performs c z) (perform-holdable (sheetOf s) ordered (decodeTable t) c holdable)
 
   -- a table in form, with the index as it was
@@ -118,7 +118,7 @@ module _ (s : List ℕ) (kept : Office) (lent : AcceptedLent s kept) where
         );
       }
 
-  stays-accepted : (c : Call) → AcceptedLent s (callOn s kept c .after)
+  pub stays-accepted : (c : Call) → AcceptedLent s (callOn s kept c .after)
   stays-accepted c = go (tells-eq (callOn s kept c .number) 0)
     where
       go : {b : Bool} → Tells (callOn s kept c .number ≡ 0) b → AcceptedLent s (callOn s kept c .after)
@@ -142,25 +142,13 @@ module _ (s : List ℕ) (kept : Office) (lent : AcceptedLent s kept) where
   -- a figure that is stored in the table that a call leaves, and what its record holds
   pub stored-record : (c : Call) → callOn s kept c .number ≡ 0 → (k : ℕ) → k < size (sheetOf s) → ¬ (kindIn (row width (callOn s kept c .after .table) k) ≡ 0)
       → (v : Value) × (m : Mark) × (effect (sheetOf s) (decodeTable t) c .table k ≡ held v m) × Stores (callOn s kept c .after .table) k v
-  stored-record c z k low n = go (U k) refl
-    where
-      U : Table
-      U = effect (sheetOf s) (decodeTable t) c .table
-
-      record-here : (d : Cell) → U k ≡ d → take owedPlace (row width (callOn s kept c .after .table) k) ≡ encodeCell d
-      record-here d e = ap (λ g. take owedPlace (row width (g .after .table) k)) (is c z) ∙ encoded-cell (sheetOf s) U k low ∙ ap encodeCell e
-
-      go : (d : Cell) → U k ≡ d → (v : Value) × (m : Mark) × (U k ≡ held v m) × Stores (callOn s kept c .after .table) k v
-      go (unk b) e = absurd (n (kind-by (row width (callOn s kept c .after .table) k) (record-here (unk b) e) ∙ unk-kind b))
-      go (held v m) e =
-          let formed : wellFormed v ≡ true = subst (λ d. wellFormed (valueIn d) ≡ true) e (holdable-wellFormed (sheetOf s) U (effect-holdable c z) k low) in
-          let r : List ℕ = row width (callOn s kept c .after .table) k in
-          (v, m, e, (kind-by r (record-here (held v m) e) ∙ held-kind v m, number-by r (record-here (held v m) e) ∙ held-number v m formed))
+  stored-record c z k low =
+      subst (λ g. ¬ (kindIn (row width (g .after .table) k) ≡ 0)
+      → (v : Value) × (m : Mark) × (effect (sheetOf s) (decodeTable t) c .table k ≡ held v m) × Stores (g .after .table) k v)
+      (sym (is c z)) (stored-encoded (sheetOf s) (effect (sheetOf s) (decodeTable t) c .table) (effect-holdable c z) k low)
 
   ask-quiets : (i : ℕ) → callOn s kept (ask i) .number ≡ 0 → NoMarkStands (sheetOf s) (callOn s kept (ask i) .after .table)
-  ask-quiets i z k low =
-      ap (λ g. markIn (row width (g .after .table) k)) (is (ask i) z)
-      ∙ encoded-mark (sheetOf s) U k low ∙ mark-cell (U k) ∙ unmarked-code (markOf (U k)) (quiet k low)
+  ask-quiets i z = subst (λ g. NoMarkStands (sheetOf s) (g .after .table)) (sym (is (ask i) z)) (encoded-quiet (sheetOf s) U quiet)
     where
       U : Table
       U = effect (sheetOf s) (decodeTable t) (ask i) .table

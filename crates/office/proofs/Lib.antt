@@ -1,5 +1,6 @@
 pub mod Accepted
 pub mod Agreeing
+pub mod Arriving
 pub mod Boards
 pub mod Bridge
 pub mod Causes
@@ -7,6 +8,7 @@ pub mod Cells
 pub mod Closes
 pub mod Demands
 pub mod Examples
+pub mod Giving
 pub mod Holdable
 pub mod Lent
 pub mod Leaves
@@ -14,4 +16,5 @@ pub mod Meaning
 pub mod Older
 pub mod OwedBytes
 pub mod Refusals
+pub mod StepsEnd
 pub mod Words

@@ -4,30 +4,24 @@ use Prim.Native.Nat.{ℕ, zero, suc, _*_, _<_}
 use native.Mathlib.Omega.{arith}
 use mathlib.Core.Path.{_≡_, refl, sym, ap, _∙_, subst}
 use mathlib.Core.Bool.{Bool, true, false}
-use mathlib.Core.List.{List, [], _∷_, map}
+use mathlib.Core.List.{List, [], _∷_}
 use mathlib.Core.Logic.{inl, inr, _↔_}
 use mathlib.Core.Option.{none}
 use lib.Dec.{eqb}
 use lib.ListN.{length, getD, take, length-map, List·getD-map}
 use Rattle.word.specs.Word.{leBytes}
-use Rattle.circuit.specs.Value.{Value, kindOf, numberOf}
+use Rattle.circuit.specs.Value.{Value}
 use Rattle.circuit.specs.Circuit.{Circuit, Listed, LeadsTo, direct, further, IsSolution}
 use Rattle.circuit.specs.Sheet.{Sheet, Item, entry, figure, Ordered, Entries, itemAt, size, isFigure, parentsOf, parents, circuitOf}
-use Rattle.circuit.specs.Table.{Table, Mark, unk, held, isStored, noticeIf, valueIn, bareCell, openBare, openFull, opened}
+use Rattle.circuit.specs.Table.{unk, held, isStored, bareCell, openBare, openFull, opened}
 use Rattle.circuit.specs.Owed.{owed}
-use Rattle.circuit.specs.Machine.{Looked, lookUp, catchUp, keepFigure, keepCell}
-use Rattle.circuit.specs.Call.{Call, keep, ask, board, Opening, bare, full}
+use Rattle.circuit.specs.Call.{Opening, bare, full}
 use Rattle.circuit.specs.Board.{listed}
-use Rattle.circuit.specs.Calls.{someNoItem, effect}
 use Rattle.circuit.specs.Words.{Bare}
 use Rattle.circuit.proofs.Solution.{solution, solution-solves, solution-unique, sheet-acyclic, below-listed, figure-below}
-use Rattle.circuit.proofs.View.{view, view-at}
-use Rattle.circuit.proofs.Fill.{Fill, Filling, stays, fills, fill-refl, look-right, looks-right, keep-fill, upd-same}
 use Rattle.circuit.proofs.Owed.{Child, owed-child, owed-finds, owed-leads}
-use Rattle.circuit.proofs.Accepted.{board-passed}
 use Rattle.circuit.proofs.Reading.{bare-look}
 use Rattle.circuit.proofs.Sound.{Sound}
-use Rattle.circuit.proofs.Offices.{caught-value, show-values}
 use Rattle.field.specs.Field.{Bytes}
 use Rattle.layout.specs.Layout.{Layout, LayoutItem, entryField, figureField, machineItem, machineSheet}
 use Rattle.layout.specs.Read.{Placed, opens, readSheet, layoutOf}
@@ -44,17 +38,16 @@ use Rattle.layout.proofs.WrittenBytes.{Bytes-append}
 use Rattle.table.specs.Rows.{row}
 use Rattle.table.specs.Record.{width, owedPlace, kindIn, markIn, numberIn, owedIn, owedCode, cellCoded, encodeCell, decodeCell}
 use Rattle.table.specs.Bytes.{encodeTable, decodeTable, Holdable}
-use Rattle.table.proofs.Records.{kind-by, number-by, number-fits, number-again}
+use Rattle.table.proofs.Records.{kind-by}
 use Rattle.table.proofs.Tables.{length-encodeTable, encoded-cell, encoded-owed, holdable-formed}
-use Rattle.office.specs.Office.{Office, keeping, resultsOf, accepted, effectOn, callOn, openOn, runOn}
-use Rattle.office.specs.Demand1Words.{opening, calling, LengthsWrong, NoneHolds, ownCauses, AcceptedLent}
-use Rattle.office.specs.Demand2Words.{answerOf, FollowsLayout, openedRecord, Writes, NoneStored, entriesIn, reading, OnlySolution, Stores, StoredRight, Gives}
-use Rattle.office.proofs.Holdable.{look-formed}
+use Rattle.office.specs.Office.{Office, keeping, accepted, openOn, runOn}
+use Rattle.office.specs.Demand1Words.{opening, LengthsWrong, AcceptedLent}
+use Rattle.office.specs.Demand2Words.{FollowsLayout, openedRecord, Writes, NoneStored, entriesIn, OnlySolution, Gives}
 use Rattle.office.proofs.Agreeing.{Opens, opening-opens}
 use Rattle.office.proofs.Accepted.{office-accepted}
 use Rattle.office.proofs.Lent.{ordered, holdable as lent-holdable}
-use Rattle.office.proofs.Leaves.{stored-record}
-use Rattle.office.proofs.Refusals.{turned-back, opens-sheet, call-accepted, own-passed}
+use Rattle.office.proofs.Giving.{gives-right}
+use Rattle.office.proofs.Refusals.{turned-back, opens-sheet}
 
 -- ---- the openings
 
@@ -276,120 +269,13 @@ module _ (s : List ℕ) (kept : Office) (lent : AcceptedLent s kept) (none-store
         holds = λ i low e. refl;
       }
 
-  -- a call that no cause of its own turns back
-  performed : (c : Call) → NoneHolds (ownCauses (sheetOf s) t c) → callOn s kept c ≡ effectOn (sheetOf s) kept (effect (sheetOf s) (decodeTable t) c)
-  performed c own = call-accepted s kept c (record { sheet = lent .sheet; lent = (lent .lent .0, (lent .lent .1 .0, (lent .lent .1 .1 .0, own))) })
-
-  module _ (values : ℕ → Value) (solves : IsSolution (circuitOf (sheetOf s)) (entriesIn t) values) where
-    caught-gives : (k : ℕ) → k < size (sheetOf s) → lookUp (sheetOf s) (catchUp (sheetOf s) (decodeTable t)) k .value ≡ values k
-    caught-gives = caught-value (sheetOf s) sheet-ordered (entriesIn t) values solves (decodeTable t) sound
-
-    ask-gives : (i : ℕ) → i < size (sheetOf s) → answerOf (callOn s kept (ask i)) ≡ reading (values i)
-    unfolding effect
-    ask-gives i low = ap answerOf (performed (ask i) ((λ h. omega arith), tt)) ∙ ap reading (caught-gives i low)
-
-    keep-gives : (i : ℕ) → i < size (sheetOf s) → isFigure (itemAt (sheetOf s) i) ≡ true
-        → (callOn s kept (keep i) .number ≡ 0) × Stores (callOn s kept (keep i) .after .table) i (values i)
-    unfolding effect keepFigure encodeCell
-    keep-gives i low fig = (
-      ap (λ g. g .number) done,
-      (
-        ap (λ g. kindIn (row width (g .after .table) i)) done ∙ kind-by (row width (encodeTable (sheetOf s) (keepFigure (sheetOf s) (decodeTable t) i)) i) stored ∙ ap kindOf value,
-        ap (λ g. numberIn (row width (g .after .table) i)) done ∙ number-by (row width (encodeTable (sheetOf s) (keepFigure (sheetOf s) (decodeTable t) i)) i) stored
-            ∙ number-again _ _ _ (number-fits v (look-formed (sheetOf s) sheet-ordered (decodeTable t) i low holdable)) ∙ ap numberOf value,
-      ),
-    )
-      where
-        looked : Looked
-        looked = lookUp (sheetOf s) (decodeTable t) i
-
-        v : Value
-        v = looked .value
-
-        done : callOn s kept (keep i) ≡ effectOn (sheetOf s) kept (effect (sheetOf s) (decodeTable t) (keep i))
-        done = performed (keep i) ((λ h. omega arith), ((λ h. let bad : _≡_ {A = ℕ} 0 1 = cc in omega arith), tt))
-
-        value : looked .value ≡ values i
-        value =
-            bare-look (sheetOf s) sheet-ordered (entriesIn t) values solves (decodeTable t) (sound .formed) (sound .holds) unstored i low
-
-        cell : keepFigure (sheetOf s) (decodeTable t) i i ≡ held v (noticeIf (looked .flag))
-        cell =
-            ap (λ c. keepCell (sheetOf s) (decodeTable t) i c i) (unk-cell (row width t i) (none-stored i low fig))
-            ∙ upd-same (looked .table) i (held v (noticeIf (looked .flag)))
-
-        stored : take owedPlace (row width (encodeTable (sheetOf s) (keepFigure (sheetOf s) (decodeTable t) i)) i) ≡ encodeCell (held v (noticeIf (looked .flag)))
-        stored = encoded-cell (sheetOf s) _ i low ∙ ap encodeCell cell
-
-    -- on a table whose look-ups give the solution, a fill holds the solution's values
-    fill-right : (C U : Table) → Fill (sheetOf s) C U → ((k : ℕ) → k < size (sheetOf s) → lookUp (sheetOf s) C k .value ≡ values k)
-        → (k : ℕ) → k < size (sheetOf s) → (v : Value) (m : Mark) → U k ≡ held v m → v ≡ values k
-    fill-right C U fill right k low v m e = go (fill k)
-      where
-        seen : view (sheetOf s) C k .value ≡ values k
-        seen = sym (look-right (sheetOf s) sheet-ordered C k .value) ∙ right k low
-
-        go : Filling (sheetOf s) C k (U k) → v ≡ values k
-        go (stays q) = sym (ap (λ r. r .value) (view-at (sheetOf s) sheet-ordered C k (sym q ∙ e))) ∙ seen
-        go (fills b fig q x) = ap valueIn (sym e ∙ x) ∙ seen
-
-    stores-right : (c : Call) → callOn s kept c .number ≡ 0 → (C : Table) → Fill (sheetOf s) C (effect (sheetOf s) (decodeTable t) c .table)
-        → ((k : ℕ) → k < size (sheetOf s) → lookUp (sheetOf s) C k .value ≡ values k) → StoredRight s (callOn s kept c .after .table) values
-    stores-right c z C fill right k low fig n =
-        let r = stored-record s kept lent c z k low n in
-        subst (Stores (callOn s kept c .after .table) k) (fill-right C _ fill right k low (r .0) (r .1) (r .2)) (r .3)
-
-    ask-stores : (i : ℕ) → i < size (sheetOf s) → StoredRight s (callOn s kept (ask i) .after .table) values
-    unfolding effect
-    ask-stores i low =
-        stores-right (ask i) (ap (λ g. g .number) (performed (ask i) ((λ h. omega arith), tt))) (catchUp (sheetOf s) (decodeTable t))
-        (look-right (sheetOf s) sheet-ordered (catchUp (sheetOf s) (decodeTable t)) i .fill) caught-gives
-
-    keep-stores : (i : ℕ) → i < size (sheetOf s) → isFigure (itemAt (sheetOf s) i) ≡ true → StoredRight s (callOn s kept (keep i) .after .table) values
-    unfolding effect
-    keep-stores i low fig =
-        stores-right (keep i) (keep-gives i low fig .0) (decodeTable t) (keep-fill (sheetOf s) sheet-ordered (decodeTable t) i fig)
-        (λ k l. bare-look (sheetOf s) sheet-ordered (entriesIn t) values solves (decodeTable t) (sound .formed) (sound .holds) unstored k l)
-
-    board-own : (items results : List ℕ) → callOn s kept (board items results) .number ≡ 0 → NoneHolds (ownCauses (sheetOf s) t (board items results))
-    board-own items results z = turned-back (calling (board items results)) s kept .accepted .0 z .lent .1 .1 .1
-
-    board-shows : (items results : List ℕ) → callOn s kept (board items results) .number ≡ 0
-        → callOn s kept (board items results) .results ≡ resultsOf (map values (listed items))
-    unfolding effect
-    board-shows items results z =
-        ap (λ g. g .results) (performed (board items results) (board-own items results z))
-        ∙ ap resultsOf (show-values (sheetOf s) sheet-ordered (entriesIn t) values solves (decodeTable t) sound (listed items) in-sheet)
-      where
-        in-sheet : someNoItem (sheetOf s) (listed items) ≡ false
-        in-sheet =
-            board-passed (sheetOf s) (decodeTable t) items results
-            (own-passed (sheetOf s) t (board items results) (lent .lent .1 .1 .0) (board-own items results z))
-
-    board-stores : (items results : List ℕ) → callOn s kept (board items results) .number ≡ 0
-        → StoredRight s (callOn s kept (board items results) .after .table) values
-    unfolding effect
-    board-stores items results z = go (listed items) refl
-      where
-        go : (is : List ℕ) → listed items ≡ is → StoredRight s (callOn s kept (board items results) .after .table) values
-        go [] e = stores-right (board items results) z (decodeTable t) (rw e (fill-refl (sheetOf s) (decodeTable t)))
-            (λ k l. bare-look (sheetOf s) sheet-ordered (entriesIn t) values solves (decodeTable t) (sound .formed) (sound .holds) unstored k l)
-        go (i ∷ is) e = stores-right (board items results) z (catchUp (sheetOf s) (decodeTable t))
-            (rw e (looks-right (sheetOf s) sheet-ordered (catchUp (sheetOf s) (decodeTable t)) (i ∷ is) .fill)) caught-gives
-
 pub gives-solution : (s : List ℕ) (kept : Office) → AcceptedLent s kept → NoneStored s (kept .table)
     → (values : ℕ → Value) × OnlySolution (sheetOf s) (entriesIn (kept .table)) values × Gives s kept values
 gives-solution s kept lent none-stored = (
   values,
   record { ordered = lower; solves = solves; only = λ other h i b. solution-unique C (sheet-acyclic S lower) E h i (below-listed (size S) i b) },
-  record {
-    asked = ask-gives s kept lent none-stored values solves;
-    asked-stored = ask-stores s kept lent none-stored values solves;
-    kept = keep-gives s kept lent none-stored values solves;
-    kept-stored = keep-stores s kept lent none-stored values solves;
-    shown = board-shows s kept lent none-stored values solves;
-    shown-stored = board-stores s kept lent none-stored values solves;
-  },
+  gives-right s kept lent values solves (sound s kept lent none-stored)
+      (bare-look S lower E values solves (decodeTable (kept .table)) (sound s kept lent none-stored .formed) (sound s kept lent none-stored .holds) (unstored s kept lent none-stored)),
 )
   where
     S : Sheet

@@ -1,5 +1,5 @@
--- The three demands of document 01, with 02's board, season-close run, owed bytes and choice, a record for each, in its order. They are
--- demands on `openOn` and `callOn` (Office), which the contracts of the exported functions cite: a function gives and leaves exactly what
+-- The three demands of document 01, with 02's board, season-close run, owed bytes and choice, a record for each, in its order; and a record of
+-- 02's job 7, that catching up always finishes. They are demands on `openOn` and `callOn` (Office), which the contracts of the exported functions cite: a function gives and leaves exactly what
 -- these say, for all lent bytes. That every call ends and touches only what it was lent is proved of each function by the language.
 -- Assumes nothing.
 use Prim.Native.Nat.{ℕ, _*_, _≤_}
@@ -21,7 +21,8 @@ use Rattle.layout.specs.Causes.{Faultless}
 use Rattle.office.specs.Office.{Office, resultOf, callOn, openOn, runOn}
 use Rattle.office.specs.Demand1Words.{Invocation, serve, resultsLentTo, causesOf, First, ByNumber, Lowest, Refused, NoCause, Gets}
 use Rattle.office.specs.Demand1Words.{formerWidth, AcceptedUnder, AcceptedLent, BoardRefuses, CloseRefuses, SheetWords}
-use Rattle.office.specs.Demand2Words.{FollowsLayout, Writes, NoneStored, OnlySolution, entriesIn, Gives, ListWords, ResultWords, CallsLeave}
+use Rattle.office.specs.Demand2Words.{FollowsLayout, Writes, NoneStored, OnlySolution, entriesIn, Gives, NoMarkStands, ListWords, ResultWords, CallsLeave}
+use Rattle.office.specs.FinishWords.{StepsEnd, QuietRight, AnyOrder}
 use Rattle.office.specs.Demand3Words.{acceptedPosts, askAfter, freshFrom, SameAnswers, Retains, CountsAsAsks, ClosesRight, OfficeAccepted}
 
 -- Demand 1. Each fault is refused by its number and nothing else is, and a refused call changes no lent byte.
@@ -106,7 +107,19 @@ pub record Agrees : Type 0 where
   pub never-refused : (s : List ℕ) (o : Office) (how : Opening) → openOn how s o .number ≡ 0
       → (cs : List Call) → OfficeAccepted s (openOn how s o .after) cs
 
+-- 02's job 7: catching up always finishes.
+pub record Finishes : Type 0 where
+  -- from any accepted table, also one that no engine wrote
+  pub steps-end : (s : List ℕ) (o : Office) → AcceptedLent s o → StepsEnd s o
+  -- after any list of calls since an opening that leaves no mark standing
+  pub quiet-right : (s : List ℕ) (o : Office) (how : Opening) → openOn how s o .number ≡ 0
+      → (cs : List Call) → let p : Office = runOn s (openOn how s o .after) cs in NoMarkStands (sheetOf s) (p .table) → QuietRight s p
+  -- on any table that the engine alone has written since opening
+  pub any-order : (s : List ℕ) (o : Office) (how : Opening) → openOn how s o .number ≡ 0
+      → (cs : List Call) (is : List ℕ) → AnyOrder s (runOn s (openOn how s o .after) cs) is
+
 pub record Demands : Type 0 where
   pub refuses : Refuses
   pub means : Means
   pub agrees : Agrees
+  pub finishes : Finishes

@@ -2,4 +2,5 @@ pub mod Office
 pub mod Demand1Words
 pub mod Demand2Words
 pub mod Demand3Words
+pub mod FinishWords
 pub mod Demands
