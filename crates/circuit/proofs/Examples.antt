@@ -1,10 +1,10 @@
 -- Worked cases, computed by the definitions: a chain of two figures that is caught up in part, and closed; a figure that its own
--- telling stores; a stored NULL; a guarded share; the example day.
+-- telling stores; a stored NULL; a guarded share; steps up a ladder and down it; the example day.
 -- Assumes nothing.
 use Prim.Native.Nat.{ℕ}
 use mathlib.Core.Path.{_≡_, refl}
 use mathlib.Core.Bool.{Bool, true, false}
-use mathlib.Core.List.{List, [], _∷_}
+use mathlib.Core.List.{List, [], _∷_, map}
 use mathlib.Core.Option.{Option, none, some}
 use lib.IntN.{pos, negsuc}
 use Rattle.circuit.specs.Value.{Value, null, out, num, inRange, limit, partsOf}
@@ -17,6 +17,7 @@ use Rattle.circuit.specs.Owed.{anyBelow, owedFor, owed}
 use Rattle.circuit.specs.Call.{Call, post, keep, drop, step, ask, close}
 use Rattle.circuit.specs.Closing.{closedValue, closeItem, closeBelow, closeAll}
 use Rattle.circuit.specs.Calls.{Outcome, perform, run, tests, firstCause, effect, postedValue}
+use Rattle.circuit.specs.Words.{AllAccepted}
 
 -- to unfold these is to unfold all that looking up and the season-close run compute with, and all that the calls do
 unfoldable pub looking : Sheet → Table → ℕ → Looked
@@ -104,6 +105,34 @@ pub guard-holds : (perform guarded guardedTable (ask 4) .reading ≡ some (num (
     × (perform guarded (run guarded guardedTable (post 3 3 (pos 1) ∷ [])) (ask 4) .reading ≡ some out)
 unfolding machine guarded guardedTable run
 guard-holds = (refl, refl, refl, refl)
+
+-- entry 0, and three figures that each sum all the items below them
+unfoldable pub ladder : Sheet
+ladder =
+    entry ∷ figure sum true defer (0 ∷ []) ∷ figure sum true defer (0 ∷ 1 ∷ []) ∷ figure sum true defer (0 ∷ 1 ∷ 2 ∷ []) ∷ []
+
+unfoldable pub ladderTable : Table
+ladderTable = run ladder (openFull ladder) (post 0 3 (pos 1) ∷ [])
+
+-- The order of the steps counts for their number. Each time the highest marked item, 15 steps are accepted, and by a figure more it would be twice
+-- as many and one; each time the lowest, 7 steps. Both arrive at 4.
+pub ladder-down : AllAccepted ladder ladderTable (map step (0 ∷ 3 ∷ 3 ∷ 2 ∷ 2 ∷ 3 ∷ 3 ∷ 1 ∷ 1 ∷ 3 ∷ 3 ∷ 2 ∷ 2 ∷ 3 ∷ 3 ∷ []))
+unfolding machine ladder ladderTable run
+ladder-down = (refl, (refl, (refl, (refl, (refl, (refl, (refl, (refl, (refl, (refl, (refl, (refl, (refl, (refl, (refl, tt)))))))))))))))
+
+pub ladder-up : AllAccepted ladder ladderTable (map step (0 ∷ 1 ∷ 1 ∷ 2 ∷ 2 ∷ 3 ∷ 3 ∷ []))
+unfolding machine ladder ladderTable run
+ladder-up = (refl, (refl, (refl, (refl, (refl, (refl, (refl, tt)))))))
+
+unfoldable pub ladderDown : Table
+ladderDown = run ladder ladderTable (map step (0 ∷ 3 ∷ 3 ∷ 2 ∷ 2 ∷ 3 ∷ 3 ∷ 1 ∷ 1 ∷ 3 ∷ 3 ∷ 2 ∷ 2 ∷ 3 ∷ 3 ∷ []))
+
+unfoldable pub ladderUp : Table
+ladderUp = run ladder ladderTable (map step (0 ∷ 1 ∷ 1 ∷ 2 ∷ 2 ∷ 3 ∷ 3 ∷ []))
+
+pub ladder-same : (ladderDown 3 ≡ held (num (pos 4)) unmarked) × (ladderUp 3 ≡ held (num (pos 4)) unmarked)
+unfolding machine ladder ladderTable ladderDown ladderUp run
+ladder-same = (refl, refl)
 
 -- the example sheet: entries 0, 1, 2; figure 3 = sum of items 0 and 2, kept; figure 4 = item 3 minus item 1
 unfoldable pub daySheet : Sheet
