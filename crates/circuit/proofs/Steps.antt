@@ -134,16 +134,17 @@ step-lowers S ordered T i marked = go (T i) refl
         tell-closed S (λ c. i < c) (UnderTo i T) (underTo-closed S ordered i T) i (λ c l. ordered c i l) T
         (λ j h. under-refl (T j))
 
+    tells : digit (clearCell (tell S T i i)) < digit (T i) → Lowered i T (clearMark (tell S T i) i)
+    tells lower = lowered-store T (tell S T i) i _ told lower
+
     go : (c : Cell) → T i ≡ c → Lowered i T (stepCell S T i c)
-    go (unk true) e = lowered-store T (tell S T i) i _ told (rw e (cleared-unk (tell S T i i)))
+    go (unk true) e = tells (rw e (cleared-unk (tell S T i i)))
     go (unk false) e = let bad : _≡_ {A = ℕ} 0 1 = cc (rw e at marked) in absurd (omega arith)
     go (held v unmarked) e = let bad : _≡_ {A = ℕ} 0 1 = cc (rw e at marked) in absurd (omega arith)
     go (held v refresh) e =
         lowered-store T (workOut S T i .table) i _ (λ j h. under-fill (work-right S ordered T i .fill j))
         (rw e (renewed-digit (same v (workOut S T i .value)) v (workOut S T i .value)))
-    go (held v notice) e =
-        lowered-store T (tell S T i) i _ told
-        (rw e (cleared-held (tell S T i i) (told i (omega arith) .stored (rw e))))
+    go (held v notice) e = tells (rw e (cleared-held (tell S T i i) (told i (omega arith) .stored (rw e))))
 
 -- an accepted step lowers the number
 accepted-less : (S : Sheet) → Ordered S → (T : Table) (i : ℕ) → perform S T (step i) .number ≡ 0
