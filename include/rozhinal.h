@@ -1,5 +1,5 @@
 /*
- * Rozhinal 4.0.0: an engine for quota ledgers.
+ * Rozhinal 4.1.0: an engine for quota ledgers.
  *
  * A sheet is a circuit of items. An entry is posted; a figure is worked out from earlier items, its
  * parents, by one of eight rules. The caller lends three slices of bytes to each call:
@@ -52,9 +52,9 @@ extern "C" {
 #endif
 
 #define ROZHINAL_VERSION_MAJOR 4
-#define ROZHINAL_VERSION_MINOR 0
+#define ROZHINAL_VERSION_MINOR 1
 #define ROZHINAL_VERSION_PATCH 0
-#define ROZHINAL_VERSION "4.0.0"
+#define ROZHINAL_VERSION "4.1.0"
 
 /* ---- Limits ---------------------------------------------------------------------------------- */
 
@@ -276,6 +276,12 @@ rozhinal_answer rozhinal_drop(const uint8_t *sheet, size_t sheet_len,
  * changed, else it becomes notice. Notice: the children are told, and the mark is cleared. A child
  * that is not stored is marked notice if it is owed, and passed over if not. Refuses with 11 and 14
  * besides.
+ *
+ * Marked items may be stepped in any order: on every accepted table, of n items, fewer than 3^n
+ * steps one after another are accepted, and then no mark is left. Lowest first, at most 2n are; other
+ * orders can take many more. Between two steps an ask gives what it gave before them; and when no
+ * mark is left on a table that only the library has written since its opening, what is stored is
+ * right.
  */
 rozhinal_answer rozhinal_step(const uint8_t *sheet, size_t sheet_len,
                               const uint8_t *index, size_t index_len,
