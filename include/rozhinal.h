@@ -277,11 +277,11 @@ rozhinal_answer rozhinal_drop(const uint8_t *sheet, size_t sheet_len,
  * that is not stored is marked notice if it is owed, and passed over if not. Refuses with 11 and 14
  * besides.
  *
- * Marked items may be stepped in any order: on every accepted table, of n items, fewer than 3^n
- * steps one after another are accepted, and then no mark is left. Lowest first, at most 2n are; other
- * orders can take many more. Between two steps an ask gives what it gave before them; and when no
- * mark is left on a table that only the library has written since its opening, what is stored is
- * right.
+ * Marked items may be stepped in any order. On every accepted table of n items a row of accepted
+ * steps is shorter than 3^n, and it can go on until no mark is left. If each step is of the lowest
+ * marked item, it has at most 2n; other orders can take many more. Between two steps an ask gives
+ * what it gave before them, and when no mark is left, what is stored is right: both on a table that
+ * only the library has written since its opening.
  */
 rozhinal_answer rozhinal_step(const uint8_t *sheet, size_t sheet_len,
                               const uint8_t *index, size_t index_len,
