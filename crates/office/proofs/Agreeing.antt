@@ -3,7 +3,7 @@ use Prim.Native.Nat.{ℕ, zero, suc, _<_}
 use native.Mathlib.Omega.{arith}
 use mathlib.Core.Path.{_≡_, refl, sym, ap, _∙_, subst, subst₂}
 use mathlib.Core.Bool.{Bool, true, false, cond, not}
-use mathlib.Core.List.{List, [], _∷_, _++_, append-assoc}
+use mathlib.Core.List.{List, [], _∷_, _++_, append-assoc, append-nil}
 use mathlib.Core.Option.{Option, none, some}
 use lib.Dec.{eqb, ltb}
 use lib.IntN.{ℤ}
@@ -164,13 +164,9 @@ postings-append (p ∷ ps) qs =
     ap (λ r. postingOf (p .item) (postedValue (p .kind) (p .number)) ++ r) (postings-append ps qs)
     ∙ sym (append-assoc (postingOf (p .item) (postedValue (p .kind) (p .number))) (postingsOf ps) (postingsOf qs))
 
-append-none : (ps : List Posting) → ps ++ [] ≡ ps
-append-none [] = refl
-append-none (p ∷ ps) = ap (λ r. p ∷ r) (append-none ps)
-
 post-made : (k : ℕ) (c : Call) → postingsOf (ifAccepted k (postOf c)) ≡ ifMade k (postingBy c)
 unfolding postingsOf
-post-made zero (post i kind z) = append-none (postingOf i (postedValue kind z))
+post-made zero (post i kind z) = append-nil (postingOf i (postedValue kind z))
 post-made zero (keep i) = refl
 post-made zero (drop i) = refl
 post-made zero (step i) = refl

@@ -3,7 +3,7 @@
 use Prim.Native.Nat.{ℕ, _<_}
 use mathlib.Core.Path.{_≡_, refl, sym, ap, _∙_, subst, subst₂}
 use mathlib.Core.Bool.{true}
-use mathlib.Core.List.{List, [], _∷_, _++_, map, append-assoc}
+use mathlib.Core.List.{List, [], _∷_, _++_, map, append-assoc, append-nil}
 use Rattle.circuit.specs.Value.{Value}
 use Rattle.circuit.specs.Circuit.{IsSolution}
 use Rattle.circuit.specs.Sheet.{Sheet, Ordered, Entries, size, itemAt, isFigure, circuitOf}
@@ -29,12 +29,12 @@ use Rattle.table.proofs.Tables.{holdable-formed}
 use Rattle.office.specs.Office.{Office, callOn, openOn, runOn}
 use Rattle.office.specs.Demand1Words.{AcceptedLent}
 use Rattle.office.specs.Demand2Words.{answerOf, reading, readingIn, entriesIn, Stores, HasCells, NoMarkStands}
-use Rattle.office.specs.Demand3Words.{Posted, ifAccepted, postOf, acceptedPosts, boardAfter, SameAnswers}
+use Rattle.office.specs.Demand3Words.{ifAccepted, postOf, acceptedPosts, boardAfter, SameAnswers}
 use Rattle.office.specs.FinishWords.{afterSteps, QuietRight, AnyOrder}
 use Rattle.office.proofs.Accepted.{office-accepted}
 use Rattle.office.proofs.Agreeing as opened
 use Rattle.office.proofs.Agreeing.{Opens, opening-opens, offices-agree}
-use Rattle.office.proofs.Bridge.{Within, decode-within, run-within}
+use Rattle.office.proofs.Bridge.{decode-within, run-within}
 use Rattle.office.proofs.Cells.{stored-encoded, encoded-quiet}
 use Rattle.office.proofs.Closes.{steps-post}
 use Rattle.office.proofs.Giving.{gives-right, ask-performed, keep-performed}
@@ -55,10 +55,6 @@ posts-append s (c ∷ cs) ds o =
     ap (λ ps. ifAccepted (callOn s o c .number) (postOf c) ++ ps) (posts-append s cs ds (callOn s o c .after))
     ∙ sym (append-assoc (ifAccepted (callOn s o c .number) (postOf c)) _ _)
 
-append-none : (ps : List Posted) → ps ++ [] ≡ ps
-append-none [] = refl
-append-none (p ∷ ps) = ap (λ r. p ∷ r) (append-none ps)
-
 -- What an opened sheet's office keeps after a list of calls: the encoding of a table that has the invariant.
 record Written (s : List ℕ) (p : Office) : Type 0 where
   table : Table
@@ -67,53 +63,41 @@ record Written (s : List ℕ) (p : Office) : Type 0 where
   decodes : decodeTable (p .table) ≡ table
   invariant : Invariant (sheetOf s) table
 
+module _ (s : List ℕ) (edition : ℕ) (ps : List Placed) (reads : readSheet s ≡ opens edition ps) where
+  abbrev X : Sheet
+  X = sheetRead edition ps
+
+  written-at : (o : Opening) (cs : List Call) → Written s (runOn s (opened.at s edition ps reads (opened.start s edition ps reads o)) cs)
+  written-at o cs =
+      record {
+        table = U;
+        holds = subst (λ Y. Holdable Y U) is h;
+        encodes = ap (λ p. p .table) ran ∙ ap (λ Y. encodeTable Y U) is;
+        decodes = ap (λ p. decodeTable (p .table)) ran ∙ decode-within X U h (run-within X rising cs _ (opened.start-within s edition ps reads o));
+        invariant = subst (λ Y. Invariant Y U) is (run-sound X rising cs blank _ (opened.start-sound s edition ps reads o) .invariant);
+      }
+    where
+      is : X ≡ sheetOf s
+      is = sym (opened.sheet-is s edition ps reads)
+
+      rising : Ordered X
+      rising = opened.ordered s edition ps reads
+
+      U : Table
+      U = run X (opened.start s edition ps reads o) cs
+
+      h : Holdable X U
+      h = run-holdable X rising cs _ (opened.start-holdable s edition ps reads o)
+
+      ran : runOn s (opened.at s edition ps reads (opened.start s edition ps reads o)) cs ≡ opened.at s edition ps reads U
+      ran = opened.runs s edition ps reads cs _ (opened.start-holdable s edition ps reads o) (opened.start-within s edition ps reads o)
+
 office-written : (s : List ℕ) (kept : Office) (o : Opening) → openOn o s kept .number ≡ 0 → (cs : List Call) → Written s (runOn s (openOn o s kept .after) cs)
 unfolding opened.office
 office-written s kept o e cs =
-    subst (λ g. Written s (runOn s (g .after) cs)) (sym (opened.opening-gives s edition ps reads kept o e))
-    (record {
-      table = T;
-      holds = subst (λ S. Holdable S T) is h;
-      encodes = ap (λ p. p .table) ran ∙ ap (λ S. encodeTable S T) is;
-      decodes = ap (λ p. decodeTable (p .table)) ran ∙ decode-within X T h w;
-      invariant = subst (λ S. Invariant S T) is (run-sound X rising cs blank begin (opened.start-sound s edition ps reads o) .invariant);
-    })
-  where
-    first : Opens s kept o
-    first = opening-opens s kept o e
-
-    edition : ℕ
-    edition = first .edition
-
-    ps : List Placed
-    ps = first .placed
-
-    reads : readSheet s ≡ opens edition ps
-    reads = first .reads
-
-    X : Sheet
-    X = sheetRead edition ps
-
-    is : X ≡ sheetOf s
-    is = sym (opened.sheet-is s edition ps reads)
-
-    rising : Ordered X
-    rising = opened.ordered s edition ps reads
-
-    begin : Table
-    begin = opened.start s edition ps reads o
-
-    T : Table
-    T = run X begin cs
-
-    h : Holdable X T
-    h = run-holdable X rising cs begin (opened.start-holdable s edition ps reads o)
-
-    w : Within X T
-    w = run-within X rising cs begin (opened.start-within s edition ps reads o)
-
-    ran : runOn s (opened.at s edition ps reads begin) cs ≡ opened.at s edition ps reads T
-    ran = opened.runs s edition ps reads cs begin (opened.start-holdable s edition ps reads o) (opened.start-within s edition ps reads o)
+    let first : Opens s kept o = opening-opens s kept o e in
+    subst (λ g. Written s (runOn s (g .after) cs)) (sym (opened.opening-gives s (first .edition) (first .placed) (first .reads) kept o e))
+    (written-at s (first .edition) (first .placed) (first .reads) o cs)
 
 module _ (s : List ℕ) (p : Office) (lent : AcceptedLent s p) (written : Written s p) (none-stands : NoMarkStands (sheetOf s) (p .table)) where
   abbrev S : Sheet
@@ -212,7 +196,7 @@ office-any-order s kept o e cs is =
     same-posts : acceptedPosts s begin (cs ++ map step is) ≡ acceptedPosts s begin cs
     same-posts =
         posts-append s cs (map step is) begin
-        ∙ ap (λ ps. acceptedPosts s begin cs ++ ps) (steps-post s is (runOn s begin cs)) ∙ append-none (acceptedPosts s begin cs)
+        ∙ ap (λ ps. acceptedPosts s begin cs ++ ps) (steps-post s is (runOn s begin cs)) ∙ append-nil (acceptedPosts s begin cs)
 
     both : SameAnswers s begin (cs ++ map step is) begin cs
     both = offices-agree s kept kept o o e e (cs ++ map step is) cs same-posts
