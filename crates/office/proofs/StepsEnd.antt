@@ -21,7 +21,7 @@ use Rattle.circuit.proofs.CatchUp.{lowest-some}
 use Rattle.circuit.proofs.KeepEvery.{steps-quiet}
 use Rattle.circuit.proofs.Steps.{LowestFirst as MachineLowest, steps-end, lowest-first-ends}
 use Rattle.layout.specs.Opened.{sheetOf}
-use Rattle.layout.proofs.Tests.{Tells, holds, fails}
+use Rattle.layout.proofs.Tests.{Tells, holds, fails, tells-eq}
 use Rattle.table.specs.Rows.{row}
 use Rattle.table.specs.Record.{width, markIn}
 use Rattle.table.specs.Bytes.{decodeTable}
@@ -81,6 +81,14 @@ module _ (s : List ℕ) (kept : Office) (lent : AcceptedLent s kept) where
       from (low, marked) =
           turned-back (calling (step i)) s kept .accepted .1
           (record { sheet = lent .sheet; lent = (lent .lent .0, (lent .lent .1 .0, (lent .lent .1 .1 .0, ((λ h. omega arith), (marked, tt))))) })
+
+  -- where no step is accepted, no mark stands
+  none-picked : ((i : ℕ) → ¬ (callOn s kept (step i) .number ≡ 0)) → NoMarkStands (sheetOf s) t
+  none-picked none-accepted k low = go (tells-eq (markIn (row width t k)) 0)
+    where
+      go : {b : Bool} → Tells (markIn (row width t k) ≡ 0) b → markIn (row width t k) ≡ 0
+      go (holds z) = z
+      go (fails n) = absurd (none-accepted k (step-picked k .1 (low, n)))
 
   -- an accepted call is the machine's on the decoded table
   machine-accepts : (c : Call) → callOn s kept c .number ≡ 0 → perform (sheetOf s) (decodeTable t) c .number ≡ 0
@@ -163,6 +171,7 @@ office-steps-end s kept lent =
       closer = closer;
       lowest-first = λ is steps lowest. lowest-first-ends (sheetOf s) (ordered s kept lent) (decodeTable (kept .table)) is (machine-lowest s is kept lent steps lowest);
       picked = λ is steps i. step-picked s (afterSteps s kept is) (run-lent s (map step is) kept lent) i;
+      ended = λ is steps. none-picked s (afterSteps s kept is) (run-lent s (map step is) kept lent);
       arrives = λ is steps. arrives (afterSteps s kept is) (run-lent s (map step is) kept lent);
     }
   where

@@ -45,10 +45,13 @@ pub record StepsEnd (s : List ℕ) (o : Office) : Type 0 where
   pub closer : (is : List ℕ) → AcceptedSteps s o is → length is < 3 ^ size (sheetOf s)
   -- lowest first, two steps an item are enough
   pub lowest-first : (is : List ℕ) → AcceptedSteps s o is → LowestFirst s o is → length is ≤ 2 * size (sheetOf s)
-  -- any marked item can be picked, and no other: so a sequence can go on exactly until no mark stands
+  -- any marked item can be picked, and no other
   pub picked : (is : List ℕ) → AcceptedSteps s o is → (i : ℕ)
       → (callOn s (afterSteps s o is) (step i) .number ≡ 0) ↔ MarkStands (sheetOf s) (afterSteps s o is .table) i
-  -- and from wherever it has come to, there are steps after which none stands
+  -- so where no step is accepted any more, no mark stands
+  pub ended : (is : List ℕ) → AcceptedSteps s o is → ((i : ℕ) → ¬ (callOn s (afterSteps s o is) (step i) .number ≡ 0))
+      → NoMarkStands (sheetOf s) (afterSteps s o is .table)
+  -- and from wherever a sequence has come to, there are steps that lead there
   pub arrives : (is : List ℕ) → AcceptedSteps s o is
       → let p : Office = afterSteps s o is in (js : List ℕ) × AcceptedSteps s p js × NoMarkStands (sheetOf s) (afterSteps s p js .table)
 
