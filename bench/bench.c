@@ -443,6 +443,32 @@ static void count_keeps(const struct state *state, size_t groups)
         fail("the keeps differ from a close");
 }
 
+/* Steps of the lowest marked item until no mark stands, which leave what an ask of an entry leaves. */
+static void count_steps(const struct state *state, size_t groups)
+{
+    char name[LABEL_BYTES];
+    static struct call calls[2 * ROZHINAL_MAX_ITEMS];
+    static uint8_t caught_up[sizeof library.table];
+    size_t how_many = 0;
+    state->make(groups);
+    for (size_t i = 0; i < sheet.count; i++) {
+        while (library.table[ROZHINAL_RECORD_BYTES * i + 1] != ROZHINAL_MARK_NONE) {
+            if (how_many == 2 * sheet.count)
+                fail("more than two steps an item");
+            calls[how_many] = call_of(STEP, i);
+            prepare(calls[how_many++]);
+        }
+    }
+    state->make(groups);
+    prepare(call_of(ASK, 0));
+    memcpy(caught_up, library.table, sizeof caught_up);
+    state->make(groups);
+    name_workload(name, "steps until no mark stands", state);
+    count_all(name, calls, how_many);
+    if (memcmp(library.table, caught_up, sizeof caught_up) != 0)
+        fail("the steps differ from an ask");
+}
+
 static void count_chain(void)
 {
     make_chain(&sheet);
@@ -564,6 +590,8 @@ int main(void)
         count_close(&states[STATES - 1], groups);
     for (size_t k = 0; k < STATES; k++)
         count_keeps(&states[k], MOST_GROUPS);
+    for (size_t groups = MOST_GROUPS; groups > 0; groups /= 2)
+        count_steps(&states[STATES - 1], groups);
     count_chain();
     count_fan();
     count_unstored_fan(800);

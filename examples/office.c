@@ -5,7 +5,8 @@
  *
  * Opens the sheet, bare or with -f full, and keeps index and table in the file BOOK, which a later
  * run goes on from. Commands come from standard input, one a line; `help` lists them. A command is
- * answered once its change is in the file.
+ * answered once its change is in the file. While `work` catches up, each step is in the file before
+ * its count is shown, and Ctrl-C stops it between two steps; the office takes the next command.
  *
  * A book from before version 4.0.0 may hold choices, and what leans on them, that are OUT for the
  * branch that was not taken: its figures are worked out anew, the same ones stay stored, and the book is written in its new
@@ -27,6 +28,7 @@
 
 #include <errno.h>
 #include <inttypes.h>
+#include <signal.h>
 #include <stdlib.h>
 #include <string.h>
 #include <unistd.h>
@@ -105,22 +107,36 @@ static void warn_of(const struct book *book)
            strerror(errno));
 }
 
-/* Sees that the table is in the file. If it cannot be, the table is again the one in the file. */
-static bool save(struct office *office)
+/*
+ * Sees that the table is in the file, and gives what book_save gives. If it cannot be, the table is
+ * again the one in the file.
+ */
+static int put_in_file(struct office *office)
 {
     struct book *book = &office->book;
     if (memcmp(book->table, office->saved, book->table_len) == 0)
-        return true;
+        return 0;
     int state = book_save(book);
-    if (state < 0) {
-        printf("not done: %s: %s\n", book->path, strerror(errno));
+    if (state < 0)
         memcpy(book->table, office->saved, book->table_len);
-        return false;
-    }
+    else
+        memcpy(office->saved, book->table, book->table_len);
+    return state;
+}
+
+/* What there is to say of a save; true if the table is in the file. */
+static bool is_saved(const struct book *book, int state)
+{
+    if (state < 0)
+        printf("not done: %s: %s\n", book->path, strerror(errno));
     if (state > 0)
         warn_of(book);
-    memcpy(office->saved, book->table, book->table_len);
-    return true;
+    return state >= 0;
+}
+
+static bool save(struct office *office)
+{
+    return is_saved(&office->book, put_in_file(office));
 }
 
 /* ---- Words of a command ---- */
@@ -298,7 +314,118 @@ static void list_one(const struct office *office, uint64_t item)
         refuse(ROZHINAL_REFUSED_ITEM);
 }
 
-enum verb { POST, ASK, BOARD, CLOSE, KEEP, DROP, STEP, LIST, HELP, QUIT, VERBS };
+/* ---- Catching up ---- */
+
+/* Set by Ctrl-C while the office works; it then stops between two steps. */
+static volatile sig_atomic_t told_to_stop;
+
+static void tell_to_stop(int signal)
+{
+    (void)signal;
+    told_to_stop = 1;
+}
+
+/* From now on Ctrl-C tells the office to stop, unless it was ignored; gives what it did before. */
+static struct sigaction hear_stop(void)
+{
+    struct sigaction stop = { .sa_handler = tell_to_stop, .sa_flags = SA_RESTART }, before;
+    sigemptyset(&stop.sa_mask);
+    told_to_stop = 0;
+    sigaction(SIGINT, NULL, &before);
+    if (before.sa_handler != SIG_IGN)
+        sigaction(SIGINT, &stop, NULL);
+    return before;
+}
+
+/* The line of counts that `work` shows; it goes on below at the end of the columns. */
+enum { PROGRESS_COLUMNS = 72 };
+static const char progress_word[] = "marked:";
+struct progress {
+    size_t fewest; /* the count shown last */
+    int column;    /* where the line stands, 0 if it is ended */
+};
+
+/* Ends the line before something else is shown. errno stays as it is. */
+static void end_line(struct progress *progress)
+{
+    int cause = errno;
+    if (progress->column > 0)
+        putchar('\n');
+    progress->column = 0;
+    errno = cause;
+}
+
+static void show_count(struct progress *progress, size_t marked)
+{
+    int width = snprintf(NULL, 0, " %zu", marked);
+    if (progress->column > PROGRESS_COLUMNS - width)
+        end_line(progress);
+    if (progress->column == 0)
+        progress->column = printf("%*s", (int)strlen(progress_word), "");
+    progress->column += printf(" %zu", marked);
+    progress->fewest = marked;
+    fflush(stdout);
+}
+
+static bool is_marked(const struct office *office, size_t i)
+{
+    return office->book.table[ROZHINAL_TABLE_BYTES(i) + 1] != ROZHINAL_MARK_NONE;
+}
+
+static size_t count_marked(const struct office *office)
+{
+    size_t marked = 0;
+    for (size_t i = 0; i < office->count; i++)
+        marked += is_marked(office, i);
+    return marked;
+}
+
+/* Steps the first marked item, and sees that this is in the file; false if it is not done. */
+static bool step_first(struct office *office, struct progress *progress)
+{
+    size_t i = 0;
+    while (!is_marked(office, i))
+        i++;
+    rozhinal_answer answer = rozhinal_step(LENT(&office->book), i);
+    if (answer.number != ROZHINAL_ACCEPTED) {
+        end_line(progress);
+        refuse(answer.number);
+        return false;
+    }
+    int state = put_in_file(office);
+    if (state != 0)
+        end_line(progress);
+    return is_saved(&office->book, state);
+}
+
+/*
+ * Steps the first marked item from the top, in the order of `list`, until none is marked. Such a
+ * step marks only the item itself or items below it in the list, and a mark goes from refresh to
+ * notice or none, from notice to none: for n items there are at most 2n steps. Each is in the file
+ * before its count is shown, so that nothing is lost if the office is ended.
+ */
+static void work(struct office *office)
+{
+    struct progress progress = { SIZE_MAX, printf("%s", progress_word) };
+    struct sigaction before = hear_stop();
+    size_t marked = count_marked(office);
+    show_count(&progress, marked);
+    while (marked > 0 && !told_to_stop && step_first(office, &progress)) {
+        marked = count_marked(office);
+        if (marked < progress.fewest)
+            show_count(&progress, marked);
+    }
+    end_line(&progress);
+    if (marked > 0)
+        printf("stopped: %zu %s still marked; asks are right all the same, and work goes on from "
+               "here\n",
+               marked, marked == 1 ? "item is" : "items are");
+    sigaction(SIGINT, &before, NULL);
+}
+
+/* ---- Verbs ---- */
+
+enum verb { POST, ASK, BOARD, CLOSE, KEEP, DROP, STEP, WORK, LIST, HELP, QUIT, VERBS };
 
 static const struct {
     const char *word, *arguments;
@@ -312,6 +439,7 @@ static const struct {
     [KEEP] = { "keep", "ITEM", 2, 2, "store a figure" },
     [DROP] = { "drop", "ITEM", 2, 2, "store a figure no longer" },
     [STEP] = { "step", "ITEM", 2, 2, "do the work of an item's mark" },
+    [WORK] = { "work", "", 1, 1, "step marked items until none is left; Ctrl-C stops it" },
     [LIST] = { "list", "[ITEM]", 1, 2, "show all items, or one" },
     [HELP] = { "help", "", 1, 1, "show this; ITEM is a name, or # and a number" },
     [QUIT] = { "quit", "", 1, 1, "end" },
@@ -371,6 +499,8 @@ static bool command(struct office *office, char **words, size_t count)
         board(office, words + 1, count - 1);
     else if (verb == CLOSE)
         close_season(office);
+    else if (verb == WORK)
+        work(office);
     else if (verb == LIST && count == 1)
         list_all(office);
     else if (verb < HELP)

@@ -1,6 +1,6 @@
 /*
- * Runs the board, the close, the working out anew and the taking over of an older table of
- * docs/USE.md: the page's C is included, with its main under another name.
+ * Runs the board, the close, the catching up, the working out anew and the taking over of an older
+ * table of docs/USE.md: the page's C is included, with its main under another name.
  */
 #define main page
 #include "use.c"
@@ -30,6 +30,75 @@ static int works_out_anew(const uint8_t *index, size_t index_len)
            && record[ROZHINAL_RECORD_BYTES] == ROZHINAL_UNK;
 }
 
+/* How many steps are made before there is something else to do. */
+static int steps_left;
+
+static int busy(void)
+{
+    return steps_left-- == 0;
+}
+
+static int is_marked(const uint8_t *table)
+{
+    int marked = 0;
+    for (size_t item = 0; item < 5; item++)
+        marked |= table[ROZHINAL_TABLE_BYTES(item) + 1] != ROZHINAL_MARK_NONE;
+    return marked;
+}
+
+/* Asks on copies of the two tables give the same, and leave no mark on the second if it had none. */
+static int same_asks(const uint8_t *index, size_t index_len, const uint8_t *one,
+                     const uint8_t *other)
+{
+    uint8_t tables[2][ROZHINAL_TABLE_BYTES(5)];
+    memcpy(tables[0], one, sizeof tables[0]);
+    memcpy(tables[1], other, sizeof tables[1]);
+    for (uint64_t item = 0; item < 5; item++) {
+        rozhinal_reading readings[2];
+        for (size_t k = 0; k < 2; k++)
+            readings[k] = rozhinal_ask(sheet, sizeof sheet, index, index_len, tables[k],
+                                       sizeof tables[k], item);
+        if (readings[0].number != ROZHINAL_ACCEPTED
+            || memcmp(&readings[0], &readings[1], sizeof readings[0]) != 0)
+            return 0;
+        if (is_marked(tables[1]) && !is_marked(other))
+            return 0;
+    }
+    return 1;
+}
+
+/*
+ * After two posts to a closed table there are six steps: A and S, then T and B twice each. It is
+ * stopped after each of them, and goes on; asks between and afterwards are those without a step.
+ */
+static int catches_up(const uint8_t *index, size_t index_len, const uint8_t *closed)
+{
+    uint8_t posted[ROZHINAL_TABLE_BYTES(5)], table[sizeof posted], whole[sizeof posted];
+    size_t table_len = sizeof posted;
+    memcpy(table, closed, sizeof table);
+    if (rozhinal_post(LENT, 0, ROZHINAL_NUMBER, 2000).number != ROZHINAL_ACCEPTED
+        || rozhinal_post(LENT, 2, ROZHINAL_NUMBER, -200).number != ROZHINAL_ACCEPTED)
+        return 0;
+    memcpy(posted, table, sizeof posted);
+    for (int steps = 6; steps >= 0; steps--) {
+        memcpy(table, posted, sizeof table);
+        steps_left = steps;
+        if (catch_up(index, index_len, table, table_len, busy) != ROZHINAL_ACCEPTED
+            || is_marked(table) != (steps < 6) || !same_asks(index, index_len, posted, table))
+            return 0;
+        steps_left = 6 - steps;
+        if (catch_up(index, index_len, table, table_len, busy) != ROZHINAL_ACCEPTED)
+            return 0;
+        if (steps == 6)
+            memcpy(whole, table, sizeof whole);
+        if (memcmp(table, whole, sizeof whole) != 0 || is_marked(table))
+            return 0;
+    }
+    steps_left = 1;
+    return catch_up(index, index_len, posted, table_len - 1, busy) == ROZHINAL_REFUSED_SIZES
+           && number_at(table + ROZHINAL_TABLE_BYTES(4) + 2) == 1500;
+}
+
 int main(void)
 {
     uint8_t index[ROZHINAL_INDEX_BYTES(5)], table[ROZHINAL_TABLE_BYTES(5)];
@@ -41,7 +110,7 @@ int main(void)
     if (show_board(index, index_len, table, table_len) != ROZHINAL_ACCEPTED
         || close_season(index, index_len, table, table_len) != ROZHINAL_ACCEPTED)
         return 1;
-    if (!works_out_anew(index, index_len))
+    if (!catches_up(index, index_len, table) || !works_out_anew(index, index_len))
         return 1;
     const uint8_t *bytes = former[0];
     if (take_over(index, index_len, table, table_len, bytes, 49) != ROZHINAL_REFUSED_SIZES)
