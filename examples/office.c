@@ -341,8 +341,8 @@ static struct sigaction hear_stop(void)
 enum { PROGRESS_COLUMNS = 72 };
 static const char progress_word[] = "marked:";
 struct progress {
-    size_t fewest; /* the count shown last */
-    int column;    /* where the line stands, 0 if it is ended */
+    size_t shown; /* the count shown last */
+    int column;   /* where the line stands, 0 if it is ended */
 };
 
 /* Ends the line before something else is shown. errno stays as it is. */
@@ -363,7 +363,7 @@ static void show_count(struct progress *progress, size_t marked)
     if (progress->column == 0)
         progress->column = printf("%*s", (int)strlen(progress_word), "");
     progress->column += printf(" %zu", marked);
-    progress->fewest = marked;
+    progress->shown = marked;
     fflush(stdout);
 }
 
@@ -412,7 +412,7 @@ static void work(struct office *office)
     show_count(&progress, marked);
     while (marked > 0 && !told_to_stop && step_first(office, &progress)) {
         marked = count_marked(office);
-        if (marked < progress.fewest)
+        if (marked != progress.shown)
             show_count(&progress, marked);
     }
     end_line(&progress);
