@@ -70,6 +70,16 @@ lowest-some T k quiet marked (suc n) l = go (eqb k n) refl (λ h. lowest-some T 
         let other : k ≢ n = eqb-false k n e in
         rw (rest (omega arith))
 
+-- and none up to k, if k is not marked either
+pub next-quiet : (T : Table) (k : ℕ) → QuietBelow T k → isMarked (T k) ≡ false → QuietBelow T (suc k)
+next-quiet T k quiet here j l = go (eqb j k) refl
+  where
+    go : (b : Bool) → eqb j k ≡ b → isMarked (T j) ≡ false
+    go true e = rw (eqb-true j k e) here
+    go false e =
+        let other : j ≢ k = eqb-false j k e in
+        quiet j (omega arith)
+
 -- where none is found, none is marked; below the item that is found, none is
 pub none-quiet : (T : Table) (k : ℕ) → lowestMarked T k ≡ none → QuietBelow T k
 unfolding lowestMarked
@@ -80,13 +90,7 @@ none-quiet T (suc k) e = go (lowestMarked T k) (isMarked (T k)) refl refl e (λ 
         → (lowestMarked T k ≡ none → QuietBelow T k) → QuietBelow T (suc k)
     go (some i) b h m q rest = never (cc)
     go none true h m q rest = never (cc)
-    go none false h m q rest = λ j l. which j l (eqb j k) refl
-      where
-        which : (j : ℕ) → j < suc k → (b : Bool) → eqb j k ≡ b → isMarked (T j) ≡ false
-        which j l true e = rw (eqb-true j k e) m
-        which j l false e =
-            let other : j ≢ k = eqb-false j k e in
-            rest h j (omega arith)
+    go none false h m q rest = next-quiet T k (rest h) m
 
 pub some-quiet : (T : Table) (k i : ℕ) → lowestMarked T k ≡ some i → QuietBelow T i
 unfolding lowestMarked
@@ -251,16 +255,7 @@ module _ (S : Sheet) (ordered : Ordered S) where
       U = ascendBelow S T k
 
       go : QuietBelow U k → QuietBelow (stepMarked S (stepMarked S U k) k) (suc k)
-      go quiet j h = which (eqb j k) refl
-        where
-          below : QuietBelow (stepMarked S (stepMarked S U k) k) k
-          below = stepMarked-below (stepMarked S U k) k l (stepMarked-below U k l quiet)
-
-          which : (b : Bool) → eqb j k ≡ b → isMarked (stepMarked S (stepMarked S U k) k j) ≡ false
-          which true e = rw (eqb-true j k e) (advance U k 0 l quiet .clear)
-          which false e =
-              let other : j ≢ k = eqb-false j k e in
-              below j (omega arith)
+      go quiet = next-quiet (stepMarked S (stepMarked S U k) k) k (stepMarked-below (stepMarked S U k) k l (stepMarked-below U k l quiet)) (advance U k 0 l quiet .clear)
 
   -- catching up on a quiet table does nothing
   catch-quiet : (fuel : ℕ) (T : Table) → Quiet S T → catchUpIn fuel S T ≡ T

@@ -1,5 +1,5 @@
 -- Worked cases, computed by the definitions: a chain of two figures that is caught up in part, and closed; a figure that its own
--- telling stores; a stored NULL; a guarded share; steps up a ladder and down it; the example day.
+-- telling stores; a stored NULL; a guarded share; steps on a ladder and on a pair; the example day.
 -- Assumes nothing.
 use Prim.Native.Nat.{ℕ}
 use mathlib.Core.Path.{_≡_, refl}
@@ -18,6 +18,7 @@ use Rattle.circuit.specs.Call.{Call, post, keep, drop, step, ask, close}
 use Rattle.circuit.specs.Closing.{closedValue, closeItem, closeBelow, closeAll}
 use Rattle.circuit.specs.Calls.{Outcome, perform, run, tests, firstCause, effect, postedValue}
 use Rattle.circuit.specs.Words.{AllAccepted}
+use Rattle.circuit.proofs.Steps.{EachLowest}
 
 -- to unfold these is to unfold all that looking up and the season-close run compute with, and all that the calls do
 unfoldable pub looking : Sheet → Table → ℕ → Looked
@@ -114,25 +115,47 @@ ladder =
 unfoldable pub ladderTable : Table
 ladderTable = run ladder (openFull ladder) (post 0 3 (pos 1) ∷ [])
 
--- The order of the steps counts for their number. Each time the highest marked item, 15 steps are accepted, and by a figure more it would be twice
--- as many and one; each time the lowest, 7 steps. Both arrive at 4.
-pub ladder-down : AllAccepted ladder ladderTable (map step (0 ∷ 3 ∷ 3 ∷ 2 ∷ 2 ∷ 3 ∷ 3 ∷ 1 ∷ 1 ∷ 3 ∷ 3 ∷ 2 ∷ 2 ∷ 3 ∷ 3 ∷ []))
-unfolding machine ladder ladderTable run
+-- The order of the steps counts for their number: in one order 15 are accepted, and with the lowest marked item each time 7. Both end with no mark
+-- left, and with 4 in figure 3.
+unfoldable pub downSteps : List ℕ
+downSteps = 0 ∷ 3 ∷ 3 ∷ 2 ∷ 2 ∷ 3 ∷ 3 ∷ 1 ∷ 1 ∷ 3 ∷ 3 ∷ 2 ∷ 2 ∷ 3 ∷ 3 ∷ []
+
+unfoldable pub upSteps : List ℕ
+upSteps = 0 ∷ 1 ∷ 1 ∷ 2 ∷ 2 ∷ 3 ∷ 3 ∷ []
+
+pub ladder-down : AllAccepted ladder ladderTable (map step downSteps)
+unfolding machine ladder ladderTable downSteps run
 ladder-down = (refl, (refl, (refl, (refl, (refl, (refl, (refl, (refl, (refl, (refl, (refl, (refl, (refl, (refl, (refl, tt)))))))))))))))
 
-pub ladder-up : AllAccepted ladder ladderTable (map step (0 ∷ 1 ∷ 1 ∷ 2 ∷ 2 ∷ 3 ∷ 3 ∷ []))
-unfolding machine ladder ladderTable run
+pub ladder-up : EachLowest ladder ladderTable upSteps
+unfolding machine ladder ladderTable upSteps run
 ladder-up = (refl, (refl, (refl, (refl, (refl, (refl, (refl, tt)))))))
 
 unfoldable pub ladderDown : Table
-ladderDown = run ladder ladderTable (map step (0 ∷ 3 ∷ 3 ∷ 2 ∷ 2 ∷ 3 ∷ 3 ∷ 1 ∷ 1 ∷ 3 ∷ 3 ∷ 2 ∷ 2 ∷ 3 ∷ 3 ∷ []))
+ladderDown = run ladder ladderTable (map step downSteps)
 
 unfoldable pub ladderUp : Table
-ladderUp = run ladder ladderTable (map step (0 ∷ 1 ∷ 1 ∷ 2 ∷ 2 ∷ 3 ∷ 3 ∷ []))
+ladderUp = run ladder ladderTable (map step upSteps)
+
+pub ladder-ends : (lowestMarked ladderDown 4 ≡ none) × (lowestMarked ladderUp 4 ≡ none)
+unfolding machine ladder ladderTable downSteps upSteps ladderDown ladderUp run
+ladder-ends = (refl, refl)
 
 pub ladder-same : (ladderDown 3 ≡ held (num (pos 4)) unmarked) × (ladderUp 3 ≡ held (num (pos 4)) unmarked)
-unfolding machine ladder ladderTable ladderDown ladderUp run
+unfolding machine ladder ladderTable downSteps upSteps ladderDown ladderUp run
 ladder-same = (refl, refl)
+
+-- an entry and a figure that sums it, stored and marked refresh, when the entry is posted to again
+unfoldable pub pair : Sheet
+pair = entry ∷ figure sum true defer (0 ∷ []) ∷ []
+
+unfoldable pub pairTable : Table
+pairTable = run pair (openFull pair) (post 0 3 (pos 1) ∷ step 0 ∷ post 0 3 (pos 2) ∷ [])
+
+-- Four steps on two items, so a sequence need not be shorter than 2^n.
+pub pair-steps : AllAccepted pair pairTable (map step (1 ∷ 1 ∷ 0 ∷ 1 ∷ []))
+unfolding machine pair pairTable run
+pair-steps = (refl, (refl, (refl, (refl, tt))))
 
 -- the example sheet: entries 0, 1, 2; figure 3 = sum of items 0 and 2, kept; figure 4 = item 3 minus item 1
 unfoldable pub daySheet : Sheet

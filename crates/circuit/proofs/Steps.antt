@@ -1,5 +1,6 @@
 -- Steps end: on a sheet of n items any sequence of accepted steps is shorter than 3^n. Each item has a digit, the lowest
--- item the most significant; a step of i lowers the digit of i and raises none below it. Assumes that the sheet is ordered, where it says so.
+-- item the most significant; a step of i lowers the digit of i and raises none below it. With the lowest marked item each time there are at most
+-- 2n (`lowest-first-ends`). Assumes that the sheet is ordered, where it says so.
 use Prim.Native.Nat.{ℕ, zero, suc, _+_, _*_, _^_, _<_, _≤_}
 use mathlib.Core.Path.{_≡_, refl, sym, ap, _∙_}
 use mathlib.Core.Bool.{Bool, true, false, cond}
@@ -9,9 +10,7 @@ use mathlib.Core.Option.{some}
 use native.Mathlib.Omega.{arith}
 use native.Mathlib.Nat.{pow-zero, pow-succ'}
 use native.Mathlib.Decide.{decLt}
-use lib.Dec.{eqb}
 use lib.ListN.{length}
-use borrow.Author.Tests.{eqb-true, eqb-false}
 use Rattle.circuit.specs.Value.{Value, same}
 use Rattle.circuit.specs.Sheet.{Sheet, size, Ordered}
 use Rattle.circuit.specs.Table.{Table, Cell, unmarked, refresh, notice, unk, held, upd, isStored, isMarked, noticeIf}
@@ -22,7 +21,7 @@ use Rattle.circuit.specs.Words.{AllAccepted, Quiet}
 use Rattle.circuit.proofs.View.{never, view}
 use Rattle.circuit.proofs.Fill.{Filling, stays, fills, upd-same, upd-cases, work-right}
 use Rattle.circuit.proofs.Closure.{Closed, tell-closed}
-use Rattle.circuit.proofs.CatchUp.{QuietBelow, lowest-none, lowest-some, step-below, step-own, step-clears}
+use Rattle.circuit.proofs.CatchUp.{QuietBelow, next-quiet, lowest-none, lowest-some, step-below, step-own, step-clears}
 use Rattle.circuit.proofs.Accepted.{number-cause, accepted-effect, step-passed}
 
 abbrev pub digit : Cell → ℕ
@@ -168,27 +167,19 @@ steps-end S ordered T is accepted =
     omega (arith, steps-weight S ordered is T accepted, weight-bound T (size S))
 
 -- Lowest first, two steps an item are enough: each step of the sequence is of the lowest marked item.
-abbrev pub LowestFirst : Sheet → Table → List ℕ → Type 0
-LowestFirst S T [] = Unit {0}
-LowestFirst S T (i ∷ is) = (lowestMarked T (size S) ≡ some i) × LowestFirst S (stepItem S T i) is
+abbrev pub EachLowest : Sheet → Table → List ℕ → Type 0
+EachLowest S T [] = Unit {0}
+EachLowest S T (i ∷ is) = (lowestMarked T (size S) ≡ some i) × EachLowest S (stepItem S T i) is
 
 module _ (S : Sheet) (ordered : Ordered S) where
-  -- no mark stands below the next item either
-  next-quiet : (T : Table) (k : ℕ) → QuietBelow T k → isMarked (T k) ≡ false → QuietBelow T (suc k)
-  next-quiet T k quiet here j l = go (eqb j k) refl
-    where
-      go : (b : Bool) → eqb j k ≡ b → isMarked (T j) ≡ false
-      go true e = rw (eqb-true j k e) here
-      go false e = let other : j ≢ k = eqb-false j k e in quiet j (omega arith)
-
   -- item k has two steps at most, and the items above it as many as `rest` says
-  two-at : (k m : ℕ) → k < size S → ((U : Table) → QuietBelow U (suc k) → (js : List ℕ) → LowestFirst S U js → length js ≤ m)
-      → (T : Table) → QuietBelow T k → (is : List ℕ) → LowestFirst S T is → length is ≤ 2 + m
+  two-at : (k m : ℕ) → k < size S → ((U : Table) → QuietBelow U (suc k) → (js : List ℕ) → EachLowest S U js → length js ≤ m)
+      → (T : Table) → QuietBelow T k → (is : List ℕ) → EachLowest S T is → length is ≤ 2 + m
   two-at k m low rest T quiet [] steps = omega arith
   two-at k m low rest T quiet (i ∷ is) steps = go (isMarked (T k)) refl
     where
       -- the second step of k, if there is one
-      again : (U : Table) → QuietBelow U k → (v : Value) → U k ≡ held v notice → (js : List ℕ) → LowestFirst S U js → length js ≤ 1 + m
+      again : (U : Table) → QuietBelow U k → (v : Value) → U k ≡ held v notice → (js : List ℕ) → EachLowest S U js → length js ≤ 1 + m
       again U q v h [] l = omega arith
       again U q v h (j ∷ js) l =
           let same : k ≡ j = cc (sym (lowest-some U k q (rw h) (size S) low) ∙ l .0) in
@@ -206,7 +197,7 @@ module _ (S : Sheet) (ordered : Ordered S) where
           below : QuietBelow (stepItem S T k) k
           below = step-below S ordered T k low quiet
 
-          later : LowestFirst S (stepItem S T k) is
+          later : EachLowest S (stepItem S T k) is
           later = rw (← same) at (steps .1)
 
           second : (isMarked (stepItem S T k k) ≡ false) ⊎ ((v : Value) × (stepItem S T k k ≡ held v notice)) → length (i ∷ is) ≤ 2 + m
@@ -214,15 +205,15 @@ module _ (S : Sheet) (ordered : Ordered S) where
           second (inr (v, h)) = omega (arith, again (stepItem S T k) below v h is later)
 
   -- where no item is marked there is no step
-  none-left : (T : Table) → Quiet S T → (is : List ℕ) → LowestFirst S T is → length is ≤ 0
+  none-left : (T : Table) → Quiet S T → (is : List ℕ) → EachLowest S T is → length is ≤ 0
   none-left T quiet [] steps = omega arith
   none-left T quiet (i ∷ is) steps = never (cc (sym (lowest-none T (size S) quiet) ∙ steps .0))
 
   -- the d items from k on have two steps each, at most
-  two-each : (d k : ℕ) → k + d ≡ size S → (T : Table) → QuietBelow T k → (is : List ℕ) → LowestFirst S T is → length is ≤ 2 * d
+  two-each : (d k : ℕ) → k + d ≡ size S → (T : Table) → QuietBelow T k → (is : List ℕ) → EachLowest S T is → length is ≤ 2 * d
   two-each zero k e T quiet is steps = none-left T (λ j l. quiet j (omega arith)) is steps
   two-each (suc d) k e T quiet is steps =
       omega (arith, two-at k (2 * d) (omega arith) (λ U q js l. two-each d (suc k) (omega arith) U q js l) T quiet is steps)
 
-  pub lowest-first-ends : (T : Table) (is : List ℕ) → LowestFirst S T is → length is ≤ 2 * size S
+  pub lowest-first-ends : (T : Table) (is : List ℕ) → EachLowest S T is → length is ≤ 2 * size S
   lowest-first-ends T is steps = two-each (size S) 0 (omega arith) T (λ j l. absurd (omega arith)) is steps

@@ -183,6 +183,7 @@ office-any-order s kept o e cs is =
       asks = asks;
       boards = λ items results. ap (λ k. boardAfter s k [] items results) (sym ran) ∙ both .boards items results .same;
       closes = ap (λ k. callOn s k close .after) (sym ran) ∙ both .closes;
+      right = right;
       looked-up = λ quiet i low. let r = right quiet in ap reading (r .looked-up i low) ∙ sym (r .gives .asked i low) ∙ asks i;
       stored = λ quiet i low n. let r = right quiet in held-reading (r .values i) i (r .stored i low n) ∙ sym (r .gives .asked i low) ∙ asks i;
     }

@@ -12,7 +12,7 @@ use Rattle.circuit.specs.Value.{Value, wellFormed}
 use Rattle.circuit.specs.Rules.{Operation, apply}
 use Rattle.circuit.specs.Sheet.{Sheet, Spread, figure, Ordered, Entries, size, itemAt, isFigure, parentsOf}
 use Rattle.circuit.specs.Circuit.{Listed}
-use Rattle.circuit.specs.Table.{Table, unmarked, held, isStored, isMarked, valueIn, markOf}
+use Rattle.circuit.specs.Table.{Table, unmarked, held, isStored, valueIn}
 use Rattle.circuit.specs.Machine.{looked, lookCell, lookUp, catchUp}
 use Rattle.circuit.specs.Call.{Call, step, ask, close, Opening}
 use Rattle.circuit.specs.Calls.{outcome, tests, firstCause, readingOf, effect, perform, run, postings}
@@ -42,7 +42,7 @@ use Rattle.office.specs.Office.{Office, keeping, resultsLent, callOn, op
 use Rattle.office.specs.Demand1Words.{AcceptedLent}
 use Rattle.office.specs.Demand2Words.{answerOf, reading, valueOf, entriesIn, Stores, NoMarkStands, readingIn, CloseLeaves}
 use Rattle.office.specs.Demand3Words.{Posted, ifAccepted, acceptedPosts, askAfter, freshAnswer, freshFrom, ClosesRight}
-use Rattle.office.proofs.Cells.{held-kind, held-number, parts-same, unmarked-code, encoded-quiet}
+use Rattle.office.proofs.Cells.{held-kind, held-number, parts-same, encoded-quiet}
 use Rattle.office.proofs.Holdable.{perform-holdable, run-holdable}
 use Rattle.office.proofs.Bridge.{Within, perform-within, run-within, run-performs, decode-within, givenBy}
 use Rattle.office.proofs.Agreeing as opened
@@ -310,13 +310,8 @@ module _ (s : List ℕ) (edition : ℕ) (ps : List Placed) (reads : readSheet s 
   catches : (is : List ℕ) × (acceptedPosts s (here T₁) (map step is) ≡ []) × NoMarkStands X (runOn s (here T₁) (map step is) .table)
   catches =
       let steps = steps-quiet X rising T₁ in
-      (steps .0, steps-post s (steps .0) (here T₁), λ i low. unmarked-after (steps .0) i low (steps .2 i low))
-    where
-      unmarked-after : (is : List ℕ) (i : ℕ) → i < size X → let W : Table = run X T₁ (map step is) in isMarked (W i) ≡ false
-          → markIn (row width (runOn s (here T₁) (map step is) .table) i) ≡ 0
-      unmarked-after is i low quiet =
-          ap (λ p. markIn (row width (p .table) i)) (opened.runs s edition ps reads (map step is) T₁ h₁ w₁)
-          ∙ opened.mark-is s edition ps reads (run X T₁ (map step is)) i low ∙ unmarked-code (markOf (run X T₁ (map step is) i)) quiet
+      let ran = opened.runs s edition ps reads (map step (steps .0)) T₁ h₁ w₁ in
+      (steps .0, steps-post s (steps .0) (here T₁), subst (λ p. NoMarkStands X (p .table)) (sym ran) (encoded-quiet X (run X T₁ (map step (steps .0))) (steps .2)))
 
   closes-at : ClosesRight X s (here T₁)
   closes-at =

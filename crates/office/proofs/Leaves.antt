@@ -27,7 +27,7 @@ use Rattle.table.specs.Record.{width, owedPlace, kindIn, markIn, numberIn, mark
 use Rattle.table.specs.Bytes.{encodeTable, decodeTable, Holdable}
 use Rattle.table.proofs.Records.{length-encodeCell, kind-by, mark-by, number-by}
 use Rattle.table.proofs.Rows.{row-setRow-other}
-use Rattle.table.proofs.Tables.{length-encodeTable, bytes-encodeTable, encoded-cell, encoded-mark, encodeTable-ext, encode-upd, encoded-tableForm, encoded-owedTrue, holdable-wellFormed}
+use Rattle.table.proofs.Tables.{length-encodeTable, bytes-encodeTable, encoded-cell, encodeTable-ext, encode-upd, encoded-tableForm, encoded-owedTrue, holdable-wellFormed}
 use Rattle.office.specs.Office.{Office, keeping, effectOn, callOn}
 use Rattle.office.specs.Demand1Words.{calling, NoneHolds, ownCauses, AcceptedLent}
 use Rattle.office.specs.Demand2Words.{valueOf, Stores, PostLeaves, KeepLeaves, DropLeaves, StepLeaves, AskLeaves, BoardLeaves, OwedRight, NoMarkStands, CallsLeave}
@@ -36,7 +36,7 @@ use Rattle.office.proofs.Holdable.{perform-holdable}
 use Rattle.office.proofs.Lent.{ordered as lent-ordered, holdable as lent-holdable, encoded}
 use Rattle.office.proofs.Boards.{board-leaves, board-asks}
 use Rattle.office.proofs.Closes.{close-leaves}
-use Rattle.office.proofs.Cells.{held-kind, held-number, unk-kind, unk-number, mark-cell, unmarked-code, stored-encoded, encoded-quiet}
+use Rattle.office.proofs.Cells.{held-kind, held-number, unk-kind, unk-number, mark-cell, stored-encoded, encoded-quiet}
 use Rattle.office.proofs.Refusals.{turned-back, form-unbroken, call-accepted, own-passed, Postable, postable}
 
 value-same : (w v : Value) → kindOf w ≡ kindOf v → numberOf w ≡ numberOf v → w ≡ v
@@ -416,9 +416,8 @@ module _ (s : List ℕ) (kept : Office) (lent : AcceptedLent s kept) where
 
     board-quiets : (items results : List ℕ) → callOn s kept (board items results) .number ≡ 0 → ¬ (items ≡ [])
         → NoMarkStands (sheetOf s) (callOn s kept (board items results) .after .table)
-    board-quiets items results z n k low =
-        ap (λ u. markIn (row width u k)) (left .shows n .1)
-        ∙ encoded-mark S U k low ∙ mark-cell (U k) ∙ unmarked-code (markOf (U k)) (fill-quiet S ordered C U (size S) fill quiet k low)
+    board-quiets items results z n =
+        subst (NoMarkStands S) (sym (left .shows n .1)) (encoded-quiet S U (fill-quiet S ordered C U (size S) fill quiet))
       where
         S : Sheet
         S = sheetOf s

@@ -1,6 +1,6 @@
 -- Steps end, for the calls on lent bytes (`office-steps-end`), on any accepted table: an accepted sequence of steps is one of the machine. Assumes
 -- nothing.
-use Prim.Native.Nat.{ℕ, zero, suc, _*_, _^_, _<_, _≤_}
+use Prim.Native.Nat.{ℕ, zero, suc, _^_, _<_, _≤_}
 use native.Mathlib.Omega.{arith}
 use native.Mathlib.Nat.{pow-zero, pow-succ'}
 use native.Mathlib.Decide.{decLt}
@@ -19,7 +19,7 @@ use Rattle.circuit.proofs.View.{never}
 use Rattle.circuit.proofs.Accepted.{number-cause, effect-number, step-passed}
 use Rattle.circuit.proofs.CatchUp.{lowest-some}
 use Rattle.circuit.proofs.KeepEvery.{steps-quiet}
-use Rattle.circuit.proofs.Steps.{LowestFirst as MachineLowest, steps-end, lowest-first-ends}
+use Rattle.circuit.proofs.Steps.{EachLowest, steps-end, lowest-first-ends}
 use Rattle.layout.specs.Opened.{sheetOf}
 use Rattle.layout.proofs.Tests.{Tells, holds, fails, tells-eq}
 use Rattle.table.specs.Rows.{row}
@@ -150,12 +150,12 @@ module _ (s : List ℕ) where
 
   -- lowest first on bytes is lowest first on cells
   machine-lowest : (is : List ℕ) (kept : Office) → AcceptedLent s kept → AcceptedSteps s kept is → LowestFirst s kept is
-      → MachineLowest (sheetOf s) (decodeTable (kept .table)) is
+      → EachLowest (sheetOf s) (decodeTable (kept .table)) is
   machine-lowest [] kept lent steps lowest = tt
   machine-lowest (i ∷ is) kept lent steps lowest =
       let passed = step-passed (sheetOf s) (decodeTable (kept .table)) i (number-cause (sheetOf s) _ (step i) (machine-accepts s kept lent (step i) (steps .0))) in (
         lowest-some (decodeTable (kept .table)) i (λ j l. unmarked-cell s kept lent j (omega (arith, passed .0)) (lowest .0 j l)) (passed .1) (size (sheetOf s)) (passed .0),
-        subst (λ T. MachineLowest (sheetOf s) T is) (stepped-cells s kept lent i (steps .0))
+        subst (λ T. EachLowest (sheetOf s) T is) (stepped-cells s kept lent i (steps .0))
             (machine-lowest is (callOn s kept (step i) .after) (left.stays-accepted s kept lent (step i)) (steps .1) (lowest .1)),
       )
 

@@ -19,7 +19,7 @@ use Rattle.office.specs.Demand3Words.{boardAfter}
 
 -- ---- steps end
 
--- item i has a mark
+-- item i of the sheet has a mark
 abbrev pub MarkStands : Sheet → List ℕ → ℕ → Type 0
 MarkStands S t i = (i < size S) × (¬ (markIn (row width t i) ≡ 0))
 
@@ -82,7 +82,9 @@ pub record AnyOrder (s : List ℕ) (p : Office) (is : List ℕ) : Type 0 where
   pub asks : (i : ℕ) → answerOf (callOn s (afterSteps s p is) (ask i)) ≡ answerOf (callOn s p (ask i))
   pub boards : (items results : List ℕ) → boardAfter s p (map step is) items results ≡ boardAfter s p [] items results
   pub closes : callOn s (afterSteps s p is) close .after ≡ callOn s p close .after
-  -- Where they end with no mark standing, every reading is that of an ask at the start: what is looked up, and what is stored.
+  -- Where they end with no mark standing, the table is right, and every reading is that of an ask at the start: what is looked up, and what is
+  -- stored.
+  pub right : NoMarkStands (sheetOf s) (afterSteps s p is .table) → QuietRight s (afterSteps s p is)
   pub looked-up : NoMarkStands (sheetOf s) (afterSteps s p is .table) → (i : ℕ) → i < size (sheetOf s)
       → reading (lookUp (sheetOf s) (decodeTable (afterSteps s p is .table)) i .value) ≡ answerOf (callOn s p (ask i))
   pub stored : NoMarkStands (sheetOf s) (afterSteps s p is .table) → (i : ℕ) → i < size (sheetOf s) → ¬ (kindIn (row width (afterSteps s p is .table) i) ≡ 0)
