@@ -8,6 +8,7 @@ mod close;
 mod older;
 mod owed;
 mod printer;
+mod step;
 
 use crate::engine::{DayProgram, Engine};
 use crate::guarded::Guarded;
@@ -182,6 +183,43 @@ with_all! {
         OthersTakeOutAsNull,
         OthersStrictInFirst,
         OthersNullBeforeOut,
+        StepKeepsRefreshOfChanged,
+        StepKeepsRefreshOfEqual,
+        StepNotesEqual,
+        StepStoresWithoutNotice,
+        StepNotesWithoutStoring,
+        StepForgetsChanged,
+        StepKeepsNoticeOfEntries,
+        StepKeepsNoticeOfStored,
+        StepKeepsNoticeOfUnk,
+        StepKeepsNoticeOfChildless,
+        StepTurnsNoticeToRefresh,
+        StepOfNoticeForgets,
+        StepOfNoticeStores,
+        StepTakesTheLowest,
+        StepTakesTheHighest,
+        StepTakesAllMarked,
+        StepTakesThoseBelowFirst,
+        StepCatchesUp,
+        StepClearsAllMarks,
+        StepTakesUnmarked,
+        StepRefusesItem0,
+        StepRefusesUnk,
+        StepRefusesAboveAMark,
+        RefusedStepMarks,
+        TellsFirstChildOnly,
+        TellsLastChildOnly,
+        TellsHighestFirst,
+        TellsGrandchildren,
+        TellsOwnParents,
+        TellsParentsOfChildren,
+        TellsItemBelow,
+        TellsDeferWithNotice,
+        TellsDeferByForgetting,
+        TellsRenewAsDefer,
+        TellsRenewOfEqual,
+        TellsMarkedNothing,
+        AskStepsEachOnce,
     }
 }
 
@@ -304,10 +342,10 @@ impl Sweep<'_> {
         if self.cells[i].mark == Mark::Refresh {
             let value = self.work_out(i);
             if self.cells[i].stored == Some(value) {
-                self.cells[i].mark = Mark::None;
+                self.cells[i].mark = self.wrong.mark_of_equal();
                 return;
             }
-            self.put(i, Cell { stored: Some(value), mark: Mark::Notice }, By::Renew);
+            self.put(i, self.wrong.renewed(self.cells[i], value), By::Renew);
             if self.wrong != Wrong::StepGoesOnToTelling {
                 return;
             }
@@ -315,33 +353,33 @@ impl Sweep<'_> {
         if self.wrong == Wrong::ClearsMarkBeforeTelling {
             self.cells[i].mark = Mark::None;
         }
-        for child in i + 1..self.items.len() {
-            let Some(figure) = &self.items[child].figure else { continue };
-            if !figure.parents.contains(&i) {
-                continue;
-            }
+        for child in self.told(i) {
             if !self.passes_over(child) {
-                self.tell(child, figure.spread);
+                self.tell(child, self.items[child].figure.as_ref().unwrap().spread);
             } else if self.wrong == Wrong::TellingStopsAtUnowed {
                 break;
             }
         }
         if self.wrong != Wrong::ClearsMarkBeforeTelling {
-            self.cells[i].mark = Mark::None;
+            self.end_notice(i);
         }
     }
 
     fn tell(&mut self, child: usize, spread: Spread) {
         let Cell { stored, mark } = self.cells[child];
+        if mark != Mark::None && self.wrong == Wrong::TellsMarkedNothing {
+            return;
+        }
+        let spread = self.wrong.spread(spread, mark);
         let defers = mark != Mark::Notice || self.wrong == Wrong::DeferIgnoresNotice;
         if stored.is_none() || spread == Spread::Forget {
             let mark = self.forgotten_mark(child);
             self.put(child, Cell { stored: None, mark }, By::Forget);
         } else if spread == Spread::Defer && defers {
-            self.cells[child].mark = Mark::Refresh;
+            self.cells[child].mark = self.wrong.deferred();
         } else {
             let value = self.work_out(child);
-            if stored != Some(value) {
+            if stored != Some(value) || self.wrong == Wrong::TellsRenewOfEqual {
                 self.put(child, Cell { stored: Some(value), mark: Mark::Notice }, By::Renew);
             } else if mark == Mark::Refresh || self.wrong == Wrong::RenewClearsNotice {
                 self.cells[child].mark = Mark::None;
@@ -353,6 +391,9 @@ impl Sweep<'_> {
         for i in 0..self.items.len() {
             while self.cells[i].mark != Mark::None {
                 self.step(i);
+                if self.wrong.steps_once() {
+                    break;
+                }
             }
         }
     }
@@ -380,7 +421,7 @@ impl Sweep<'_> {
                 let mark = if marked { Mark::Notice } else { Mark::None };
                 self.put(i, Cell { stored: None, mark }, By::Drop);
             }
-            Call::Step { item } => self.step(item as usize),
+            Call::Step { item } => self.give_step(item as usize),
             Call::Ask { item } => {
                 let early = self.wrong == Wrong::AskLooksUpFirst;
                 let first = if early { Some(self.look_up(item as usize)) } else { None };
@@ -443,7 +484,7 @@ impl Engine for Mock {
             };
         }
         if refusal.number != 0 {
-            return refusal;
+            return wrong.refused_step(call, refusal, table.bytes_mut());
         }
         let items = read_sheet(sheet.bytes()).unwrap();
         let mut machine = Sweep::new(&items, &taken, wrong.here(Where::Call));

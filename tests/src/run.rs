@@ -10,6 +10,7 @@ use crate::harness::fixed::run_fixed;
 use crate::harness::lists::run_list;
 use crate::harness::offices::run_offices;
 use crate::harness::older::run_older;
+use crate::harness::orders::run_orders;
 use crate::harness::shares::{run_pairs, BATCH};
 use crate::harness::tally::Tally;
 use crate::rng::Rng;
@@ -30,6 +31,8 @@ pub struct Plan {
     pub before: u64,
     /// Tables from before version 4.0.0.
     pub choices: u64,
+    /// Small sheets that are stepped in every order, each with larger ones.
+    pub orders: u64,
     pub days: u64,
     /// Slices are lent in blocks of their own, for a run under a memory checker.
     pub alone: bool,
@@ -49,6 +52,7 @@ const OLDER: u64 = 5 << 40;
 const CLOSES: u64 = 6 << 40;
 const BEFORE: u64 = 7 << 40;
 const CHOICES: u64 = 8 << 40;
+const ORDERS: u64 = 9 << 40;
 
 /// Everything compared, or the first difference.
 pub fn run(
@@ -73,6 +77,7 @@ pub fn run(
         (CLOSES, plan.closes),
         (BEFORE, plan.before),
         (CHOICES, plan.choices),
+        (ORDERS, plan.orders),
     ];
     for part in kinds.iter().flat_map(|&(first, count)| first..first + count) {
         run_part(plan, part, &mut c, &mut day)?;
@@ -109,6 +114,7 @@ fn run_part(
     c.rng = Rng::part(seed, part);
     let result = match (part, day) {
         (FIXED, _) => run_fixed(c),
+        (ORDERS.., _) => run_orders(c, part - ORDERS),
         (CHOICES.., _) => run_choices(c),
         (BEFORE.., _) => run_before(c),
         (CLOSES.., _) => run_closes(c),
@@ -128,6 +134,7 @@ fn run_part(
 #[cfg(test)]
 mod tests {
     use super::*;
+    use crate::harness::sequences::run_sequences;
     use crate::mock::{Mock, Wrong};
 
     const SHORT: Plan = Plan {
@@ -140,6 +147,7 @@ mod tests {
         closes: 0,
         before: 0,
         choices: 0,
+        orders: 0,
         days: 0,
         alone: false,
         only: None,
@@ -161,11 +169,13 @@ mod tests {
             closes: 300,
             before: 300,
             choices: 300,
+            orders: 5,
             days: 60,
             ..SHORT
         };
         let tally = try_mock(&plan, Wrong::Nothing).unwrap();
         assert!(tally.calls() >= 50_000);
+        assert!(tally.orders.tables > 10_000 && tally.orders.opened_tables > 3_000);
         assert_eq!((tally.pairs, tally.older_tables, tally.closed_tables), (2_000, 300, 300));
         assert_eq!((tally.before_lists, tally.strict_tables), (300, 300));
         assert!(
@@ -257,6 +267,20 @@ mod tests {
         }
     }
 
+    /// Wrong steps are found by orders alone: by those of small sheets, and by those of an office.
+    #[test]
+    fn wrong_steps_are_found() {
+        let plan = Plan { calls: 0, offices: 0, orders: 4, ..SHORT };
+        for wrong in Wrong::steps() {
+            let found = try_mock(&plan, wrong).unwrap_err();
+            assert!(found.contains("--seed 5 --part"), "{wrong:?}: {found}");
+            let mut mock = Mock(wrong);
+            let mut c = Comparison::new(&mut mock, Rng::part(5, 0));
+            let found = (0..150).find_map(|_| run_sequences(&mut c).err());
+            assert!(found.is_some(), "{wrong:?} was not found by an office");
+        }
+    }
+
     /// The part that a failure names fails alone too.
     #[test]
     fn a_part_can_be_run_again() {
@@ -294,6 +318,7 @@ mod tests {
             closes: 300,
             before: 300,
             choices: 300,
+            orders: 5,
             ..SHORT
         };
         if let Err(difference) = run(&plan, &mut crate::ffi::Linked, None) {

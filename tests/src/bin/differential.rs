@@ -10,7 +10,8 @@ use std::time::{Instant, SystemTime, UNIX_EPOCH};
 
 const USAGE: &str =
     "differential [--self] [--trace] [--alone] [--seed N] [--calls N] [--offices N] \
-     [--pairs N] [--older N] [--closes N] [--before N] [--choices N] [--days N] [--part N]";
+     [--pairs N] [--older N] [--closes N] [--before N] [--choices N] [--orders N] [--days N] \
+     [--part N]";
 
 /// What a run compares unless it is told otherwise; its seed is then the clock's.
 const PLAN: Plan = Plan {
@@ -23,6 +24,7 @@ const PLAN: Plan = Plan {
     closes: 5_000,
     before: 5_000,
     choices: 5_000,
+    orders: 216,
     days: 1_000,
     alone: false,
     only: None,
@@ -74,6 +76,7 @@ fn options() -> Result<Options, String> {
             "--closes" => options.plan.closes = number,
             "--before" => options.plan.before = number,
             "--choices" => options.plan.choices = number,
+            "--orders" => options.plan.orders = number,
             "--days" => options.plan.days = number,
             "--part" => options.plan.only = Some(number),
             _ => return Err(USAGE.to_string()),

@@ -137,11 +137,14 @@ impl<'a> Comparison<'a> {
         ))
     }
 
-    /// Sees to the owed bytes, and counts what was done with them and with choices.
+    /// Sees to the owed bytes, and counts what was done with them, with choices and by steps.
     fn judge(&mut self, act: &Act, number: u64, before: &Lent, after: &Lent) -> Result<(), String> {
         owed::judge(&mut self.tally.owed, act, number, before, after)?;
         if number == 0 {
             choices::count(&mut self.tally.choices, act, before, after);
+        }
+        if let (Act::Give(Call::Step { item }), 0) = (act, number) {
+            self.tally.orders.count_step(before, *item as usize, &after.table);
         }
         Ok(())
     }

@@ -7,6 +7,7 @@ use super::compare::{Act, Comparison, Lent};
 use super::fixed_boards::run_fixed_boards;
 use super::fixed_choices::run_fixed_choices;
 use super::fixed_closes::{closes_to, run_fixed_closes};
+use super::fixed_orders::run_fixed_orders;
 use super::fixed_owed::run_fixed_owed;
 use super::lists::{plain_call, Office};
 use super::older::older_example;
@@ -36,7 +37,8 @@ pub fn run_fixed(c: &mut Comparison) -> Result<(), String> {
     run_fixed_boards(c)?;
     run_fixed_closes(c)?;
     run_fixed_owed(c)?;
-    run_fixed_choices(c)
+    run_fixed_choices(c)?;
+    run_fixed_orders(c)
 }
 
 pub fn post(item: u64, number: i64) -> Call {

@@ -139,10 +139,10 @@ fn shown(lent: &Lent, owed: &str, marks: &str) -> Result<(), String> {
 }
 
 /// A call of a list, with the owed bytes and the marks that it leaves.
-type Shown = (Act, &'static str, &'static str);
+pub type Shown = (Act, &'static str, &'static str);
 
 /// A list from a bare opening.
-fn list(c: &mut Comparison, specs: &[Spec], calls: &[Shown]) -> Result<(), String> {
+pub fn list(c: &mut Comparison, specs: &[Spec], calls: &[Shown]) -> Result<(), String> {
     let (mut lent, _) = opened(c, write_sheet(specs), specs.len(), false)?;
     for (act, owed, marks) in calls {
         expect("a call of a list", c.act(act, &mut lent)?.number, 0)?;

@@ -2,6 +2,7 @@
 
 use super::choices;
 use super::compare::Act;
+use super::orders::{self, power, DONE, ORDERS};
 use super::owed;
 use super::prints::MOST_DIGITS;
 use crate::model::board::{Board, ITEM, MOST_ITEMS, RESULT};
@@ -96,6 +97,8 @@ pub struct Tally {
     pub strict_tables: u64,
     /// Those without a mark in which a stored value is no longer right.
     pub strict_values: u64,
+    /// What was stepped in every order, and in an office's orders.
+    pub orders: orders::Times,
     /// Lists that were also given to the calls as they were before owed bytes.
     pub before_lists: u64,
     /// Values that these read on both sides.
@@ -220,8 +223,8 @@ impl Tally {
     }
 
     /// The refusals that some function can give, or a day print, the lists of boards, the tables and
-    /// sheets of closes, what is done to owed bytes and false ones, the parents of choices, and
-    /// numbers of each length in print, that were never met; also products of shares beyond a signed
+    /// sheets of closes, what is done to owed bytes and false ones, the parents of choices, what steps
+    /// do and their orders, and numbers of each length in print, that were never met; also products of shares beyond a signed
     /// 64-bit number, and values of the choice of before, if they were fewer than one in twenty.
     pub fn never_met(&self) -> Vec<String> {
         let mut missing = Vec::new();
@@ -243,6 +246,9 @@ impl Tally {
             for (name, _) in choices::PARENTS.iter().zip(met).filter(|(_, &times)| times == 0) {
                 missing.push(format!("choice {way}, {name}"));
             }
+        }
+        for (name, _) in self.orders.all().filter(|met| met.1 == 0) {
+            missing.push(format!("steps, {name}"));
         }
         for (name, digits) in DIGITS.iter().zip(&self.digits) {
             for length in (1..=MOST_DIGITS).filter(|&length| digits[length] == 0) {
@@ -297,6 +303,34 @@ impl Tally {
         )
     }
 
+    fn write_orders(&self, f: &mut fmt::Formatter) -> fmt::Result {
+        let o = &self.orders;
+        writeln!(f, "tables stepped in every order: {} of {} small sheets", o.tables, o.sheets)?;
+        writeln!(
+            f,
+            "tables since an opening, by every call: {} of {} small sheets ({} without a mark)",
+            o.opened_tables, o.opened, o.quiet
+        )?;
+        writeln!(f, "steps in every order: {}; where there is no mark: {}", o.steps, o.refused)?;
+        for (n, longest) in o.longest.iter().enumerate().skip(1) {
+            let (s, three, four) = (if n == 1 { "" } else { "s" }, power(3, n), power(4, n));
+            writeln!(
+                f,
+                "longest sequence of steps, {n} item{s}: {longest} (3^n {three}, 4^n {four})"
+            )?;
+        }
+        let (ended, others) = (o.ended.iter().sum::<u64>(), o.interrupted.iter().sum::<u64>());
+        writeln!(f, "steps by what they do: {}", named(&DONE, &o.done))?;
+        writeln!(f, "sequences of steps ended: {ended} ({})", named(&ORDERS, &o.ended))?;
+        writeln!(
+            f,
+            "sequences of steps interrupted: {others} ({}); {} steps, at most {}",
+            named(&ORDERS, &o.interrupted),
+            o.taken,
+            o.most
+        )
+    }
+
     fn write_owed(&self, f: &mut fmt::Formatter) -> fmt::Result {
         let (done, at_fault) = (0..owed::FALSE, owed::FALSE..owed::MET.len());
         let owed = |part: Range<usize>| named(&owed::MET[part.clone()], &self.owed[part]);
@@ -332,6 +366,7 @@ impl fmt::Display for Tally {
         writeln!(f, "tables of no opening closed, and gone on with: {}", self.closed_tables)?;
         self.write_owed(f)?;
         self.write_choices(f)?;
+        self.write_orders(f)?;
         writeln!(
             f,
             "lists: {} ({} from a table of no opening); pairs of offices: {}",
@@ -368,6 +403,9 @@ mod tests {
         (tally.boards, tally.closes) = ([1; BOARDS.len()], [1; CLOSES.len()]);
         tally.owed = [1; owed::MET.len()];
         tally.choices.iter_mut().for_each(|met| met.fill(1));
+        let orders = &mut tally.orders;
+        (orders.done, orders.ended) = ([1; DONE.len()], [1; ORDERS.len()]);
+        (orders.longest, orders.quiet, orders.interrupted[1]) = ([1; orders::MOST + 1], 1, 1);
         for ((_, numbers), given) in FUNCTIONS.iter().zip(&mut tally.given) {
             numbers.iter().chain(&[0]).for_each(|&n| given[n] = 1);
         }
@@ -411,6 +449,16 @@ mod tests {
                 assert_eq!(tally.never_met(), [format!("choice {does}, {name}")]);
             }
         }
+        for (at, name) in DONE.iter().enumerate() {
+            let mut tally = full();
+            tally.orders.done[at] = 0;
+            assert_eq!(tally.never_met(), [format!("steps, {name}")]);
+        }
+        for (at, name) in ORDERS.iter().enumerate() {
+            let mut tally = full();
+            tally.orders.ended[at] = 0;
+            assert_eq!(tally.never_met(), [format!("steps, {name}")]);
+        }
         for (at, (word, numbers)) in LINES.iter().enumerate() {
             for &number in *numbers {
                 let mut tally = full();
@@ -438,6 +486,19 @@ mod tests {
         }
         assert_eq!((tally.digits[0][1], tally.digits[1][2]), (1, 1));
         assert_eq!((tally.digits.iter().flatten().sum::<u64>(), tally.prints()), (2, 5));
+    }
+
+    /// Sheets of each number of items are stepped in every order, and some sequences not to their ends.
+    #[test]
+    fn orders_are_missed() {
+        for n in 1..=orders::MOST {
+            let mut tally = full();
+            tally.orders.longest[n] = 0;
+            assert_eq!(tally.never_met(), [format!("steps, in every order of {n} items")]);
+        }
+        let mut tally = full();
+        (tally.orders.interrupted, tally.orders.quiet) = ([0; ORDERS.len()], 0);
+        assert_eq!(tally.never_met(), ["steps, interrupted", "steps, until no mark is left"]);
     }
 
     /// One pair in twenty must have a product beyond signed 64 bits.

@@ -25,7 +25,7 @@ impl Wrong {
             (Wrong::TablesInOlderRange, _) if cells.iter().any(wide) => Some(10),
             (Wrong::RefusesStoredOut, _) if cells.iter().any(is_out) => Some(10),
             (Wrong::RefusesUnowedNotice, _) if cells.iter().zip(owed).any(idle) => Some(10),
-            _ => None,
+            _ => self.step_refusal(call, cells),
         }
     }
 

@@ -105,11 +105,11 @@ impl<'a> Sweep<'a> {
         }
     }
 
-    fn children(&self, i: usize) -> impl Iterator<Item = usize> + '_ {
+    pub(super) fn children(&self, i: usize) -> impl Iterator<Item = usize> + '_ {
         (i + 1..self.items.len()).filter(move |&child| lists(&self.items[child], i))
     }
 
-    fn parents(&self, i: usize) -> &'a [usize] {
+    pub(super) fn parents(&self, i: usize) -> &'a [usize] {
         self.items[i].figure.as_ref().map_or(&[], |figure| &figure.parents)
     }
 
