@@ -37,12 +37,12 @@ caught-unique (stepped i e r) (stepped j h q) =
 abbrev pub QuietBelow : Table → ℕ → Type 0
 QuietBelow T k = (j : ℕ) → j < k → isMarked (T j) ≡ false
 
-mark-notice : (m : Mark) → isMark m ≡ false → isNotice m ≡ false
+pub mark-notice : (m : Mark) → isMark m ≡ false → isNotice m ≡ false
 mark-notice unmarked e = refl
 mark-notice refresh e = refl
 mark-notice notice e = e
 
-mark-flag : (f : Bool) → isMark (noticeIf f) ≡ false → f ≡ false
+pub mark-flag : (f : Bool) → isMark (noticeIf f) ≡ false → f ≡ false
 mark-flag true e = e
 mark-flag false e = refl
 

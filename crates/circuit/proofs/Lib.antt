@@ -26,5 +26,6 @@ pub mod Board
 pub mod Offices
 pub mod Steps
 pub mod Retention
+pub mod Rounds
 pub mod KeepEvery
 pub mod Demand

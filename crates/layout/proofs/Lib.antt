@@ -2,6 +2,8 @@ pub mod Scan
 pub mod Items
 pub mod Exactly
 pub mod IndexLaws
+pub mod Highest
+pub mod Levels
 pub mod Tests
 pub mod Causes
 pub mod Examples

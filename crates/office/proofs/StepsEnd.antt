@@ -1,6 +1,6 @@
 -- Steps end, for the calls on lent bytes (`office-steps-end`), on any accepted table: an accepted sequence of steps is one of the machine. Assumes
 -- nothing.
-use Prim.Native.Nat.{ℕ, zero, suc, _^_, _<_, _≤_}
+use Prim.Native.Nat.{ℕ, zero, suc, _*_, _^_, _<_, _≤_}
 use native.Mathlib.Omega.{arith}
 use native.Mathlib.Nat.{pow-zero, pow-succ'}
 use native.Mathlib.Decide.{decLt}
@@ -9,18 +9,24 @@ use mathlib.Core.Bool.{Bool, true, false, not}
 use mathlib.Core.List.{List, [], _∷_, map}
 use mathlib.Core.Logic.{inl, _↔_}
 use lib.ListN.{length}
-use Rattle.circuit.specs.Sheet.{Ordered, size, itemAt, isFigure}
+use Rattle.circuit.specs.Circuit.{Listed}
+use Rattle.circuit.specs.Sheet.{Ordered, size, itemAt, isFigure, parents}
 use Rattle.circuit.specs.Table.{isMarked}
 use Rattle.circuit.specs.Machine.{stepItem}
 use Rattle.circuit.specs.Call.{Call, step}
-use Rattle.circuit.specs.Calls.{effect, perform, run}
+use Rattle.circuit.specs.Calls.{tests, firstCause, effect, perform, run}
 use Rattle.circuit.specs.Words.{Quiet, AllAccepted}
 use Rattle.circuit.proofs.View.{never}
-use Rattle.circuit.proofs.Accepted.{number-cause, effect-number, step-passed}
+use Rattle.circuit.proofs.Accepted.{number-cause, effect-number, accepted-effect, refused-table, step-passed}
 use Rattle.circuit.proofs.CatchUp.{lowest-some}
 use Rattle.circuit.proofs.KeepEvery.{steps-quiet}
 use Rattle.circuit.proofs.Steps.{EachLowest, steps-end, lowest-first-ends}
-use Rattle.layout.specs.Opened.{sheetOf}
+use Rattle.circuit.proofs.Rounds.{rounds, rounds-quiet}
+use Rattle.layout.specs.Layout.{levelLimit}
+use Rattle.layout.specs.Read.{Placed, levelOf, opens, readSheet}
+use Rattle.layout.specs.Opened.{sheetOf, sheetRead}
+use Rattle.layout.proofs.Levels.{level-rises, level-limited}
+use Rattle.layout.proofs.Causes.{opens-faultless}
 use Rattle.layout.proofs.Tests.{Tells, holds, fails, tells-eq}
 use Rattle.table.specs.Rows.{row}
 use Rattle.table.specs.Record.{width, markIn}
@@ -28,12 +34,13 @@ use Rattle.table.specs.Bytes.{decodeTable}
 use Rattle.office.specs.Office.{Office, callOn, runOn}
 use Rattle.office.specs.Demand1Words.{calling, NoneHolds, ownCauses, AcceptedLent}
 use Rattle.office.specs.Demand2Words.{NoMarkStands}
-use Rattle.office.specs.FinishWords.{MarkStands, AcceptedSteps, afterSteps, LowestFirst, StepsEnd}
+use Rattle.office.specs.FinishWords.{MarkStands, AcceptedSteps, afterSteps, afterRounds, LowestFirst, StepsEnd}
+use Rattle.office.proofs.Agreeing.{sized}
 use Rattle.office.proofs.Bridge.{Within, decode-within, perform-within}
 use Rattle.office.proofs.Causes.{tells-mark}
 use Rattle.office.proofs.Lent.{ordered, within}
 use Rattle.office.proofs.Leaves as left
-use Rattle.office.proofs.Refusals.{turned-back}
+use Rattle.office.proofs.Refusals.{turned-back, opens-sheet}
 
 module _ (s : List ℕ) (kept : Office) (lent : AcceptedLent s kept) where
   abbrev t : List ℕ
@@ -113,12 +120,51 @@ module _ (s : List ℕ) (kept : Office) (lent : AcceptedLent s kept) where
       let passed = step-passed (sheetOf s) (decodeTable t) i (number-cause (sheetOf s) (decodeTable t) (step i) z) in
       step-picked i .1 (passed .0, λ e. never (cc (sym (unmarked-cell i (passed .0) e) ∙ passed .1)))
 
+  -- a step, accepted or not, is the machine's on the decoded table
+  step-decoded : (i : ℕ) → decodeTable (callOn s kept (step i) .after .table) ≡ perform (sheetOf s) (decodeTable t) (step i) .table
+  step-decoded i = go (tells-eq (callOn s kept (step i) .number) 0)
+    where
+      left-alone : (n : ℕ) → firstCause (tests (sheetOf s) (decodeTable t) (step i)) ≡ n → ¬ (callOn s kept (step i) .number ≡ 0)
+          → decodeTable t ≡ perform (sheetOf s) (decodeTable t) (step i) .table
+      left-alone zero e n =
+          let free = accepted-effect (sheetOf s) (decodeTable t) (step i) e in
+          absurd (n (machine-marks i (ap (λ o. o .number) free ∙ effect-number (sheetOf s) (decodeTable t) (step i))))
+      left-alone (suc k) e n = sym (refused-table (sheetOf s) (decodeTable t) (step i) k e)
+
+      go : {b : Bool} → Tells (callOn s kept (step i) .number ≡ 0) b
+          → decodeTable (callOn s kept (step i) .after .table) ≡ perform (sheetOf s) (decodeTable t) (step i) .table
+      go (holds z) = decoded-after (step i) z
+      go (fails n) =
+          ap (λ o. decodeTable (o .table)) (turned-back (calling (step i)) s kept .left n .0)
+          ∙ left-alone (firstCause (tests (sheetOf s) (decodeTable t) (step i))) refl n
+
 module _ (s : List ℕ) where
   -- whatever is called, what the office keeps stays accepted
   pub run-lent : (cs : List Call) (kept : Office) → AcceptedLent s kept → AcceptedLent s (runOn s kept cs)
   unfolding runOn
   run-lent [] kept lent = lent
   run-lent (c ∷ cs) kept lent = run-lent cs (callOn s kept c .after) (left.stays-accepted s kept lent c)
+
+  -- Steps, accepted or not, are the machine's on the decoded table, and so are rounds of them.
+  steps-decoded : (is : List ℕ) (kept : Office) → AcceptedLent s kept
+      → decodeTable (afterSteps s kept is .table) ≡ run (sheetOf s) (decodeTable (kept .table)) (map step is)
+  unfolding runOn run
+  steps-decoded [] kept lent = refl
+  steps-decoded (i ∷ is) kept lent =
+      steps-decoded is (callOn s kept (step i) .after) (left.stays-accepted s kept lent (step i))
+      ∙ ap (λ T. run (sheetOf s) T (map step is)) (step-decoded s kept lent i)
+
+  rounds-lent : (screen : List ℕ) (r : ℕ) (kept : Office) → AcceptedLent s kept → AcceptedLent s (afterRounds s kept screen r)
+  rounds-lent screen zero kept lent = lent
+  rounds-lent screen (suc r) kept lent = rounds-lent screen r (afterSteps s kept screen) (run-lent (map step screen) kept lent)
+
+  rounds-decoded : (screen : List ℕ) (r : ℕ) (kept : Office) → AcceptedLent s kept
+      → decodeTable (afterRounds s kept screen r .table) ≡ rounds (sheetOf s) screen r (decodeTable (kept .table))
+  unfolding rounds
+  rounds-decoded screen zero kept lent = refl
+  rounds-decoded screen (suc r) kept lent =
+      rounds-decoded screen r (afterSteps s kept screen) (run-lent (map step screen) kept lent)
+      ∙ ap (rounds (sheetOf s) screen r) (steps-decoded screen kept lent)
 
   -- A sequence of accepted steps is one of the machine,
   steps-machine : (is : List ℕ) (kept : Office) → AcceptedLent s kept → AcceptedSteps s kept is → AllAccepted (sheetOf s) (decodeTable (kept .table)) (map step is)
@@ -128,15 +174,6 @@ module _ (s : List ℕ) where
     subst (λ T. AllAccepted (sheetOf s) T (map step is)) (decoded-after s kept lent (step i) (steps .0))
         (steps-machine is (callOn s kept (step i) .after) (left.stays-accepted s kept lent (step i)) (steps .1)),
   )
-
-  -- and leaves its table;
-  steps-decoded : (is : List ℕ) (kept : Office) → AcceptedLent s kept → AcceptedSteps s kept is
-      → decodeTable (afterSteps s kept is .table) ≡ run (sheetOf s) (decodeTable (kept .table)) (map step is)
-  unfolding runOn run
-  steps-decoded [] kept lent steps = refl
-  steps-decoded (i ∷ is) kept lent steps =
-      steps-decoded is (callOn s kept (step i) .after) (left.stays-accepted s kept lent (step i)) (steps .1)
-      ∙ ap (λ T. run (sheetOf s) T (map step is)) (decoded-after s kept lent (step i) (steps .0))
 
   -- and the machine's are sequences of accepted steps.
   machine-steps : (is : List ℕ) (kept : Office) → AcceptedLent s kept → AllAccepted (sheetOf s) (decodeTable (kept .table)) (map step is) → AcceptedSteps s kept is
@@ -159,6 +196,27 @@ module _ (s : List ℕ) where
             (machine-lowest is (callOn s kept (step i) .after) (left.stays-accepted s kept lent (step i)) (steps .1) (lowest .1)),
       )
 
+-- the levels of the sheet are ranks, so that rounds end
+rounds-end : (s : List ℕ) (kept : Office) → AcceptedLent s kept → (screen : List ℕ) → ((i : ℕ) → i < size (sheetOf s) → Listed i screen)
+    → NoMarkStands (sheetOf s) (afterRounds s kept screen (2 * suc levelLimit) .table)
+rounds-end s kept lent screen all = go (opens-faultless s .1 (lent .sheet))
+  where
+    go : (edition : ℕ) × (ps : List Placed) × (readSheet s ≡ opens edition ps)
+        → NoMarkStands (sheetOf s) (afterRounds s kept screen (2 * suc levelLimit) .table)
+    go (edition, ps, reads) =
+        quiet-records s (afterRounds s kept screen (2 * suc levelLimit)) (rounds-lent s screen (2 * suc levelLimit) kept lent)
+        (subst (Quiet (sheetOf s)) (sym (rounds-decoded s screen (2 * suc levelLimit) kept lent))
+        (rounds-quiet (sheetOf s) (ordered s kept lent) (levelOf ps) rises screen all (suc levelLimit) below (decodeTable (kept .table))))
+      where
+        is : sheetOf s ≡ sheetRead edition ps
+        is = opens-sheet s edition ps reads
+
+        rises : (c p : ℕ) → Listed p (parents (sheetOf s) c) → levelOf ps p < levelOf ps c
+        rises c p l = level-rises s edition ps reads c p (subst (λ S. Listed p (parents S c)) is l)
+
+        below : (i : ℕ) → i < size (sheetOf s) → levelOf ps i < suc levelLimit
+        below i low = omega (arith, level-limited s edition ps reads i (subst (λ n. i < n) (ap size is ∙ sized s edition ps reads) low))
+
 three-four : (n : ℕ) → 3 ^ n ≤ 4 ^ n
 three-four zero = omega (arith, pow-zero 3, pow-zero 4)
 three-four (suc n) = omega (arith, three-four n, pow-succ' 3 n, pow-succ' 4 n)
@@ -170,6 +228,7 @@ office-steps-end s kept lent =
       shorter = λ is steps. omega (arith, closer is steps, three-four (size (sheetOf s)));
       closer = closer;
       lowest-first = λ is steps lowest. lowest-first-ends (sheetOf s) (ordered s kept lent) (decodeTable (kept .table)) is (machine-lowest s is kept lent steps lowest);
+      rounds = rounds-end s kept lent;
       picked = λ is steps i. step-picked s (afterSteps s kept is) (run-lent s (map step is) kept lent) i;
       ended = λ is steps. none-picked s (afterSteps s kept is) (run-lent s (map step is) kept lent);
       arrives = λ is steps. arrives (afterSteps s kept is) (run-lent s (map step is) kept lent);
@@ -182,5 +241,5 @@ office-steps-end s kept lent =
     arrives p here =
         let found = steps-quiet (sheetOf s) (ordered s p here) (decodeTable (p .table)) in
         let steps = machine-steps s (found .0) p here (found .1) in
-        let cells = subst (Quiet (sheetOf s)) (sym (steps-decoded s (found .0) p here steps)) (found .2) in
+        let cells = subst (Quiet (sheetOf s)) (sym (steps-decoded s (found .0) p here)) (found .2) in
         (found .0, steps, quiet-records s (afterSteps s p (found .0)) (run-lent s (map step (found .0)) p here) cells)

@@ -1,14 +1,16 @@
 -- 02's job 7, its words: a sequence of accepted steps, a table with no mark left, and steps in whatever order. Assumes nothing.
-use Prim.Native.Nat.{ℕ, _*_, _^_, _<_, _≤_}
+use Prim.Native.Nat.{ℕ, zero, suc, _*_, _^_, _<_, _≤_}
 use mathlib.Core.Path.{_≡_}
 use mathlib.Core.Bool.{true}
 use mathlib.Core.List.{List, [], _∷_, map}
 use mathlib.Core.Logic.{_↔_}
 use lib.ListN.{length}
 use Rattle.circuit.specs.Value.{Value}
+use Rattle.circuit.specs.Circuit.{Listed}
 use Rattle.circuit.specs.Sheet.{Sheet, size, itemAt, isFigure}
 use Rattle.circuit.specs.Machine.{lookUp}
 use Rattle.circuit.specs.Call.{keep, step, ask, close}
+use Rattle.layout.specs.Layout.{levelLimit}
 use Rattle.layout.specs.Opened.{sheetOf}
 use Rattle.table.specs.Rows.{row}
 use Rattle.table.specs.Record.{width, kindIn, markIn}
@@ -32,6 +34,12 @@ AcceptedSteps s o (i ∷ is) = (callOn s o (step i) .number ≡ 0) × AcceptedSt
 abbrev pub afterSteps : List ℕ → Office → List ℕ → Office
 afterSteps s o is = runOn s o (map step is)
 
+-- So many rounds over the items of a screen: in each a step of every item that it shows, in its order. The step of an item without a mark is
+-- refused, and changes nothing.
+abbrev pub afterRounds : List ℕ → Office → List ℕ → ℕ → Office
+afterRounds s o screen zero = o
+afterRounds s o screen (suc r) = afterRounds s (afterSteps s o screen) screen r
+
 -- each step is of the lowest marked item: no item below it has a mark
 abbrev pub LowestFirst : List ℕ → Office → List ℕ → Type 0
 LowestFirst s o [] = Unit {0}
@@ -45,6 +53,9 @@ pub record StepsEnd (s : List ℕ) (o : Office) : Type 0 where
   pub closer : (is : List ℕ) → AcceptedSteps s o is → length is < 3 ^ size (sheetOf s)
   -- lowest first, two steps an item are enough
   pub lowest-first : (is : List ℕ) → AcceptedSteps s o is → LowestFirst s o is → length is ≤ 2 * size (sheetOf s)
+  -- in rounds over a screen that shows every item, in whatever order, two rounds for each level are enough: 130
+  pub rounds : (screen : List ℕ) → ((i : ℕ) → i < size (sheetOf s) → Listed i screen)
+      → NoMarkStands (sheetOf s) (afterRounds s o screen (2 * suc levelLimit) .table)
   -- any marked item can be picked, and no other
   pub picked : (is : List ℕ) → AcceptedSteps s o is → (i : ℕ)
       → (callOn s (afterSteps s o is) (step i) .number ≡ 0) ↔ MarkStands (sheetOf s) (afterSteps s o is .table) i

@@ -8,4 +8,3 @@ pub mod Fields
 pub mod Scanned
 pub mod Whole
 pub mod Located
-pub mod Highest
