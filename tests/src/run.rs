@@ -88,17 +88,23 @@ pub fn run(
         list += 1;
     }
     if day.is_some() && plan.days > 0 {
-        if plan.fixed {
-            run_part(plan, FIXED_DAYS, &mut c, &mut day)?;
-        }
-        for number in 0..plan.days {
-            run_part(plan, DAYS + number, &mut c, &mut day)?;
-        }
+        run_days(plan, &mut c, &mut day)?;
     }
     match c.tally.never_met() {
         missing if missing.is_empty() => Ok(c.tally),
         missing => Err(format!("never given: {}\n{}", missing.join(", "), c.tally)),
     }
+}
+
+fn run_days(
+    plan: &Plan,
+    c: &mut Comparison,
+    day: &mut Option<&mut dyn DayProgram>,
+) -> Result<(), String> {
+    if plan.fixed {
+        run_part(plan, FIXED_DAYS, c, day)?;
+    }
+    (0..plan.days).try_for_each(|number| run_part(plan, DAYS + number, c, day))
 }
 
 fn run_part(

@@ -1,7 +1,7 @@
 -- Worked cases, computed by the definitions: a chain of two figures that is caught up in part, and closed; a figure that its own
--- telling stores; a stored NULL; a guarded share; steps on a ladder, on a pair and on a table that others wrote; the example day.
+-- telling stores; a stored NULL; a guarded share; steps on a ladder and on a pair; the example day.
 -- Assumes nothing.
-use Prim.Native.Nat.{ℕ, zero, suc}
+use Prim.Native.Nat.{ℕ}
 use mathlib.Core.Path.{_≡_, refl}
 use mathlib.Core.Bool.{Bool, true, false}
 use mathlib.Core.List.{List, [], _∷_, map}
@@ -156,23 +156,6 @@ pairTable = run pair (openFull pair) (post 0 3 (pos 1) ∷ step 0 ∷ post 0 3 (
 pub pair-steps : AllAccepted pair pairTable (map step (1 ∷ 1 ∷ 0 ∷ 1 ∷ []))
 unfolding machine pair pairTable run
 pair-steps = (refl, (refl, (refl, (refl, tt))))
-
--- a chain of sums, and a table for it that others wrote: figures 2 and 3 hold what no parent gave them
-unfoldable pub renewing : Sheet
-renewing =
-    entry ∷ figure sum true renew (0 ∷ []) ∷ figure sum true renew (1 ∷ []) ∷ figure sum true defer (2 ∷ []) ∷ []
-
-unfoldable pub foreign : Table
-foreign zero = held (num (pos 1)) notice
-foreign (suc zero) = held null notice
-foreign (suc (suc zero)) = held (num (pos 1)) unmarked
-foreign (suc (suc (suc i))) = held (num (pos 2)) notice
-
--- There the order can be read: figure 3 is 2, and 1 after a step of figure 1.
-pub foreign-order : (perform renewing foreign (ask 3) .reading ≡ some (num (pos 2)))
-    × (perform renewing (run renewing foreign (step 1 ∷ [])) (ask 3) .reading ≡ some (num (pos 1)))
-unfolding machine renewing foreign run
-foreign-order = (refl, refl)
 
 -- the example sheet: entries 0, 1, 2; figure 3 = sum of items 0 and 2, kept; figure 4 = item 3 minus item 1
 unfoldable pub daySheet : Sheet

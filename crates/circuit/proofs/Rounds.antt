@@ -182,25 +182,25 @@ module _ (S : Sheet) (ordered : Ordered S) (rank : ℕ → ℕ) (rises : (c p : 
     no-higher : (j : ℕ) → j < size S → rank j ≡ k → stage (U j) ≤ stage (T j)
     lower : i < size S → rank i ≡ k → stage (U i) ≤ oneLess (stage (T i))
 
+  turn-marked : (k i : ℕ) (T : Table) → Calm k T → i < size S → isMarked (T i) ≡ true → Dec (rank i < k) → Turn k i T (stepItem S T i)
+  turn-marked k i T calm low marked (yes below) = never (cc (sym (calm i low below) ∙ marked))
+  turn-marked k i T calm low marked (no above) =
+      let kept = step-kept k i T low (omega arith) calm in
+      let own = own-lower T i marked in
+      record {
+        calm = kept .calm;
+        no-higher = λ j low′ here. by-item j low′ here kept (eqb j i) refl;
+        lower = λ low′ here. less-one (stage (stepItem S T i i)) (stage (T i)) own;
+      }
+    where
+      by-item : (j : ℕ) → j < size S → rank j ≡ k → Kept k i T (stepItem S T i) → (b : Bool) → eqb j i ≡ b → stage (stepItem S T i j) ≤ stage (T j)
+      by-item j low′ here kept true e = rw (eqb-true j i e) (omega (arith, own-lower T i marked))
+      by-item j low′ here kept false e = kept .others j low′ here (eqb-false j i e)
+
   turn : (k i : ℕ) (T : Table) → Calm k T → Turn k i T (perform S T (step i) .table)
   unfolding tests firstCause effect
   turn k i T calm = go (firstCause (tests S T (step i))) refl
     where
-      stepped : i < size S → isMarked (T i) ≡ true → Dec (rank i < k) → Turn k i T (stepItem S T i)
-      stepped low marked (yes below) = never (cc (sym (calm i low below) ∙ marked))
-      stepped low marked (no above) =
-          let kept = step-kept k i T low (omega arith) calm in
-          let own = own-lower T i marked in
-          record {
-            calm = kept .calm;
-            no-higher = λ j low′ here. by-item j low′ here kept (eqb j i) refl;
-            lower = λ low′ here. less-one (stage (stepItem S T i i)) (stage (T i)) own;
-          }
-        where
-          by-item : (j : ℕ) → j < size S → rank j ≡ k → Kept k i T (stepItem S T i) → (b : Bool) → eqb j i ≡ b → stage (stepItem S T i j) ≤ stage (T j)
-          by-item j low′ here kept true e = rw (eqb-true j i e) (omega (arith, own-lower T i marked))
-          by-item j low′ here kept false e = kept .others j low′ here (eqb-false j i e)
-
       -- a refused step is of an item without a mark, or beyond the sheet
       left-alone : (n : ℕ) → firstCause (tests S T (step i)) ≡ suc n → i < size S → (b : Bool) → isMarked (T i) ≡ b → stage (T i) ≡ 0
       left-alone n e low true m =
@@ -211,7 +211,7 @@ module _ (S : Sheet) (ordered : Ordered S) (rank : ℕ → ℕ) (rises : (c p : 
       go : (n : ℕ) → firstCause (tests S T (step i)) ≡ n → Turn k i T (perform S T (step i) .table)
       go zero e =
           let place = step-passed S T i e in
-          rw (accepted-effect S T (step i) e) (stepped (place .0) (place .1) (decLt (rank i) k))
+          rw (accepted-effect S T (step i) e) (turn-marked k i T calm (place .0) (place .1) (decLt (rank i) k))
       go (suc n) e =
           rw (refused-table S T (step i) n e)
           (record {

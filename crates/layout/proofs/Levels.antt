@@ -2,17 +2,23 @@
 use Prim.Native.Nat.{ℕ, _<_, _≤_}
 use native.Mathlib.Omega.{arith}
 use native.Mathlib.Decide.{decLt}
-use mathlib.Core.Path.{_≡_, ap, _∙_}
+use mathlib.Core.Path.{_≡_, ap}
 use mathlib.Core.List.{List, [], _∷_, map}
 use mathlib.Core.Logic.{inl, inr}
 use lib.ListN.{length, take, List·getD-eq-default}
 use lib.Seq.{getD-take}
 use Rattle.circuit.specs.Circuit.{Listed}
 use Rattle.circuit.specs.Sheet.{parentsOf, parents}
-use Rattle.layout.specs.Layout.{LayoutItem, entryField, figureField, levelLimit, machineItem, machineSheet}
+use Rattle.layout.specs.Layout.{LayoutItem, entryField, figureField, highest, levelLimit, machineItem, machineSheet}
 use Rattle.layout.specs.Read.{Placed, placed, levelOf, itemLevel, opens, readSheet, layoutOf}
-use Rattle.layout.proofs.Highest.{highest-above}
 use Rattle.layout.proofs.Scan.{placedAt, machine-item, opened-fits, opened-ordered}
+
+-- none of some levels is above the highest of them
+highest-above : (xs : List ℕ) (x : ℕ) → Listed x xs → x ≤ highest xs
+unfolding highest
+highest-above [] x l = absurd l
+highest-above (y ∷ ys) x (inl e) = omega arith
+highest-above (y ∷ ys) x (inr l) = let h = highest-above ys x l in omega arith
 
 listed-map : (f : ℕ → ℕ) (p : ℕ) (ps : List ℕ) → Listed p ps → Listed (f p) (map f ps)
 listed-map f p [] l = absurd l

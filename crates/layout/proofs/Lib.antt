@@ -2,7 +2,6 @@ pub mod Scan
 pub mod Items
 pub mod Exactly
 pub mod IndexLaws
-pub mod Highest
 pub mod Levels
 pub mod Tests
 pub mod Causes

@@ -12,13 +12,12 @@ use borrow.Author.Tests.{lt-ltb, le-ltb}
 use Rattle.circuit.specs.Value.{Value}
 use Rattle.circuit.specs.Circuit.{LeadsTo}
 use Rattle.circuit.specs.Sheet.{Sheet, Ordered, Entries, size, itemAt, isFigure, circuitOf}
-use Rattle.circuit.specs.Table.{Table, Mark, unmarked, unk, held, isStored, markOf, valueIn, opened}
+use Rattle.circuit.specs.Table.{Table, Mark, unmarked, unk, held, isStored, valueIn, opened}
 use Rattle.circuit.specs.Call.{Call, post, keep, drop, step, ask, board, close, Posting, Opening, bare, full}
 use Rattle.circuit.specs.Calls.{Outcome, firstCause, tests, effect, perform, run, postingsMade, postingBy, postings, postingOf, postedValue, ifAccepted as ifMade}
 use Rattle.circuit.specs.Board.{listed, listsWrong}
 use Rattle.circuit.specs.Fresh.{blank, give, freshAsk, freshAsks, freshRun}
 use Rattle.circuit.specs.Closing.{closeAll}
-use Rattle.circuit.specs.Words.{Quiet}
 use Rattle.circuit.proofs.Solution.{figure-below}
 use Rattle.circuit.proofs.Offices.{Agree, Answers, Shows, two-offices, opened-sound}
 use Rattle.circuit.proofs.Retention.{Retained, retention}
@@ -38,14 +37,14 @@ use Rattle.field.specs.Field.{cutAt}
 use Rattle.field.specs.declared.Cut.{Cut}
 use Rattle.field.specs.declared.Cut.the-variants.{Field, Short, Absent}
 use Rattle.table.specs.Rows.{row}
-use Rattle.table.specs.Record.{width, kindIn, markIn, numberIn, markCode}
+use Rattle.table.specs.Record.{width, kindIn, markIn, numberIn}
 use Rattle.table.specs.Bytes.{encodeTable, Holdable}
-use Rattle.table.proofs.Tables.{encoded-kind, encoded-mark, encoded-number, encodeTable-ext, bare-holdable, full-holdable}
+use Rattle.table.proofs.Tables.{encoded-kind, encoded-number, encodeTable-ext, bare-holdable, full-holdable}
 use Rattle.office.specs.Office.{Office, keeping, Given, resultsLent, accepted, openingTests, unlessRefused, callOn, openRead, openOn, runOn, kindRead, numberRead}
 use Rattle.office.specs.Demand2Words.{answerOf}
 use Rattle.office.specs.Demand3Words.{Posted, postOf, ifAccepted, acceptedPosts, freshAnswer, SameReading, Shown, shown, boardAfter, freshShown, freshBoard, SameBoard, SameAnswers}
 use Rattle.office.specs.Demand3Words.{storedIn, StaysStored, Retains}
-use Rattle.office.proofs.Cells.{kind-cell, parts-same, mark-cell, code-unmarked}
+use Rattle.office.proofs.Cells.{kind-cell, parts-same, quiet-encoded}
 use Rattle.office.proofs.Holdable.{run-holdable, perform-holdable}
 use Rattle.office.proofs.Bridge.{Within, perform-within, run-within, resultsBy, givenBy, call-performs, run-performs}
 
@@ -372,12 +371,6 @@ module _ (s : List ℕ) (edition : ℕ) (ps : List Placed) (reads : readSheet s 
   stored-is : (T : Table) (k : ℕ) → k < size (sheetRead edition ps) → not (eqb (kindIn (row width (encodeTable (sheetRead edition ps) T) k)) 0) ≡ isStored (T k)
   stored-is T k low = ap (λ x. not (eqb x 0)) (encoded-kind (sheetRead edition ps) T k low) ∙ kind-cell (T k)
 
-  pub mark-is : (T : Table) (k : ℕ) → k < size (sheetRead edition ps) → markIn (row width (encodeTable (sheetRead edition ps) T) k) ≡ markCode (markOf (T k))
-  mark-is T k low = encoded-mark (sheetRead edition ps) T k low ∙ mark-cell (T k)
-
-  pub quiet-is : (T : Table) → ((k : ℕ) → k < size (sheetRead edition ps) → markIn (row width (encodeTable (sheetRead edition ps) T) k) ≡ 0) → Quiet (sheetRead edition ps) T
-  quiet-is T h k low = code-unmarked (markOf (T k)) (sym (mark-is T k low) ∙ h k low)
-
   -- kind and number of a stored record, by the value that its cell holds
   held-same : (T U : Table) (k : ℕ) → k < size (sheetRead edition ps) → isStored (T k) ≡ true → isStored (U k) ≡ true → valueIn (U k) ≡ valueIn (T k)
       → (kindIn (row width (at U .table) k) ≡ kindIn (row width (at T .table) k)) × (numberIn (row width (at U .table) k) ≡ numberIn (row width (at T .table) k))
@@ -412,7 +405,7 @@ module _ (s : List ℕ) (edition : ℕ) (ps : List Placed) (reads : readSheet s 
   table-stays E T sound h w p is marks e kind z accepts ds none-made k low fig away was =
       subst₂ (λ a b. StaysStored (a .table) ds (b .table) k) (sym is) (sym ran)
       (stays T ds (run X U ds) k low
-      (retention X ordered T (sound .invariant) (sound .formed) (quiet-is T (λ j l. ap (λ b. markIn (row width (b .table) j)) (sym is) ∙ marks j l)) e kind z ds none k low
+      (retention X ordered T (sound .invariant) (sound .formed) (quiet-encoded X T (λ j l. ap (λ b. markIn (row width (b .table) j)) (sym is) ∙ marks j l)) e kind z ds none k low
       (outside e k entry-e fig, away))
       (ap (λ b. storedIn (b .table) k) (sym is) ∙ was))
     where

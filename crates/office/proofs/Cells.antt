@@ -67,12 +67,12 @@ unfolding encodeCell
 mark-cell (unk b) = refl
 mark-cell (held v m) = refl
 
-pub code-unmarked : (m : Mark) → markCode m ≡ 0 → isMark m ≡ false
+code-unmarked : (m : Mark) → markCode m ≡ 0 → isMark m ≡ false
 code-unmarked unmarked e = refl
 code-unmarked refresh e = absurd (omega arith)
 code-unmarked notice e = absurd (omega arith)
 
-pub unmarked-code : (m : Mark) → isMark m ≡ false → markCode m ≡ 0
+unmarked-code : (m : Mark) → isMark m ≡ false → markCode m ≡ 0
 unmarked-code unmarked e = refl
 unmarked-code refresh e = let bad : _≡_ {A = ℕ} 0 1 = cc in absurd (omega arith)
 unmarked-code notice e = let bad : _≡_ {A = ℕ} 0 1 = cc in absurd (omega arith)
@@ -95,3 +95,7 @@ stored-encoded S U h k low n = go (U k) refl
 -- where no cell is marked, no mark stands in the encoding
 pub encoded-quiet : (S : Sheet) (U : Table) → Quiet S U → NoMarkStands S (encodeTable S U)
 encoded-quiet S U quiet k low = encoded-mark S U k low ∙ mark-cell (U k) ∙ unmarked-code (markOf (U k)) (quiet k low)
+
+-- and where no mark stands in the encoding, no cell is marked
+pub quiet-encoded : (S : Sheet) (U : Table) → NoMarkStands S (encodeTable S U) → Quiet S U
+quiet-encoded S U none-stands k low = code-unmarked (markOf (U k)) (sym (encoded-mark S U k low ∙ mark-cell (U k)) ∙ none-stands k low)

@@ -42,7 +42,7 @@ use Rattle.office.specs.Office.{Office, keeping, resultsLent, callOn, op
 use Rattle.office.specs.Demand1Words.{AcceptedLent}
 use Rattle.office.specs.Demand2Words.{answerOf, reading, valueOf, entriesIn, Stores, NoMarkStands, readingIn, CloseLeaves}
 use Rattle.office.specs.Demand3Words.{Posted, ifAccepted, acceptedPosts, askAfter, freshAnswer, freshFrom, ClosesRight}
-use Rattle.office.proofs.Cells.{held-kind, held-number, parts-same, encoded-quiet}
+use Rattle.office.proofs.Cells.{held-kind, held-number, parts-same, encoded-quiet, quiet-encoded}
 use Rattle.office.proofs.Holdable.{perform-holdable, run-holdable}
 use Rattle.office.proofs.Bridge.{Within, perform-within, run-within, run-performs, decode-within, givenBy}
 use Rattle.office.proofs.Agreeing as opened
@@ -301,7 +301,7 @@ module _ (s : List ℕ) (edition : ℕ) (ps : List Placed) (reads : readSheet s 
           }
 
       still : Quiet X W
-      still = opened.quiet-is s edition ps reads W (λ i low. ap (λ p. markIn (row width (p .table) i)) (sym ran) ∙ quiet i low)
+      still = quiet-encoded X W (λ i low. ap (λ p. markIn (row width (p .table) i)) (sym ran) ∙ quiet i low)
 
       same : (i : ℕ) → i < size X → run X W (keepEvery X) i ≡ closeAll X T₁ i
       same i low = keeps-at X rising E₁ W caught still i low ∙ sym (close-at X rising E₁ T₁ (sound .holds) i low)

@@ -1,4 +1,5 @@
--- For each number from 1 to 14, and for 17, an input that is given it, and calls that are accepted. By computation. Assumes nothing.
+-- For each number from 1 to 14, and for 17, an input that is given it, and calls that are accepted, also on tables that the engine has not
+-- written. By computation. Assumes nothing.
 use Prim.Native.Nat.{ℕ, zero, suc, _+_, _-_}
 use native.Mathlib.Omega.{arith}
 use mathlib.Core.Bool.{Bool, true, _&&_}
@@ -312,3 +313,25 @@ pub example-close : callOn exampleBytes
     (owing (3 ∷ 0 ∷ bytes64 (pos 1000)) ++ owing (3 ∷ 0 ∷ bytes64 (pos 300)) ++ owing nullRecord ++ owing (3 ∷ 0 ∷ bytes64 (pos 1000)) ++ unowed (3 ∷ 0 ∷ bytes64 (pos 700))))
 unfolding calls machine exampleBytes exampleIndex
 example-close = refl
+
+-- A chain of sums: entry A, figures B, C and D of the item before each; B and C renew, D defers.
+unfoldable pub chainBytes : List ℕ
+chainBytes =
+    0x01 ∷ 0x04 ∷ 0x00 ∷ 0x01 ∷ 0x00 ∷ 0x04 ∷ 0x00
+    ∷ 0x02 ∷ 0x01 ∷ 0x00 ∷ 0x41
+    ∷ 0x03 ∷ 0x07 ∷ 0x00 ∷ 0x01 ∷ 0x01 ∷ 0x01 ∷ 0x01 ∷ 0x00 ∷ 0x00 ∷ 0x42
+    ∷ 0x03 ∷ 0x07 ∷ 0x00 ∷ 0x01 ∷ 0x01 ∷ 0x01 ∷ 0x01 ∷ 0x01 ∷ 0x00 ∷ 0x43
+    ∷ 0x03 ∷ 0x07 ∷ 0x00 ∷ 0x01 ∷ 0x01 ∷ 0x00 ∷ 0x01 ∷ 0x02 ∷ 0x00 ∷ 0x44
+    ∷ 0x04 ∷ 0x00 ∷ 0x00 ∷ []
+
+-- a table for it that others wrote: C and D hold what no parent gave them
+unfoldable pub foreign : Office
+foreign =
+    keeping (7 ∷ 0 ∷ 0 ∷ 0 ∷ 11 ∷ 0 ∷ 0 ∷ 0 ∷ 21 ∷ 0 ∷ 0 ∷ 0 ∷ 31 ∷ 0 ∷ 0 ∷ 0 ∷ [])
+    (owing (3 ∷ 2 ∷ bytes64 (pos 1)) ++ owing (1 ∷ 2 ∷ zeros8) ++ owing (3 ∷ 0 ∷ bytes64 (pos 1)) ++ unowed (3 ∷ 2 ∷ bytes64 (pos 2)))
+
+-- It is accepted, and there the order of steps can be read: D is 2, and 1 after a step of B.
+pub foreign-order : (answers chainBytes foreign (ask 3 ∷ []) ≡ answer 0 3 (pos 2) ∷ [])
+    × (answers chainBytes foreign (step 1 ∷ ask 3 ∷ []) ≡ answer 0 0 (pos 0) ∷ answer 0 3 (pos 1) ∷ [])
+unfolding calls machine answers chainBytes foreign
+foreign-order = (refl, refl)

@@ -38,7 +38,7 @@ module _ (s : List ℕ) (kept : Office) (lent : AcceptedLent s kept) where
   abbrev t : List ℕ
   t = kept .table
 
-  pub performed : (c : Call) → NoneHolds (ownCauses (sheetOf s) t c) → callOn s kept c ≡ effectOn (sheetOf s) kept (effect (sheetOf s) (decodeTable t) c)
+  performed : (c : Call) → NoneHolds (ownCauses (sheetOf s) t c) → callOn s kept c ≡ effectOn (sheetOf s) kept (effect (sheetOf s) (decodeTable t) c)
   performed c own = call-accepted s kept c (record { sheet = lent .sheet; lent = (lent .lent .0, (lent .lent .1 .0, (lent .lent .1 .1 .0, own))) })
 
   pub ask-performed : (i : ℕ) → i < size (sheetOf s) → callOn s kept (ask i) ≡ effectOn (sheetOf s) kept (effect (sheetOf s) (decodeTable t) (ask i))

@@ -53,12 +53,13 @@ impl Order {
         }
     }
 
-    /// From the lowest no item is stepped more than twice. A round is the last for the entries, and
-    /// two more are for each level: nothing marks it when those below have no mark.
-    fn within(&self, items: &[Item], taken: usize) -> bool {
+    /// From the lowest no item is stepped more than twice; this one was stepped so many times. A round
+    /// is the last for the entries, and two more are for each level: nothing marks it when those below
+    /// have no mark.
+    fn within(&self, items: &[Item], times: usize) -> bool {
         let levels = items.iter().map(|item| item.level).max().unwrap();
         match self.which {
-            0 => taken <= 2 * items.len(),
+            0 => times <= 2,
             3 => self.rounds <= 1 + 2 * levels,
             _ => true,
         }
@@ -126,20 +127,21 @@ pub fn take(
     order: &mut Order,
     limit: usize,
 ) -> Result<(Lent, usize), String> {
-    let (mut lent, mut taken) = (start.clone(), 0);
+    let (mut lent, mut taken, mut times) = (start.clone(), 0, vec![0; items.len()]);
     while let Some(item) = order.next(&mut c.rng, &lent.table).filter(|_| taken < limit) {
         let step = Act::Give(Call::Step { item: item as u64 });
         expect("a step of a marked item", c.act(&step, &mut lent)?.number, 0)?;
         taken += 1;
-        if !order.within(items, taken) {
+        times[item] += 1;
+        if !order.within(items, times[item]) {
             return Err(start.dump(&format!("{taken} steps, {}", ORDERS[order.which])));
         }
     }
-    let (times, ended) = (&mut c.tally.orders, no_mark(&lent.table));
-    times.ended[order.which] += ended as u64;
-    times.interrupted[order.which] += !ended as u64;
-    times.most = times.most.max(taken as u64);
-    times.taken += taken as u64;
+    let (met, ended) = (&mut c.tally.orders, no_mark(&lent.table));
+    met.ended[order.which] += ended as u64;
+    met.interrupted[order.which] += !ended as u64;
+    met.most = met.most.max(taken as u64);
+    met.taken += taken as u64;
     Ok((lent, taken))
 }
 
@@ -214,17 +216,17 @@ mod tests {
         }
         // Items at levels 0 to 3.
         let items = read_sheet(&plain_chain(3)).unwrap();
-        for (which, taken, rounds, right) in [
-            (0, 8, 1, true),
-            (0, 9, 1, false),
-            (1, 9, 1, true),
-            (2, 9, 1, true),
-            (3, 9, 7, true),
-            (3, 9, 8, false),
+        for (which, times, rounds, right) in [
+            (0, 2, 1, true),
+            (0, 3, 1, false),
+            (1, 3, 1, true),
+            (2, 3, 1, true),
+            (3, 3, 7, true),
+            (3, 3, 8, false),
         ] {
             order.rounds = rounds;
             order.which = which;
-            assert_eq!(order.within(&items, taken), right);
+            assert_eq!(order.within(&items, times), right);
         }
     }
 }

@@ -224,8 +224,9 @@ impl Tally {
 
     /// The refusals that some function can give, or a day print, the lists of boards, the tables and
     /// sheets of closes, what is done to owed bytes and false ones, the parents of choices, what steps
-    /// do and their orders, and numbers of each length in print, that were never met; also products of shares beyond a signed
-    /// 64-bit number, and values of the choice of before, if they were fewer than one in twenty.
+    /// do and their orders, and numbers of each length in print, that were never met; also products of
+    /// shares beyond a signed 64-bit number, and values of the choice of before, if they were fewer than
+    /// one in twenty.
     pub fn never_met(&self) -> Vec<String> {
         let mut missing = Vec::new();
         for ((name, numbers), given) in FUNCTIONS.iter().zip(&self.given) {
