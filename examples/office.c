@@ -44,7 +44,7 @@ struct office {
 /* ---- Showing items ---- */
 
 /* The widest value is -ROZHINAL_LIMIT: a sign and 16 digits. */
-enum { VALUE_COLUMNS = 17, OWED_AT = 10 };
+enum { VALUE_COLUMNS = 17, MARK_AT = 1, OWED_AT = 10 };
 
 /* A value at the right end of so many columns; 0 for just its length. */
 static void print_value(int columns, uint64_t kind, int64_t number)
@@ -316,25 +316,35 @@ static void list_one(const struct office *office, uint64_t item)
 
 /* ---- Catching up ---- */
 
-/* Set by Ctrl-C while the office works; it then stops between two steps. */
-static volatile sig_atomic_t told_to_stop;
+/* While the office works, Ctrl-C is blocked: it is looked for between two steps. */
+struct interrupts {
+    sigset_t blocked, before;
+    bool ignored; /* as it was when the office was started, and stays */
+};
 
-static void tell_to_stop(int signal)
+static void block_interrupts(struct interrupts *interrupts)
 {
-    (void)signal;
-    told_to_stop = 1;
+    struct sigaction action;
+    sigaction(SIGINT, NULL, &action);
+    interrupts->ignored = action.sa_handler == SIG_IGN;
+    sigemptyset(&interrupts->blocked);
+    sigaddset(&interrupts->blocked, SIGINT);
+    sigprocmask(SIG_BLOCK, &interrupts->blocked, &interrupts->before);
 }
 
-/* From now on Ctrl-C tells the office to stop, unless it was ignored; gives what it did before. */
-static struct sigaction hear_stop(void)
+static void unblock_interrupts(const struct interrupts *interrupts)
 {
-    struct sigaction stop = { .sa_handler = tell_to_stop, .sa_flags = SA_RESTART }, before;
-    sigemptyset(&stop.sa_mask);
-    told_to_stop = 0;
-    sigaction(SIGINT, NULL, &before);
-    if (before.sa_handler != SIG_IGN)
-        sigaction(SIGINT, &stop, NULL);
-    return before;
+    sigprocmask(SIG_SETMASK, &interrupts->before, NULL);
+}
+
+/* Whether Ctrl-C has come since the last look. */
+static bool is_interrupted(const struct interrupts *interrupts)
+{
+    sigset_t pending;
+    int taken;
+    sigpending(&pending);
+    return !interrupts->ignored && sigismember(&pending, SIGINT) == 1
+           && sigwait(&interrupts->blocked, &taken) == 0;
 }
 
 /* The line of counts that `work` shows; it goes on below at the end of the columns. */
@@ -369,7 +379,7 @@ static void show_count(struct progress *progress, size_t marked)
 
 static bool is_marked(const struct office *office, size_t i)
 {
-    return office->book.table[ROZHINAL_TABLE_BYTES(i) + 1] != ROZHINAL_MARK_NONE;
+    return office->book.table[ROZHINAL_TABLE_BYTES(i) + MARK_AT] != ROZHINAL_MARK_NONE;
 }
 
 static size_t count_marked(const struct office *office)
@@ -406,21 +416,25 @@ static bool step_first(struct office *office, struct progress *progress)
  */
 static void work(struct office *office)
 {
-    struct progress progress = { SIZE_MAX, printf("%s", progress_word) };
-    struct sigaction before = hear_stop();
+    struct interrupts interrupts;
+    block_interrupts(&interrupts);
+    struct progress progress = { 0, 0 };
     size_t marked = count_marked(office);
+    bool interrupted = is_interrupted(&interrupts);
+    progress.column = printf("%s", progress_word);
     show_count(&progress, marked);
-    while (marked > 0 && !told_to_stop && step_first(office, &progress)) {
+    while (marked > 0 && !interrupted && step_first(office, &progress)) {
         marked = count_marked(office);
         if (marked != progress.shown)
             show_count(&progress, marked);
+        interrupted = is_interrupted(&interrupts);
     }
     end_line(&progress);
     if (marked > 0)
-        printf("stopped: %zu %s still marked; asks are right all the same, and work goes on from "
-               "here\n",
-               marked, marked == 1 ? "item is" : "items are");
-    sigaction(SIGINT, &before, NULL);
+        printf("stopped: %zu %s still marked; %swork goes on from here\n", marked,
+               marked == 1 ? "item is" : "items are",
+               interrupted ? "asks are right all the same, and " : "");
+    unblock_interrupts(&interrupts);
 }
 
 /* ---- Verbs ---- */

@@ -280,11 +280,11 @@ rozhinal_answer rozhinal_drop(const uint8_t *sheet, size_t sheet_len,
  * Marked items may be stepped in any order. On every accepted table of n items, accepted steps with
  * no other call between them number fewer than 3 to the power n, and can go on until no mark is
  * left. With the lowest marked item each time there are at most 2n; other orders can take many
- * more. A list of all items in any order, gone over again and again, has no mark left after 130
- * rounds, if each item that is marked at its turn is stepped once and no other call comes between.
- * On a table that only the library has written since its opening, an ask after any of the steps
- * gives what it would have given before the first (it does the steps that are left, so that a later
- * step may get 14), and when no mark is left, what is stored is what an ask gives.
+ * more. If all items are gone over in rounds, in any order, with a step of each that is marked at
+ * its turn and no other call between, no mark is left after 130 rounds. On a table that only the
+ * library has written since its opening, an ask after any of the steps gives what it would have
+ * given before the first (it does the steps that are left, so that a later step may get 14), and
+ * when no mark is left, what is stored is what an ask gives.
  */
 rozhinal_answer rozhinal_step(const uint8_t *sheet, size_t sheet_len,
                               const uint8_t *index, size_t index_len,

@@ -140,6 +140,7 @@ fn run_part(
 #[cfg(test)]
 mod tests {
     use super::*;
+    use crate::harness::orders::run_small;
     use crate::harness::sequences::run_sequences;
     use crate::mock::{Mock, Wrong};
 
@@ -277,11 +278,13 @@ mod tests {
     #[test]
     fn wrong_steps_are_found() {
         let plan = Plan { calls: 0, offices: 0, orders: 4, ..SHORT };
-        for wrong in Wrong::steps() {
+        for wrong in Wrong::STEPS {
             let found = try_mock(&plan, wrong).unwrap_err();
             assert!(found.contains("--seed 5 --part"), "{wrong:?}: {found}");
             let mut mock = Mock(wrong);
             let mut c = Comparison::new(&mut mock, Rng::part(5, 0));
+            let found = (0..4).find_map(|part| run_small(&mut c, part).err());
+            assert!(found.is_some(), "{wrong:?} was not found on small sheets");
             let found = (0..150).find_map(|_| run_sequences(&mut c).err());
             assert!(found.is_some(), "{wrong:?} was not found by an office");
         }

@@ -4,13 +4,13 @@
 use super::closes::{fresh_of, table_of};
 use super::compare::{Act, Lent};
 use super::fixed::expect;
-use super::orders::{is_marked, Acts, Explored};
+use super::orders::{Acts, Explored};
 use crate::model::board::Board;
 use crate::model::calls::Call;
 use crate::model::field::i64_at;
 use crate::model::fresh::FreshOffice;
 use crate::model::sheet::{read_sheet, Item};
-use crate::model::table::{to_pair, OWED, RECORD};
+use crate::model::table::{no_mark, to_pair, OWED, RECORD};
 use std::collections::HashSet;
 
 /// Kind and number of each item.
@@ -19,10 +19,6 @@ pub type Solution = Vec<(u8, i64)>;
 /// What a fresh office gives for each item.
 pub fn values_of(fresh: &FreshOffice) -> Solution {
     fresh.all().into_iter().map(to_pair).collect()
-}
-
-pub fn no_mark(table: &[u8]) -> bool {
-    (0..table.len() / RECORD).all(|item| !is_marked(table, item))
 }
 
 /// Asks for these items, each on a copy, give these values and leave no mark. What they leave.

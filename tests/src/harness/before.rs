@@ -13,7 +13,7 @@ use crate::model::board::encode_results;
 use crate::model::calls::Call;
 use crate::model::field::i64_at;
 use crate::model::sheet::{read_sheet, Item};
-use crate::model::table::{decode, to_pair, RECORD};
+use crate::model::table::{decode, is_marked, to_pair, RECORD};
 use crate::rng::Rng;
 
 /// Both sides of a list.
@@ -50,13 +50,9 @@ pub fn run_before(c: &mut Comparison) -> Result<(), String> {
 }
 
 impl Sides<'_> {
-    fn is_marked(&self, item: usize) -> bool {
-        self.lent.table[RECORD * item + 1] != 0
-    }
-
     /// Any call, some of them steps of an item that is marked on one side alone.
     fn next_call(&self, rng: &mut Rng, numbers: Numbers) -> Call {
-        let one_side = |&i: &usize| self.is_marked(i) != self.before.is_marked(i);
+        let one_side = |&i: &usize| is_marked(&self.lent.table, i) != self.before.is_marked(i);
         let marked: Vec<usize> = (0..self.items.len()).filter(one_side).collect();
         if !marked.is_empty() && rng.percent(30) {
             return Call::Step { item: *rng.pick(&marked) as u64 };

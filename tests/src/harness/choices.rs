@@ -11,10 +11,10 @@ use crate::gen;
 use crate::guarded::Guarded;
 use crate::mock::{Mock, Wrong};
 use crate::model::calls::{Call, Reply};
-use crate::model::field::{i64_at, u16_at};
+use crate::model::field::{i64_at, u16_at, u32_at};
 use crate::model::machine::Machine;
 use crate::model::sheet::{read_sheet, Item};
-use crate::model::table::{decode, RECORD};
+use crate::model::table::{decode, no_mark, RECORD};
 use crate::model::value::Value;
 use crate::rng::Rng;
 
@@ -51,7 +51,7 @@ fn worked_on(act: &Act, before: &Lent) -> Option<(usize, Vec<usize>)> {
 
 /// Whether an item is a choice, by the bytes of its field.
 fn is_choice(lent: &Lent, item: usize) -> bool {
-    let at = u32::from_le_bytes(lent.index[4 * item..][..4].try_into().unwrap()) as usize;
+    let at = u32_at(&lent.index, 4 * item) as usize;
     (lent.sheet[at], lent.sheet[at + 3]) == (3, 6)
 }
 
@@ -113,10 +113,6 @@ fn strict_table(rng: &mut Rng, sheet: Vec<u8>, items: &[Item]) -> Lent {
     Lent { sheet, index, table }
 }
 
-fn is_unmarked(lent: &Lent) -> bool {
-    lent.table.chunks(RECORD).all(|record| record[1] == 0)
-}
-
 /// An ask for a stored item gives what is stored, if no mark stands.
 fn reads_stored(c: &mut Comparison, lent: &Lent) -> Result<(), String> {
     for (item, record) in (0..).zip(lent.table.chunks(RECORD)).filter(|(_, record)| record[0] != 0)
@@ -141,7 +137,7 @@ pub fn run_choices(c: &mut Comparison) -> Result<(), String> {
     opened_anew(c, &items, &lent)?;
     let mut closed = lent.clone();
     plain_close(c, &mut closed, &mut None)?;
-    if is_unmarked(&lent) {
+    if no_mark(&lent.table) {
         reads_stored(c, &lent)?;
         let mut records = lent.table.chunks(RECORD).zip(closed.table.chunks(RECORD));
         c.tally.strict_values += records.any(|(old, new)| old[0] != 0 && old != new) as u64;

@@ -1,16 +1,17 @@
-//! Orders of steps that are the same in every run: all of them on sheets of one and two items and on
-//! some of three and four, lists spelled out, and how long a bad order can be.
+//! Orders of steps that are the same in every run: all of them on sheets of one item and two and on
+//! some of three and four, lists spelled out, and how many steps and rounds there can be.
 
-use super::arrivals::{asks, board_and_close, no_mark, quiet, values_of};
+use super::arrivals::{asks, quiet, values_of};
 use super::closes::fresh_of;
-use super::compare::{Act, Comparison, Lent};
+use super::compare::{Act, Comparison};
 use super::fixed::{expect, opened, post};
 use super::fixed_owed::{drop, entry, keep, list, posted, step, sum};
-use super::orders::{explore, since_openings};
-use super::sequences::{take, Order};
+use super::orders::{explore, since_openings, try_lists, try_orders};
+use super::sequences::{ladder, run_ladder, take, Order};
 use super::small::{Small, FEW, FOUR, MANY, ONE, THREE, TWO};
-use crate::gen::{write_sheet, Spec};
+use crate::gen::plain_chain;
 use crate::model::sheet::read_sheet;
+use crate::model::table::no_mark;
 
 pub fn run_fixed_orders(c: &mut Comparison) -> Result<(), String> {
     every_order(c)?;
@@ -18,7 +19,8 @@ pub fn run_fixed_orders(c: &mut Comparison) -> Result<(), String> {
     diamond(c)?;
     flagged(c)?;
     highest_first(c)?;
-    interrupted(c)
+    interrupted(c)?;
+    most_rounds(c)
 }
 
 /// The sheets in each of their ways.
@@ -33,15 +35,19 @@ fn every_order(c: &mut Comparison) -> Result<(), String> {
         explore(c, &sheet, &MANY)?;
     }
     for (small, way) in THREE.iter().zip((0..).step_by(11)) {
-        explore(c, &small.sheet(way % small.ways()), &FEW)?;
+        try_orders(c, &small.sheet(way % small.ways()), &FEW)?;
     }
-    explore(c, &FOUR[3].sheet(34), &FEW)
+    try_orders(c, &FOUR[3].sheet(34), &FEW).map(|_| ())
 }
 
-/// All that calls leave since the openings, of each sheet of two items in one way, and of some of three.
+/// All that calls leave since the openings, of each sheet of one item and two in one way, and of some of
+/// three.
 fn every_list(c: &mut Comparison) -> Result<(), String> {
-    for (small, way) in ONE.iter().chain(&TWO).chain(THREE.iter().step_by(3)).zip(0..) {
+    for (small, way) in ONE.iter().chain(&TWO).zip(0..) {
         since_openings(c, &small.sheet(7 * way % small.ways()), &MANY.entries[..2])?;
+    }
+    for (small, way) in THREE.iter().step_by(3).zip(8..) {
+        try_lists(c, &small.sheet(7 * way % small.ways()), &MANY.entries[..2])?;
     }
     Ok(())
 }
@@ -99,39 +105,14 @@ fn flagged(c: &mut Comparison) -> Result<(), String> {
     list(c, &specs, &[&begun[..], &orders[1], &ends].concat())
 }
 
-/// Figures that each sum all items below them, stored by an opening, and a post to the entry.
-fn summed(c: &mut Comparison, items: usize) -> Result<Lent, String> {
-    let mut specs: Vec<Spec> = vec![entry()];
-    specs.extend((1..items as u16).map(|i| sum(0, 0, &(0..i).collect::<Vec<u16>>())));
-    let (mut lent, _) = opened(c, write_sheet(&specs), items, true)?;
-    expect("a post", c.act(&Act::Give(post(0, 1)), &mut lent)?.number, 0)?;
-    Ok(lent)
-}
-
-/// From the lowest these take two steps for a figure, and from the highest 2^n - 1: each change of an
-/// item is followed by all the steps of the items above it. In every order they come to the same end.
+/// Ladders that are followed to their ends in each order.
 fn highest_first(c: &mut Comparison) -> Result<(), String> {
-    for items in 2..=8 {
-        let start = summed(c, items)?;
-        let read = read_sheet(&start.sheet).unwrap();
-        for (which, right) in
-            [Some(2 * items - 1), Some((1 << items) - 1), None, None].into_iter().enumerate()
-        {
-            let mut order = Order::new(&mut c.rng, which, items);
-            let (end, taken) = take(c, &read, &start, &mut order, usize::MAX)?;
-            expect("steps until no mark is left", taken as u64, right.unwrap_or(taken) as u64)?;
-            let fresh = fresh_of(&read, &start.table);
-            let all: Vec<usize> = (0..items).collect();
-            quiet(c, &end, &values_of(&fresh), &read, &all)?;
-            board_and_close(c, &end, &fresh, &read, &all)?;
-        }
-    }
-    Ok(())
+    (2..=8).try_for_each(|items| run_ladder(c, items))
 }
 
-/// A sheet that from the highest would take 131,071 steps, after so many of them: asks are right.
+/// A sheet that from the highest takes 131,071 steps, after so many of them: asks are right.
 fn interrupted(c: &mut Comparison) -> Result<(), String> {
-    let start = summed(c, 17)?;
+    let start = ladder(c, 17)?;
     let items = read_sheet(&start.sheet).unwrap();
     let values = values_of(&fresh_of(&items, &start.table));
     for limit in [0, 1, 2, 3, 50] {
@@ -146,23 +127,35 @@ fn interrupted(c: &mut Comparison) -> Result<(), String> {
     Ok(())
 }
 
+/// A chain of 64 levels, stored, after a post, on a screen with the highest item first: a round for the
+/// entry, and two for each level.
+fn most_rounds(c: &mut Comparison) -> Result<(), String> {
+    let (mut lent, _) = opened(c, plain_chain(64), 65, true)?;
+    expect("a post", c.act(&Act::Give(post(0, 1)), &mut lent)?.number, 0)?;
+    let items = read_sheet(&lent.sheet).unwrap();
+    let mut order = Order::in_rounds((0..65).rev().collect());
+    let (end, taken) = take(c, &items, &lent, &mut order, usize::MAX)?;
+    expect("steps until no mark is left", taken as u64, 129)?;
+    expect("rounds until no mark is left", order.rounds() as u64, 129)?;
+    quiet(c, &end, &values_of(&fresh_of(&items, &lent.table)), &items, &[0, 1, 63, 64])
+}
+
 #[cfg(test)]
 mod tests {
     use super::*;
     use crate::mock::{Mock, Wrong};
     use crate::rng::Rng;
 
-    fn try_orders(wrong: Wrong) -> Result<(), String> {
+    fn try_mock(wrong: Wrong) -> Result<(), String> {
         run_fixed_orders(&mut Comparison::new(&mut Mock(wrong), Rng::new(1)))
     }
 
     /// Each mock with wrong steps is found by these alone.
     #[test]
     fn wrong_steps_are_found() {
-        try_orders(Wrong::Nothing).unwrap();
-        assert_eq!(Wrong::steps().count(), 41);
-        for wrong in Wrong::steps() {
-            assert!(try_orders(wrong).is_err(), "{wrong:?} was not found");
+        try_mock(Wrong::Nothing).unwrap();
+        for wrong in Wrong::STEPS {
+            assert!(try_mock(wrong).is_err(), "{wrong:?} was not found");
         }
     }
 

@@ -9,7 +9,7 @@ use crate::model::calls::{Call, Reply};
 use crate::model::field::i64_at;
 use crate::model::fresh::FreshOffice;
 use crate::model::sheet::{index_of, read_sheet, Item};
-use crate::model::table::{to_pair, RECORD};
+use crate::model::table::{no_mark, to_pair, RECORD};
 use crate::rng::Rng;
 use std::fmt::Debug;
 
@@ -201,7 +201,7 @@ impl<'i> Office<'i> {
 
     /// What is stored where no mark stands must stay.
     fn note(&mut self, before: &[u8]) {
-        if before.chunks(RECORD).all(|t| t[1] == 0) {
+        if no_mark(before) {
             self.stays = stored(before);
         }
     }
@@ -296,7 +296,7 @@ fn stored(table: &[u8]) -> Vec<Option<(u8, i64)>> {
 }
 
 fn unmarked(call: &dyn Debug, after: &[u8]) -> Result<(), String> {
-    match after.chunks(RECORD).all(|t| t[1] == 0) {
+    match no_mark(after) {
         true => Ok(()),
         false => Err(format!("a mark stands after {call:?}")),
     }

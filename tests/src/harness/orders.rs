@@ -1,18 +1,22 @@
 //! Steps in every order: from each table of a small sheet, whoever wrote it, all sequences of steps
 //! are followed to their ends.
 
-use super::arrivals::{no_mark, Since};
+use super::arrivals::Since;
 use super::compare::{Act, Comparison, Lent};
-use super::sequences::run_sequences;
+use super::sequences::{run_ladder, run_sequences};
 use super::small::{tables, Small, Values, FEW, FOUR, MANY, THREE};
 use crate::model::board::Board;
 use crate::model::calls::{Call, Reply};
+use crate::model::field::u32_at;
 use crate::model::sheet::{index_of, read_sheet};
-use crate::model::table::RECORD;
-use std::collections::HashMap;
+use crate::model::table::{is_marked, no_mark, RECORD};
+use std::collections::{HashMap, HashSet};
 
 /// The most items of a sheet that is explored.
 pub const MOST: usize = 4;
+
+/// A sheet of more items is large.
+pub const LARGE: usize = 100;
 
 /// The orders that an office may have, each with a name.
 pub const ORDERS: [&str; 4] = ["lowest first", "highest first", "any marked item", "in rounds"];
@@ -50,10 +54,12 @@ pub struct Times {
     pub opened_tables: u64,
     /// Those without a mark.
     pub quiet: u64,
-    /// Sequences of larger sheets that came to an end, by their order, and those that were not
-    /// followed to it.
+    /// Sequences of larger sheets that came to an end after some steps, by their order, and those that
+    /// were not followed to it.
     pub ended: [u64; ORDERS.len()],
     pub interrupted: [u64; ORDERS.len()],
+    /// Those that ended on sheets of more items than `LARGE`.
+    pub large: u64,
     /// The most steps that one of them had, and how many all of them had.
     pub most: u64,
     pub taken: u64,
@@ -86,7 +92,7 @@ impl Times {
     pub fn count_step(&mut self, lent: &Lent, item: usize, after: &[u8]) {
         let records = || lent.table.chunks(RECORD).zip(after.chunks(RECORD));
         let (old, new) = records().nth(item).unwrap();
-        let entry = lent.sheet[u32_at(&lent.index, 4 * item)] == 2;
+        let entry = lent.sheet[u32_at(&lent.index, 4 * item) as usize] == 2;
         let notice = old[1] == 2;
         let any = |test: fn(&[u8], &[u8]) -> bool| {
             records().enumerate().any(|(i, (old, new))| i != item && test(old, new))
@@ -109,10 +115,6 @@ impl Times {
     }
 }
 
-fn u32_at(bytes: &[u8], at: usize) -> usize {
-    u32::from_le_bytes(bytes[at..at + 4].try_into().unwrap()) as usize
-}
-
 /// What acts are given to: both sides, or, in tests, a mock alone.
 pub trait Acts {
     fn act(&mut self, act: &Act, lent: &mut Lent) -> Result<Reply, String>;
@@ -133,10 +135,6 @@ impl Acts for Comparison<'_> {
 
 pub fn power(base: u64, items: usize) -> u64 {
     base.pow(items as u32)
-}
-
-pub fn is_marked(table: &[u8], item: usize) -> bool {
-    table[RECORD * item + 1] != 0
 }
 
 /// What is known of a table.
@@ -237,47 +235,82 @@ impl Explored {
     }
 }
 
-/// All sequences of steps from all tables of a sheet with these values.
-pub fn explore(c: &mut Comparison, sheet: &[u8], values: &Values) -> Result<(), String> {
+/// All sequences of steps from all tables of a sheet with these values. How many tables were met.
+pub fn try_orders(c: &mut Comparison, sheet: &[u8], values: &Values) -> Result<u64, String> {
     let explored = Explored::from_all(c, sheet, values)?;
-    c.tally.orders.sheets += 1;
-    c.tally.orders.tables += explored.known.len() as u64;
     c.tally.orders.add(&explored);
+    Ok(explored.known.len() as u64)
+}
+
+/// The same of a sheet that is met nowhere else, so that its tables can be counted.
+pub fn explore(c: &mut Comparison, sheet: &[u8], values: &Values) -> Result<(), String> {
+    c.tally.orders.tables += try_orders(c, sheet, values)?;
+    c.tally.orders.sheets += 1;
     Ok(())
 }
 
-/// All that calls leave since the openings of a sheet, with these values posted.
+/// All that calls leave since the openings of a sheet, with these values posted: all tables.
+pub fn try_lists(
+    c: &mut Comparison,
+    sheet: &[u8],
+    posted: &[(u8, i64)],
+) -> Result<HashSet<Vec<u8>>, String> {
+    let since = Since::explore(c, sheet, posted)?;
+    c.tally.orders.add(&since.explored);
+    Ok(since.met)
+}
+
+/// The same of a sheet that is met nowhere else, so that its tables can be counted.
 pub fn since_openings(
     c: &mut Comparison,
     sheet: &[u8],
     posted: &[(u8, i64)],
 ) -> Result<(), String> {
-    let since = Since::explore(c, sheet, posted)?;
+    let met = try_lists(c, sheet, posted)?;
     c.tally.orders.opened += 1;
-    c.tally.orders.opened_tables += since.met.len() as u64;
-    c.tally.orders.quiet += since.met.iter().filter(|table| no_mark(table)).count() as u64;
-    c.tally.orders.add(&since.explored);
+    c.tally.orders.opened_tables += met.len() as u64;
+    c.tally.orders.quiet += met.iter().filter(|table| no_mark(table)).count() as u64;
     Ok(())
 }
 
-/// The sheet of a turn: each keep and spread of figures in turn, each time around with other figures.
-pub fn chosen(small: &[Small], turn: u64) -> Vec<u8> {
-    let ways = small.iter().map(Small::ways).max().unwrap();
-    // 67 has no factor in common with the powers of 6.
-    let (way, around) = (turn * 67 % ways, turn / ways);
-    small[((way + around) % small.len() as u64) as usize].sheet(way)
+/// The sheet of a turn, each of them in one of its ways; none once all have had their turn.
+pub fn chosen(small: &[Small], turn: u64) -> Option<Vec<u8>> {
+    let all: u64 = small.iter().map(Small::ways).sum();
+    // 31 is a prime, and goes into no number of sheets: its multiples meet each of them once.
+    let mut at = turn * 31 % all;
+    for sheets in small {
+        if at < sheets.ways() {
+            return (turn < all).then(|| sheets.sheet(at));
+        }
+        at -= sheets.ways();
+    }
+    None
 }
 
-/// A part: two sheets of three items and one of four from all tables, one of three, and sometimes one
-/// of four, from the openings, and an office's orders on sheets of any size.
-pub fn run_orders(c: &mut Comparison, part: u64) -> Result<(), String> {
-    for sheet in [2 * part, 2 * part + 1].map(|turn| chosen(&THREE, turn)) {
+/// Two sheets of three items and one of four from all tables, one of three, and sometimes one of four,
+/// from the openings.
+pub fn run_small(c: &mut Comparison, part: u64) -> Result<(), String> {
+    for sheet in [2 * part, 2 * part + 1].iter().filter_map(|&turn| chosen(&THREE, turn)) {
         explore(c, &sheet, &MANY)?;
     }
-    explore(c, &chosen(&FOUR, part), &FEW)?;
-    since_openings(c, &chosen(&THREE, part), MANY.entries)?;
-    if part % 4 == 3 {
-        since_openings(c, &chosen(&FOUR, part / 4), FEW.figures)?;
+    if let Some(sheet) = chosen(&FOUR, part) {
+        explore(c, &sheet, &FEW)?;
+    }
+    if let Some(sheet) = chosen(&THREE, part) {
+        since_openings(c, &sheet, MANY.entries)?;
+    }
+    match chosen(&FOUR, part / 4) {
+        Some(sheet) if part % 4 == 3 => since_openings(c, &sheet, FEW.figures),
+        _ => Ok(()),
+    }
+}
+
+/// A part: small sheets in every order, and an office's orders on sheets of any size. One has the
+/// highest ladder, whose figures list 16 parents at most: it takes too long for a memory checker.
+pub fn run_orders(c: &mut Comparison, part: u64) -> Result<(), String> {
+    run_small(c, part)?;
+    if part == 1 {
+        run_ladder(c, 17)?;
     }
     (0..4).try_for_each(|_| run_sequences(c))
 }
@@ -293,7 +326,6 @@ mod tests {
     use crate::mock::{Mock, Wrong};
     use crate::model::sheet::Spread;
     use crate::rng::Rng;
-    use std::collections::HashSet;
 
     /// A mock without the model beside it, so that only what is promised of steps can find it.
     struct Alone(Mock);
@@ -323,11 +355,11 @@ mod tests {
         }
     }
 
-    /// What is promised of steps, on all sheets of two items and on some of three.
+    /// What is promised of steps, on the sheets of two items and on some of three.
     fn promises(wrong: Wrong) -> Result<(), String> {
         let mut alone = Alone(Mock(wrong));
         let two = TWO.iter().flat_map(|small| (0..small.ways()).map(|way| small.sheet(way)));
-        let three = (0..16).map(|turn| chosen(&THREE, turn));
+        let three = (0..16).filter_map(|turn| chosen(&THREE, turn));
         for sheet in two.chain(three) {
             Explored::from_all(&mut alone, &sheet, &FEW)?;
             Since::explore(&mut alone, &sheet, FEW.figures)?;
@@ -341,7 +373,7 @@ mod tests {
     fn broken_promises_are_found() {
         promises(Wrong::Nothing).unwrap();
         let mut kept = Vec::new();
-        for wrong in Wrong::steps() {
+        for wrong in Wrong::STEPS {
             match promises(wrong) {
                 Ok(()) => kept.push(wrong),
                 Err(found) => println!("{wrong:?}: {}", found.lines().next().unwrap()),
@@ -413,12 +445,15 @@ mod tests {
     /// The turns have each sheet once, and the first of them each keep and spread of each figure.
     #[test]
     fn every_sheet_has_its_turn() {
-        for (small, ways) in [(&THREE[..], 36), (&FOUR, 216)] {
-            let sheets = |turns| (0..turns).map(|turn| chosen(small, turn)).collect::<HashSet<_>>();
-            let all = small.iter().flat_map(|s| (0..s.ways()).map(|way| s.sheet(way)));
-            assert_eq!(sheets(ways * small.len() as u64), all.collect());
-            let figures = sheets(ways).iter().map(|s| read_sheet(s).unwrap()).collect::<Vec<_>>();
-            for item in 1..read_sheet(&chosen(small, 0)).unwrap().len() {
+        for (small, count, first) in [(&THREE[..], 342, 60), (&FOUR, 2_484, 216)] {
+            let turns = |count| (0..count).filter_map(|turn| chosen(small, turn));
+            let all: Vec<_> =
+                small.iter().flat_map(|s| (0..s.ways()).map(|way| s.sheet(way))).collect();
+            assert_eq!(all.len(), count);
+            assert_eq!(turns(2 * count as u64).count(), count);
+            assert_eq!(turns(count as u64).collect::<HashSet<_>>(), all.into_iter().collect());
+            let figures: Vec<_> = turns(first).map(|s| read_sheet(&s).unwrap()).collect();
+            for item in 1..figures[0].len() {
                 for (keep, spread) in [Spread::Defer, Spread::Renew, Spread::Forget]
                     .into_iter()
                     .flat_map(|spread| [(false, spread), (true, spread)])
@@ -428,7 +463,7 @@ mod tests {
                 }
             }
         }
-        assert_eq!(ONE[0].sheet(0), chosen(&ONE, 5));
+        assert_eq!((chosen(&ONE, 0), chosen(&ONE, 1)), (Some(ONE[0].sheet(0)), None));
     }
 
     /// What is counted of a step: the values and marks of an entry, a figure of it with keep 1, and a

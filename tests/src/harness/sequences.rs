@@ -1,16 +1,18 @@
 //! The orders of an office: on sheets of any size marked items are stepped from the lowest, from the
 //! highest, at random, or in rounds over a list of the items, until no mark is left, or for so long.
 
-use super::arrivals::{asks, board_and_close, no_mark, quiet, values_of};
+use super::arrivals::{asks, board_and_close, quiet, values_of};
+use super::closes::fresh_of;
 use super::compare::{Act, Comparison, Lent};
-use super::fixed::expect;
+use super::fixed::{expect, opened, post};
+use super::fixed_owed::{entry, sum};
 use super::lists::{list_length, open, plain_call, Office};
-use super::orders::{is_marked, ORDERS};
-use crate::gen::{self, Shape};
+use super::orders::{LARGE, ORDERS};
+use crate::gen::{self, write_sheet, Shape, Spec};
 use crate::model::calls::Call;
 use crate::model::fresh::FreshOffice;
 use crate::model::sheet::{index_of, read_sheet, Item};
-use crate::model::table::RECORD;
+use crate::model::table::{is_marked, no_mark, RECORD};
 use crate::rng::Rng;
 
 /// Which marked item is next.
@@ -24,12 +26,23 @@ pub struct Order {
 }
 
 impl Order {
+    /// One of `ORDERS`; the screen has the items anyhow.
     pub fn new(rng: &mut Rng, which: usize, items: usize) -> Self {
         let mut screen: Vec<usize> = (0..items).collect();
         for last in (1..items).rev() {
             screen.swap(last, rng.below(last as u64 + 1) as usize);
         }
-        Order { which, screen, at: 0, rounds: 1 }
+        Order { which, ..Order::in_rounds(screen) }
+    }
+
+    /// Rounds over this screen.
+    pub fn in_rounds(screen: Vec<usize>) -> Self {
+        Order { which: ORDERS.len() - 1, screen, at: 0, rounds: 1 }
+    }
+
+    /// The round that the order is in.
+    pub fn rounds(&self) -> usize {
+        self.rounds
     }
 
     fn next(&mut self, rng: &mut Rng, table: &[u8]) -> Option<usize> {
@@ -70,11 +83,11 @@ impl Order {
 pub fn run_sequences(c: &mut Comparison) -> Result<(), String> {
     let shape = match c.rng.below(100) {
         0..=39 => Shape::Small,
-        40..=79 => Shape::Medium,
-        80..=96 => Shape::Deep,
+        40..=74 => Shape::Medium,
+        75..=89 => Shape::Deep,
         _ => Shape::Wide,
     };
-    let sheet = gen::write_sheet(&gen::sheet(&mut c.rng, shape));
+    let sheet = write_sheet(&gen::sheet(&mut c.rng, shape));
     let items = read_sheet(&sheet).unwrap();
     let (start, office) = match c.rng.percent(25) {
         true => {
@@ -98,7 +111,8 @@ pub fn run_sequences(c: &mut Comparison) -> Result<(), String> {
     Ok(())
 }
 
-/// An opening, a list, and then posts, so that marks stand.
+/// An opening, a list, and then posts, so that marks stand. Of a wide sheet all is stored, and much
+/// is posted.
 fn busy_office<'i>(
     c: &mut Comparison,
     sheet: Vec<u8>,
@@ -112,11 +126,46 @@ fn busy_office<'i>(
         let call = gen::any_call(&mut c.rng, items, &lent.table, numbers);
         plain_call(c, call, &mut lent, &mut office)?;
     }
-    for _ in 0..c.rng.between(1, 5) {
+    let posts = match shape {
+        Shape::Wide => {
+            expect("a close", c.act(&Act::Close, &mut lent)?.number, 0)?;
+            items.len() as u64 / 8
+        }
+        _ => c.rng.between(1, 5),
+    };
+    for _ in 0..posts {
         let post = gen::good_post(&mut c.rng, items, numbers);
         plain_call(c, post, &mut lent, &mut office)?;
     }
     Ok((lent, office))
+}
+
+/// A ladder: an entry and figures that each sum all items below them, stored by an opening, after a
+/// post to the entry.
+pub fn ladder(c: &mut Comparison, items: usize) -> Result<Lent, String> {
+    let mut specs: Vec<Spec> = vec![entry()];
+    specs.extend((1..items as u16).map(|i| sum(0, 0, &(0..i).collect::<Vec<u16>>())));
+    let (mut lent, _) = opened(c, write_sheet(&specs), items, true)?;
+    expect("a post", c.act(&Act::Give(post(0, 1)), &mut lent)?.number, 0)?;
+    Ok(lent)
+}
+
+/// From the lowest a ladder takes two steps for a figure, and from the highest 2^n - 1: each change of
+/// an item is followed by all the steps of the items above it. In every order it comes to the same end.
+pub fn run_ladder(c: &mut Comparison, items: usize) -> Result<(), String> {
+    let start = ladder(c, items)?;
+    let read = read_sheet(&start.sheet).unwrap();
+    let lengths = [Some(2 * items - 1), Some((1 << items) - 1), None, None];
+    for (which, right) in lengths.into_iter().enumerate() {
+        let mut order = Order::new(&mut c.rng, which, items);
+        let (end, taken) = take(c, &read, &start, &mut order, usize::MAX)?;
+        expect("steps until no mark is left", taken as u64, right.unwrap_or(taken) as u64)?;
+        let fresh = fresh_of(&read, &start.table);
+        let all: Vec<usize> = (0..items).collect();
+        quiet(c, &end, &values_of(&fresh), &read, &all)?;
+        board_and_close(c, &end, &fresh, &read, &all)?;
+    }
+    Ok(())
 }
 
 /// Steps in an order until no mark is left, or so many: what they leave, and how many they are.
@@ -138,21 +187,21 @@ pub fn take(
         }
     }
     let (met, ended) = (&mut c.tally.orders, no_mark(&lent.table));
-    met.ended[order.which] += ended as u64;
+    met.ended[order.which] += (ended && taken > 0) as u64;
+    met.large += (ended && taken > 0 && items.len() > LARGE) as u64;
     met.interrupted[order.which] += !ended as u64;
     met.most = met.most.max(taken as u64);
     met.taken += taken as u64;
     Ok((lent, taken))
 }
 
-/// How many steps are followed: sometimes few, and of large sheets mostly, for the time that they take.
+/// How many steps are followed: sometimes few, or not to the end.
 fn most_steps(rng: &mut Rng, items: usize) -> usize {
     match items {
         _ if rng.percent(20) => rng.below(items as u64 + 1).min(100) as usize,
         0..=12 => 400,
-        13..=100 => 40 + 3 * items,
-        _ if rng.percent(10) => 2 * items,
-        _ => 100,
+        13..=LARGE => 40 + 3 * items,
+        _ => 20 * items,
     }
 }
 

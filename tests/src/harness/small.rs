@@ -12,11 +12,15 @@ const ENTRY: (u8, &[u16]) = (0, &[]);
 
 pub const ONE: [Small; 1] = [Small(&[])];
 
-pub const TWO: [Small; 7] = [
+/// Every rule.
+pub const TWO: [Small; 10] = [
     Small(&[ENTRY]),
     Small(&[(1, &[0])]),
     Small(&[(1, &[0, 0])]),
     Small(&[(2, &[0, 0])]),
+    Small(&[(3, &[0])]),
+    Small(&[(4, &[0])]),
+    Small(&[(5, &[0, 0])]),
     Small(&[(6, &[0, 0, 0])]),
     Small(&[(7, &[0])]),
     Small(&[(8, &[0, 0])]),

@@ -2,7 +2,7 @@
 
 use super::choices;
 use super::compare::Act;
-use super::orders::{self, power, DONE, ORDERS};
+use super::orders::{self, power, DONE, LARGE, ORDERS};
 use super::owed;
 use super::prints::MOST_DIGITS;
 use crate::model::board::{Board, ITEM, MOST_ITEMS, RESULT};
@@ -234,14 +234,14 @@ impl Tally {
                 missing.push(format!("{name} {number}"));
             }
         }
-        for (name, _) in BOARDS.iter().zip(&self.boards).filter(|(_, &times)| times == 0) {
-            missing.push(format!("board, {name}"));
-        }
-        for (name, _) in CLOSES.iter().zip(&self.closes).filter(|(_, &times)| times == 0) {
-            missing.push(format!("close, {name}"));
-        }
-        for (name, _) in owed::MET.iter().zip(&self.owed).filter(|(_, &times)| times == 0) {
-            missing.push(format!("owed, {name}"));
+        for (what, names, met) in [
+            ("board", &BOARDS[..], &self.boards[..]),
+            ("close", &CLOSES, &self.closes),
+            ("owed", &owed::MET, &self.owed),
+        ] {
+            for (name, _) in names.iter().zip(met).filter(|(_, &times)| times == 0) {
+                missing.push(format!("{what}, {name}"));
+            }
         }
         for (way, met) in choices::WAYS.iter().zip(&self.choices) {
             for (name, _) in choices::PARENTS.iter().zip(met).filter(|(_, &times)| times == 0) {
@@ -323,6 +323,7 @@ impl Tally {
         let (ended, others) = (o.ended.iter().sum::<u64>(), o.interrupted.iter().sum::<u64>());
         writeln!(f, "steps by what they do: {}", named(&DONE, &o.done))?;
         writeln!(f, "sequences of steps ended: {ended} ({})", named(&ORDERS, &o.ended))?;
+        writeln!(f, "those of more than {LARGE} items: {}", o.large)?;
         writeln!(
             f,
             "sequences of steps interrupted: {others} ({}); {} steps, at most {}",
@@ -450,16 +451,6 @@ mod tests {
                 assert_eq!(tally.never_met(), [format!("choice {does}, {name}")]);
             }
         }
-        for (at, name) in DONE.iter().enumerate() {
-            let mut tally = full();
-            tally.orders.done[at] = 0;
-            assert_eq!(tally.never_met(), [format!("steps, {name}")]);
-        }
-        for (at, name) in ORDERS.iter().enumerate() {
-            let mut tally = full();
-            tally.orders.ended[at] = 0;
-            assert_eq!(tally.never_met(), [format!("steps, {name}")]);
-        }
         for (at, (word, numbers)) in LINES.iter().enumerate() {
             for &number in *numbers {
                 let mut tally = full();
@@ -489,9 +480,20 @@ mod tests {
         assert_eq!((tally.digits.iter().flatten().sum::<u64>(), tally.prints()), (2, 5));
     }
 
-    /// Sheets of each number of items are stepped in every order, and some sequences not to their ends.
+    /// Each thing that steps do and each order is met, sheets of each number of items are stepped in every
+    /// order, and some sequences not to their ends.
     #[test]
     fn orders_are_missed() {
+        for (at, name) in DONE.iter().enumerate() {
+            let mut tally = full();
+            tally.orders.done[at] = 0;
+            assert_eq!(tally.never_met(), [format!("steps, {name}")]);
+        }
+        for (at, name) in ORDERS.iter().enumerate() {
+            let mut tally = full();
+            tally.orders.ended[at] = 0;
+            assert_eq!(tally.never_met(), [format!("steps, {name}")]);
+        }
         for n in 1..=orders::MOST {
             let mut tally = full();
             tally.orders.longest[n] = 0;

@@ -8,14 +8,49 @@ use crate::model::value::Value;
 
 impl Wrong {
     /// Those that step or tell otherwise than they must.
-    pub fn steps() -> impl Iterator<Item = Wrong> {
-        let others =
-            [Wrong::ClearsMarkBeforeTelling, Wrong::DeferIgnoresNotice, Wrong::RenewClearsNotice];
-        Wrong::ALL.iter().copied().filter(move |wrong| {
-            let name = format!("{wrong:?}");
-            name.contains("Step") || name.starts_with("Tells") || others.contains(wrong)
-        })
-    }
+    pub const STEPS: [Wrong; 41] = [
+        Wrong::ClearsMarkBeforeTelling,
+        Wrong::DeferIgnoresNotice,
+        Wrong::RenewClearsNotice,
+        Wrong::StepGoesOnToTelling,
+        Wrong::StepKeepsRefreshOfChanged,
+        Wrong::StepKeepsRefreshOfEqual,
+        Wrong::StepNotesEqual,
+        Wrong::StepStoresWithoutNotice,
+        Wrong::StepNotesWithoutStoring,
+        Wrong::StepForgetsChanged,
+        Wrong::StepKeepsNoticeOfEntries,
+        Wrong::StepKeepsNoticeOfStored,
+        Wrong::StepKeepsNoticeOfUnk,
+        Wrong::StepKeepsNoticeOfChildless,
+        Wrong::StepTurnsNoticeToRefresh,
+        Wrong::StepOfNoticeForgets,
+        Wrong::StepOfNoticeStores,
+        Wrong::StepTakesTheLowest,
+        Wrong::StepTakesTheHighest,
+        Wrong::StepTakesAllMarked,
+        Wrong::StepTakesThoseBelowFirst,
+        Wrong::StepCatchesUp,
+        Wrong::StepClearsAllMarks,
+        Wrong::StepTakesUnmarked,
+        Wrong::StepRefusesItem0,
+        Wrong::StepRefusesUnk,
+        Wrong::StepRefusesAboveAMark,
+        Wrong::RefusedStepMarks,
+        Wrong::TellsFirstChildOnly,
+        Wrong::TellsLastChildOnly,
+        Wrong::TellsHighestFirst,
+        Wrong::TellsGrandchildren,
+        Wrong::TellsOwnParents,
+        Wrong::TellsParentsOfChildren,
+        Wrong::TellsItemBelow,
+        Wrong::TellsDeferWithNotice,
+        Wrong::TellsDeferByForgetting,
+        Wrong::TellsRenewAsDefer,
+        Wrong::TellsRenewOfEqual,
+        Wrong::TellsMarkedNothing,
+        Wrong::AskStepsEachOnce,
+    ];
 
     /// The mark that a refresh leaves where the value is equal.
     pub(super) fn mark_of_equal(self) -> Mark {

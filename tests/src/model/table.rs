@@ -42,6 +42,16 @@ pub fn from_pair(kind: u64, number: i64) -> Option<Value> {
     }
 }
 
+/// Whether an item has a mark.
+pub fn is_marked(table: &[u8], item: usize) -> bool {
+    table[RECORD * item + 1] != 0
+}
+
+/// Whether no mark stands.
+pub fn no_mark(table: &[u8]) -> bool {
+    table.chunks(RECORD).all(|record| record[1] == 0)
+}
+
 /// Which items are owed: some child is stored, or is UNK and itself owed. A child has a higher
 /// number than its parents, so that with the highest item first each is known before its parents.
 pub fn owed(items: &[Item], cells: &[Cell]) -> Vec<bool> {
