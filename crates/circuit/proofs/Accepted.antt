@@ -6,11 +6,14 @@ use mathlib.Core.List.{List, [], _∷_}
 use native.Mathlib.Omega.{arith}
 use lib.IntN.{ℤ}
 use borrow.Author.Tests.{leb-false, not-false}
-use Rattle.circuit.specs.Sheet.{Sheet, size, itemAt, isFigure}
-use Rattle.circuit.specs.Table.{Table, isMarked}
-use Rattle.circuit.specs.Call.{Call, post, keep, drop, step, ask, board, close}
+use Rattle.circuit.specs.Value.{inRange}
+use Rattle.circuit.specs.Sheet.{Sheet, Entries, size, itemAt, isFigure}
+use Rattle.circuit.specs.Table.{Table, entriesOf, isMarked}
+use Rattle.circuit.specs.Call.{Call, post, keep, drop, step, ask, board, close, swap}
 use Rattle.circuit.specs.Board.{listed}
-use Rattle.circuit.specs.Calls.{Test, test, tests, firstCause, someNoItem, showItems, effect, effectUnless, perform}
+use Rattle.circuit.specs.Swap.{leftWith, comesTo, noSwap, resultsBeyond}
+use Rattle.circuit.specs.Calls.{Test, test, tests, swapTests, firstCause, someNoItem, showItems, effect, effectUnless, perform}
+use Rattle.circuit.proofs.RuleLaws.{or-false, and-left, and-right}
 
 -- no cause holds: the first does not, and none of the others
 pub no-cause : (k : ℕ) (b : Bool) (ts : List Test) → firstCause (test (suc k) b ∷ ts) ≡ 0 → (b ≡ false) × (firstCause ts ≡ 0)
@@ -41,6 +44,7 @@ effect-number S T (board items results) = go (listed items)
     go [] = refl
     go (i ∷ is) = refl
 effect-number S T close = refl
+effect-number S T (swap giver taker quantity) = refl
 
 -- a call that met no cause has its effect
 pub accepted-effect : (S : Sheet) (T : Table) (c : Call) → firstCause (tests S T c) ≡ 0 → perform S T c ≡ effect S T c
@@ -87,3 +91,37 @@ ask-passed S T i e = leb-false (size S) i (no-cause 10 _ _ e .0)
 pub board-passed : (S : Sheet) (T : Table) (items results : List ℕ) → Passed S T (board items results) → someNoItem S (listed items) ≡ false
 unfolding tests
 board-passed S T items results e = no-cause 10 _ _ (no-cause 16 _ _ e .1) .0
+
+-- what an accepted swap has passed, by the values that the entries hold
+pub record SwapPassed (S : Sheet) (E : Entries) (giver taker : ℕ) (quantity : ℤ) : Type 0 where
+  pub giver-low : giver < size S
+  pub taker-low : taker < size S
+  pub giver-entry : isFigure (itemAt S giver) ≡ false
+  pub taker-entry : isFigure (itemAt S taker) ≡ false
+  pub a-swap : noSwap giver taker quantity ≡ false
+  pub left-in : inRange (leftWith E giver quantity) ≡ true
+  pub come-in : inRange (comesTo E taker quantity) ≡ true
+
+pub tests-passed : (S : Sheet) (E : Entries) (giver taker : ℕ) (quantity : ℤ) → firstCause (swapTests S E giver taker quantity) ≡ 0
+    → SwapPassed S E giver taker quantity
+unfolding resultsBeyond
+tests-passed S E giver taker quantity e =
+    let first = no-cause 10 _ _ e in
+    let second = no-cause 11 _ _ (first .1) in
+    let third = no-cause 17 _ _ (second .1) in
+    let low = or-false _ _ (first .0) in
+    let entries = or-false _ _ (second .0) in
+    let both = not-false _ (no-cause 12 _ _ (third .1) .0) in
+    record {
+      giver-low = leb-false (size S) giver (low .0);
+      taker-low = leb-false (size S) taker (low .1);
+      giver-entry = entries .0;
+      taker-entry = entries .1;
+      a-swap = third .0;
+      left-in = and-left (inRange (leftWith E giver quantity)) (inRange (comesTo E taker quantity)) both;
+      come-in = and-right (inRange (leftWith E giver quantity)) (inRange (comesTo E taker quantity)) both;
+    }
+
+pub swap-passed : (S : Sheet) (T : Table) (giver taker : ℕ) (quantity : ℤ) → Passed S T (swap giver taker quantity) → SwapPassed S (entriesOf T) giver taker quantity
+unfolding tests
+swap-passed S T giver taker quantity e = tests-passed S (entriesOf T) giver taker quantity e

@@ -12,6 +12,8 @@ pub mod OnTheWay
 pub mod Closure
 pub mod Owed
 pub mod Accepted
+pub mod Postings
+pub mod Swaps
 pub mod Invariant
 pub mod Tell
 pub mod CatchUp

@@ -1,23 +1,24 @@
 -- Two offices agree (`two-offices`): for any two sound tables with the same entries, and any two lists of calls that make
 -- the same postings in order, every ask and every board has the same answer in both, which is the fresh office's. The four pairs
 -- of openings are an instance (`two-openings`). Assumes that the sheet is ordered.
-use Prim.Native.Nat.{ℕ, zero, suc, _<_}
+use Prim.Native.Nat.{ℕ, _<_}
 use mathlib.Core.Path.{_≡_, refl, sym, ap, subst, _∙_}
 use mathlib.Core.Bool.{Bool, true, false, cond, _||_}
-use mathlib.Core.List.{List, [], _∷_, _++_, map}
+use mathlib.Core.List.{List, [], _∷_, map}
 use mathlib.Core.Option.{Option, none, some}
 use borrow.Author.Tests.{leb-false}
 use Rattle.circuit.specs.Value.{Value}
 use Rattle.circuit.specs.Circuit.{IsSolution}
-use Rattle.circuit.specs.Sheet.{Sheet, size, itemAt, beyond, isFigure, Ordered, Entries, circuitOf}
+use Rattle.circuit.specs.Sheet.{Sheet, size, beyond, Ordered, Entries, circuitOf}
 use Rattle.circuit.specs.Table.{Table, opened}
 use Rattle.circuit.specs.Machine.{lookUp, catchUp}
-use Rattle.circuit.specs.Call.{Call, post, keep, drop, step, ask, board, close, Posting, Opening, bare, full}
+use Rattle.circuit.specs.Call.{Call, ask, board, Opening, bare, full}
 use Rattle.circuit.specs.Board.{listed, listsWrong}
-use Rattle.circuit.specs.Calls.{Outcome, tests, firstCause, isNone, someNoItem, postedValue, showItems, effect, effectUnless, perform, run, postingOf, ifAccepted, postingsMade, postings}
-use Rattle.circuit.specs.Fresh.{called, blank, setEntry, hear, hearAll, give, freshAsk, valuesWith, freshAsks, freshRun}
+use Rattle.circuit.specs.Calls.{Outcome, tests, firstCause, someNoItem, showItems, effect, effectUnless, perform, run, postings}
+use Rattle.circuit.specs.Fresh.{blank, give, freshAsk, valuesWith, freshAsks}
+use Rattle.circuit.specs.Events.{freshRun}
 use Rattle.circuit.proofs.Solution.{give-solves}
-use Rattle.circuit.proofs.Fresh.{setIf, hear-post}
+use Rattle.circuit.proofs.Fresh.{entered, fresh-entered}
 use Rattle.circuit.proofs.Fill.{look-right, looks-right}
 use Rattle.circuit.proofs.CatchUp.{catchUp-quiet}
 use Rattle.circuit.proofs.Reading.{quiet-look}
@@ -41,54 +42,13 @@ Shows false (some vs) o = (o .number ≡ 0) × (o .shown ≡ vs)
 pub record Agree (S : Sheet) (E : Entries) (T : Table) (cs : List Call) (U : Table) (ds : List Call) : Type 0 where
   pub numbers : (i : ℕ) → perform S (run S T cs) (ask i) .number ≡ perform S (run S U ds) (ask i) .number
   pub readings : (i : ℕ) → perform S (run S T cs) (ask i) .reading ≡ perform S (run S U ds) (ask i) .reading
-  pub first : (i : ℕ) → Answers (freshAsk S (freshRun S E cs) i) (perform S (run S T cs) (ask i))
-  pub second : (i : ℕ) → Answers (freshAsk S (freshRun S E ds) i) (perform S (run S T cs) (ask i))
-  pub heard : freshRun S E cs ≡ freshRun S E ds
+  pub first : (i : ℕ) → Answers (freshAsk S (freshRun S E T cs) i) (perform S (run S T cs) (ask i))
+  pub second : (i : ℕ) → Answers (freshAsk S (freshRun S E U ds) i) (perform S (run S T cs) (ask i))
+  pub heard : freshRun S E T cs ≡ freshRun S E U ds
   pub shows : (items results : List ℕ)
-      → Shows (listsWrong items results) (freshAsks S (freshRun S E cs) (listed items)) (perform S (run S T cs) (board items results))
+      → Shows (listsWrong items results) (freshAsks S (freshRun S E T cs) (listed items)) (perform S (run S T cs) (board items results))
   pub shows-other : (items results : List ℕ)
-      → Shows (listsWrong items results) (freshAsks S (freshRun S E ds) (listed items)) (perform S (run S U ds) (board items results))
-
--- the entries after postings
-unfoldable pub entered : Entries → List Posting → Entries
-entered E [] = E
-entered E (p ∷ ps) = entered (setEntry E (p .entry) (p .value)) ps
-
-entered-append : (ps qs : List Posting) (E : Entries) → entered E (ps ++ qs) ≡ entered (entered E ps) qs
-unfolding entered
-entered-append [] qs E = refl
-entered-append (p ∷ ps) qs E = entered-append ps qs (setEntry E (p .entry) (p .value))
-
-none-made : (k : ℕ) → ifAccepted k [] ≡ []
-none-made zero = refl
-none-made (suc k) = refl
-
--- The fresh office hears in a call what the call posts, on any table.
-pub hear-made : (S : Sheet) (E : Entries) (T : Table) (c : Call) → hear S E (called c) ≡ entered E (postingsMade S T c)
-unfolding hear entered postingsMade perform tests firstCause effect
-hear-made S E T (post i kind z) = hear-post S E i kind z ∙ go (beyond S i) (isFigure (itemAt S i)) (postedValue kind z)
-  where
-    go : (b f : Bool) (o : Option Value)
-        → cond (b || f) E (setIf E i o) ≡ entered E (ifAccepted (effectUnless (cond b 11 (cond f 12 (cond (isNone o) 13 0))) S T (post i kind z) .number) (postingOf i o))
-    go true f o = refl
-    go false true o = refl
-    go false false none = refl
-    go false false (some v) = refl
-hear-made S E T (keep i) = rw (none-made (perform S T (keep i) .number))
-hear-made S E T (drop i) = rw (none-made (perform S T (drop i) .number))
-hear-made S E T (step i) = rw (none-made (perform S T (step i) .number))
-hear-made S E T (ask i) = rw (none-made (perform S T (ask i) .number))
-hear-made S E T (board items results) = rw (none-made (perform S T (board items results) .number))
-hear-made S E T close = refl
-
--- so the postings decide what it holds
-pub fresh-entered : (S : Sheet) (cs : List Call) (E : Entries) (T : Table) → freshRun S E cs ≡ entered E (postings S T cs)
-unfolding hearAll postings entered
-fresh-entered S [] E T = refl
-fresh-entered S (c ∷ cs) E T =
-    fresh-entered S cs (hear S E (called c)) (perform S T c .table)
-    ∙ ap (λ F. entered F (postings S (perform S T c .table) cs)) (hear-made S E T c)
-    ∙ sym (entered-append (postingsMade S T c) (postings S (perform S T c .table) cs) E)
+      → Shows (listsWrong items results) (freshAsks S (freshRun S E U ds) (listed items)) (perform S (run S U ds) (board items results))
 
 -- What is looked up after catching up on a sound table, and what a board shows, are the solution's values.
 module _ (S : Sheet) (ordered : Ordered S) (E : Entries) (values : ℕ → Value) (solves : IsSolution (circuitOf S) E values) (T : Table) (sound : Sound S E T) where
@@ -151,25 +111,25 @@ pub two-offices : (S : Sheet) → Ordered S → (E : Entries) (T : Table) (cs : 
     → Sound S E T → Sound S E U → postings S T cs ≡ postings S U ds → Agree S E T cs U ds
 two-offices S ordered E T cs U ds soundT soundU same =
     record {
-      numbers = λ i. same-number (freshAsk S (freshRun S E ds) i) (perform S (run S T cs) (ask i)) (perform S (run S U ds) (ask i)) (second i) (other i);
-      readings = λ i. same-reading (freshAsk S (freshRun S E ds) i) (perform S (run S T cs) (ask i)) (perform S (run S U ds) (ask i)) (second i) (other i);
+      numbers = λ i. same-number (freshAsk S (freshRun S E U ds) i) (perform S (run S T cs) (ask i)) (perform S (run S U ds) (ask i)) (second i) (other i);
+      readings = λ i. same-reading (freshAsk S (freshRun S E U ds) i) (perform S (run S T cs) (ask i)) (perform S (run S U ds) (ask i)) (second i) (other i);
       first = first;
       second = second;
       heard = heard;
-      shows = board-shows S ordered (freshRun S E cs) (run S T cs) (run-sound S ordered cs E T soundT);
-      shows-other = board-shows S ordered (freshRun S E ds) (run S U ds) (run-sound S ordered ds E U soundU);
+      shows = board-shows S ordered (freshRun S E T cs) (run S T cs) (run-sound S ordered cs E T soundT);
+      shows-other = board-shows S ordered (freshRun S E U ds) (run S U ds) (run-sound S ordered ds E U soundU);
     }
   where
-    heard : freshRun S E cs ≡ freshRun S E ds
+    heard : freshRun S E T cs ≡ freshRun S E U ds
     heard = fresh-entered S cs E T ∙ ap (entered E) same ∙ sym (fresh-entered S ds E U)
 
-    first : (i : ℕ) → Answers (freshAsk S (freshRun S E cs) i) (perform S (run S T cs) (ask i))
-    first = ask-answers S ordered (freshRun S E cs) (run S T cs) (run-sound S ordered cs E T soundT)
+    first : (i : ℕ) → Answers (freshAsk S (freshRun S E T cs) i) (perform S (run S T cs) (ask i))
+    first = ask-answers S ordered (freshRun S E T cs) (run S T cs) (run-sound S ordered cs E T soundT)
 
-    other : (i : ℕ) → Answers (freshAsk S (freshRun S E ds) i) (perform S (run S U ds) (ask i))
-    other = ask-answers S ordered (freshRun S E ds) (run S U ds) (run-sound S ordered ds E U soundU)
+    other : (i : ℕ) → Answers (freshAsk S (freshRun S E U ds) i) (perform S (run S U ds) (ask i))
+    other = ask-answers S ordered (freshRun S E U ds) (run S U ds) (run-sound S ordered ds E U soundU)
 
-    second : (i : ℕ) → Answers (freshAsk S (freshRun S E ds) i) (perform S (run S T cs) (ask i))
+    second : (i : ℕ) → Answers (freshAsk S (freshRun S E U ds) i) (perform S (run S T cs) (ask i))
     second i = subst (λ F. Answers (freshAsk S F i) (perform S (run S T cs) (ask i))) heard (first i)
 
 pub opened-sound : (S : Sheet) → Ordered S → (a : Opening) → Sound S blank (opened a S)

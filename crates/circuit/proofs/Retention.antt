@@ -1,45 +1,43 @@
--- What stays stored. After a post to e on a table without marks, and until the next posting, every item that is neither e
--- nor led to by e carries no mark, and holds the solution's value where it is stored; what was stored there and is not
+-- What stays stored. After postings to some entries on a table without marks, and until the next posting, every item that is neither
+-- one of them nor led to by one carries no mark, and holds the solution's value where it is stored; what was stored there and is not
 -- dropped stays stored. Assumes that the sheet is ordered.
 use Prim.Native.Nat.{ℕ, zero, suc, _<_}
 use mathlib.Core.Path.{_≡_, refl, sym, ap, subst, _∙_}
 use mathlib.Core.Bool.{Bool, true, false, _||_}
 use mathlib.Core.List.{List, [], _∷_, _++_, map}
 use mathlib.Core.Logic.{_↔_}
-use mathlib.Core.Option.{Option, none, some}
 use native.Mathlib.Omega.{arith}
 use lib.Dec.{eqb}
-use lib.IntN.{ℤ}
 use borrow.Author.Tests.{eqb-true, eqb-false, eq-eqb}
 use Rattle.circuit.specs.Value.{Value, null}
 use Rattle.circuit.specs.Circuit.{IsSolution, Listed, LeadsTo, direct, further}
 use Rattle.circuit.specs.Sheet.{Sheet, Item, entry, figure, itemAt, isFigure, size, parents, Ordered, Entries, circuitOf, evaluate}
-use Rattle.circuit.specs.Table.{Table, Cell, unmarked, refresh, notice, unk, held, isStored, valueIn, isMarked, cellForm}
-use Rattle.circuit.specs.Machine.{workOut, keepFigure, dropFigure, dropCell, stepItem, catchUp, storePosting, postCell}
-use Rattle.circuit.specs.Call.{Call, post, keep, drop, step, ask, board, close}
+use Rattle.circuit.specs.Table.{Table, Cell, unmarked, refresh, notice, unk, held, isStored, valueIn, entriesOf, isMarked, cellForm}
+use Rattle.circuit.specs.Machine.{workOut, keepFigure, dropFigure, dropCell, stepItem, catchUp}
+use Rattle.circuit.specs.Call.{Call, post, keep, drop, step, ask, board, close, swap, Posting}
 use Rattle.circuit.specs.Board.{listed}
-use Rattle.circuit.specs.Calls.{postedValue, postIt, postingOf, tests, firstCause, showItems, effect, effectUnless, perform, run, postingsMade, postingBy, ifAccepted, postings, drops}
+use Rattle.circuit.specs.Calls.{tests, firstCause, showItems, postingsBy, storePostings, effect, effectUnless, perform, run, ifAccepted, postingsMade, postings, drops}
 use Rattle.circuit.specs.Closing.{closeAll}
 use Rattle.circuit.specs.Fresh.{give}
 use Rattle.circuit.specs.Words.{Formed, Quiet, Holds, droppedIn}
 use Rattle.circuit.proofs.RuleLaws.{or-false}
 use Rattle.circuit.proofs.View.{seen, anyFlag, view, result, strong, any-none, view-at}
-use Rattle.circuit.proofs.Fill.{Filling, stays, fills, Fill, upd-cases, upd-other, look-right, looks-right, work-right, keep-fill}
+use Rattle.circuit.proofs.Fill.{Filling, stays, fills, Fill, upd-cases, look-right, looks-right, work-right, keep-fill}
 use Rattle.circuit.proofs.Solution.{map-listed, solution, solution-solves, sheet-acyclic, entry-value, figure-value, give-solves}
 use Rattle.circuit.proofs.Invariant.{Invariant}
 use Rattle.circuit.proofs.Reading.{quiet-exact, exact-solution}
 use Rattle.circuit.proofs.Closure.{Closed, step-closed, catchUp-closed}
 use Rattle.circuit.proofs.Closing.{close-at}
 use Rattle.circuit.proofs.Accepted.{effect-number, keep-passed, drop-passed, step-passed}
+use Rattle.circuit.proofs.Postings.{postedTo, postings-other}
 
--- k is neither e nor led to by e
-abbrev pub Outside : Sheet → ℕ → ℕ → Type 0
-Outside S e k = (k ≡ e → ⊥) × (LeadsTo (circuitOf S) e k → ⊥)
+-- k is none of the items es, nor led to by one
+abbrev pub Outside : Sheet → List ℕ → ℕ → Type 0
+Outside S es k = (Listed k es → ⊥) × ((e : ℕ) → Listed e es → LeadsTo (circuitOf S) e k → ⊥)
 
 -- the parents of an item outside are outside
-pub parent-outside : (S : Sheet) (e k p : ℕ) → Outside S e k → Listed p (parents S k) → Outside S e p
-parent-outside S e k p outside l =
-    (λ q. outside .1 (direct (subst (λ x. Listed x (parents S k)) q l)), λ led. outside .1 (further led l))
+pub parent-outside : (S : Sheet) (es : List ℕ) (k p : ℕ) → Outside S es k → Listed p (parents S k) → Outside S es p
+parent-outside S es k p outside l = (λ h. outside .1 p h (direct l), λ e h led. outside .1 e h (further led l))
 
 -- a cell outside: without a mark, and if it is stored it holds v; an entry is stored
 pub data Calm (it : Item) (v : Value) : Cell → Type 0 where
@@ -104,33 +102,33 @@ result-solved S E m solves T k low fig parent =
     flags = any-none (view S T) (parents S k) (λ p l. ap (λ s. s .flag) (parent p l))
 
 -- two solutions, under entries that agree outside, agree outside
-pub outside-agree : (S : Sheet) (ordered : Ordered S) (e : ℕ) (E D : Entries) (m w : ℕ → Value)
+pub outside-agree : (S : Sheet) (ordered : Ordered S) (es : List ℕ) (E D : Entries) (m w : ℕ → Value)
     → IsSolution (circuitOf S) E m → IsSolution (circuitOf S) D w
-    → ((i : ℕ) → i < size S → isFigure (itemAt S i) ≡ false → Outside S e i → E i ≡ D i)
-    → (k : ℕ) → k < size S → Outside S e k → m k ≡ w k
-outside-agree S ordered e E D m w solvesM solvesW agree =
-    strong (λ k. k < size S → Outside S e k → m k ≡ w k) rise
+    → ((i : ℕ) → i < size S → isFigure (itemAt S i) ≡ false → Outside S es i → E i ≡ D i)
+    → (k : ℕ) → k < size S → Outside S es k → m k ≡ w k
+outside-agree S ordered es E D m w solvesM solvesW agree =
+    strong (λ k. k < size S → Outside S es k → m k ≡ w k) rise
   where
-    rise : (k : ℕ) → ((p : ℕ) → p < k → p < size S → Outside S e p → m p ≡ w p) → k < size S → Outside S e k → m k ≡ w k
+    rise : (k : ℕ) → ((p : ℕ) → p < k → p < size S → Outside S es p → m p ≡ w p) → k < size S → Outside S es k → m k ≡ w k
     rise k lower low outside = go (isFigure (itemAt S k)) refl
       where
         parents-agree : map m (parents S k) ≡ map w (parents S k)
         parents-agree =
             map-listed (parents S k)
-            (λ p l. let o : p < k = ordered k p l in lower p o (omega arith) (parent-outside S e k p outside l))
+            (λ p l. let o : p < k = ordered k p l in lower p o (omega arith) (parent-outside S es k p outside l))
 
         go : (b : Bool) → isFigure (itemAt S k) ≡ b → m k ≡ w k
         go false e = entry-value S E solvesM k low e ∙ agree k low e outside ∙ sym (entry-value S D solvesW k low e)
         go true e =
             figure-value S E solvesM k low e ∙ ap (evaluate (itemAt S k) null) parents-agree ∙ sym (figure-value S D solvesW k low e)
 
-module _ (S : Sheet) (ordered : Ordered S) (e : ℕ) (E : Entries) (m : ℕ → Value) (solves : IsSolution (circuitOf S) E m) where
+module _ (S : Sheet) (ordered : Ordered S) (es : List ℕ) (E : Entries) (m : ℕ → Value) (solves : IsSolution (circuitOf S) E m) where
   -- every cell outside is calm
   abbrev pub Confined : Table → Type 0
-  Confined T = (k : ℕ) → k < size S → Outside S e k → Calm (itemAt S k) (m k) (T k)
+  Confined T = (k : ℕ) → k < size S → Outside S es k → Calm (itemAt S k) (m k) (T k)
 
   abbrev Further : Table → Table → Type 0
-  Further T U = (k : ℕ) → k < size S → Outside S e k → Onward (m k) (T k) (U k)
+  Further T U = (k : ℕ) → k < size S → Outside S es k → Onward (m k) (T k) (U k)
 
   confined-further : (T U : Table) → Confined T → Further T U → Confined U
   confined-further T U confined further′ k low outside = calm-onward (confined k low outside) (further′ k low outside)
@@ -139,17 +137,17 @@ module _ (S : Sheet) (ordered : Ordered S) (e : ℕ) (E : Entries) (m : ℕ → 
   further-trans T U W p q k low outside = onward-trans (p k low outside) (q k low outside)
 
   -- a look-up of an item outside gives the solution's value, without a flag
-  pub view-outside : (T : Table) → Confined T → (k : ℕ) → k < size S → Outside S e k → view S T k ≡ seen (m k) false
-  view-outside T confined = strong (λ k. k < size S → Outside S e k → view S T k ≡ seen (m k) false) rise
+  pub view-outside : (T : Table) → Confined T → (k : ℕ) → k < size S → Outside S es k → view S T k ≡ seen (m k) false
+  view-outside T confined = strong (λ k. k < size S → Outside S es k → view S T k ≡ seen (m k) false) rise
     where
-      rise : (k : ℕ) → ((p : ℕ) → p < k → p < size S → Outside S e p → view S T p ≡ seen (m p) false) → k < size S → Outside S e k
+      rise : (k : ℕ) → ((p : ℕ) → p < k → p < size S → Outside S es p → view S T p ≡ seen (m p) false) → k < size S → Outside S es k
           → view S T k ≡ seen (m k) false
       rise k lower low outside = go (T k) refl (confined k low outside)
         where
           known : isFigure (itemAt S k) ≡ true → result S T k ≡ seen (m k) false
           known fig =
               result-solved S E m solves T k low fig
-              (λ p l. let o : p < k = ordered k p l in lower p o (omega arith) (parent-outside S e k p outside l))
+              (λ p l. let o : p < k = ordered k p l in lower p o (omega arith) (parent-outside S es k p outside l))
 
           go : (c : Cell) → T k ≡ c → Calm (itemAt S k) (m k) c → view S T k ≡ seen (m k) false
           go (unk false) h (away f) =
@@ -165,24 +163,24 @@ module _ (S : Sheet) (ordered : Ordered S) (e : ℕ) (E : Entries) (m : ℕ → 
       go (unk false) h (away r) (fills f r′ u q) = rw (q, view-outside T confined k low outside) filled
 
   -- stores at items that are not outside
-  further-closed : (T : Table) → Confined T → Closed S (λ i. Outside S e i → ⊥) (Further T)
+  further-closed : (T : Table) → Confined T → Closed S (λ i. Outside S es i → ⊥) (Further T)
   further-closed T confined =
       record {
         works = λ U i low far.
             further-trans T U (workOut S U i .table) far
             (fill-further U (workOut S U i .table) (confined-further T U confined far) (work-right S ordered U i .fill));
         stores = λ U i c inside far.
-            upd-cases (λ k x. k < size S → Outside S e k → Onward (m k) (T k) x) U i c
+            upd-cases (λ k x. k < size S → Outside S es k → Onward (m k) (T k) x) U i c
             (λ low outside. absurd (inside outside))
             (λ k n low outside. far k low outside);
       }
 
   step-further : (T : Table) (i : ℕ) → i < size S → isMarked (T i) ≡ true → Confined T → Further T (stepItem S T i)
   step-further T i low marked confined =
-      step-closed S (λ j. Outside S e j → ⊥) (Further T) (further-closed T confined) i low inside
-      (λ c l outside. inside (parent-outside S e c i outside l)) T (λ k l outside. same)
+      step-closed S (λ j. Outside S es j → ⊥) (Further T) (further-closed T confined) i low inside
+      (λ c l outside. inside (parent-outside S es c i outside l)) T (λ k l outside. same)
     where
-      inside : Outside S e i → ⊥
+      inside : Outside S es i → ⊥
       inside outside =
           let free : isMarked (T i) ≡ false = calm-unmarked (confined i low outside) in
           let bad : _≡_ {A = ℕ} 0 1 = cc in
@@ -197,7 +195,7 @@ module _ (S : Sheet) (ordered : Ordered S) (e : ℕ) (E : Entries) (m : ℕ → 
   -- what a call leaves outside: calm cells, and what was stored and is not dropped
   record Left (dropped : ℕ → Bool) (T U : Table) : Type 0 where
     calm : Confined U
-    stored : (k : ℕ) → k < size S → Outside S e k → dropped k ≡ false → isStored (T k) ≡ true → isStored (U k) ≡ true
+    stored : (k : ℕ) → k < size S → Outside S es k → dropped k ≡ false → isStored (T k) ≡ true → isStored (U k) ≡ true
 
   left-further : (dropped : ℕ → Bool) (T U : Table) → Confined T → Further T U → Left dropped T U
   left-further dropped T U confined far =
@@ -211,11 +209,11 @@ module _ (S : Sheet) (ordered : Ordered S) (e : ℕ) (E : Entries) (m : ℕ → 
   drop-left T i fig confined =
       record {
         calm =
-            upd-cases (λ k x. k < size S → Outside S e k → Calm (itemAt S k) (m k) x) T i (dropCell (T i))
+            upd-cases (λ k x. k < size S → Outside S es k → Calm (itemAt S k) (m k) x) T i (dropCell (T i))
             (λ low outside. go (confined i low outside))
             (λ k n low outside. confined k low outside);
         stored =
-            upd-cases (λ k x. k < size S → Outside S e k → eqb k i ≡ false → isStored (T k) ≡ true → isStored x ≡ true) T i (dropCell (T i))
+            upd-cases (λ k x. k < size S → Outside S es k → eqb k i ≡ false → isStored (T k) ≡ true → isStored x ≡ true) T i (dropCell (T i))
             (λ low outside d h. absurd (eqb-false i i d refl))
             (λ k n low outside d h. h);
       }
@@ -224,9 +222,11 @@ module _ (S : Sheet) (ordered : Ordered S) (e : ℕ) (E : Entries) (m : ℕ → 
       go (away f) = away f
       go there = away fig
 
-  posted-left : (dropped : ℕ → Bool) (T : Table) (i : ℕ) (o : Option Value) → Confined T → postingOf i o ≡ [] → Left dropped T (postIt T i o)
-  posted-left dropped T i none confined h = left-further dropped T T confined (λ k low outside. same)
-  posted-left dropped T i (some v) confined h = let bad : _≡_ {A = ℕ} 0 1 = cc in absurd (omega arith)
+  -- a call that posts nothing stores nothing
+  posted-left : (dropped : ℕ → Bool) (T : Table) (ps : List Posting) → Confined T → ps ≡ [] → Left dropped T (storePostings T ps)
+  unfolding storePostings
+  posted-left dropped T [] confined h = left-further dropped T T confined (λ k low outside. same)
+  posted-left dropped T (p ∷ ps) confined h = let bad : _≡_ {A = ℕ} 0 1 = cc in absurd (omega arith)
 
   -- what is looked up after catching up
   caught-further : (T X : Table) → Confined T → Fill S (catchUp S T) X → Further T X
@@ -249,7 +249,7 @@ module _ (S : Sheet) (ordered : Ordered S) (e : ℕ) (E : Entries) (m : ℕ → 
 
       value : m k ≡ give S D k
       value =
-          outside-agree S ordered e E D m (give S D) solves (give-solves S ordered D)
+          outside-agree S ordered es E D m (give S D) solves (give-solves S ordered D)
           (λ i l f o. sym (entry-value S E solves i l f) ∙ sym (calm-entry (confined i l o) f)) k low outside
 
       closed : closeAll S T k ≡ held (m k) unmarked
@@ -260,10 +260,9 @@ module _ (S : Sheet) (ordered : Ordered S) (e : ℕ) (E : Entries) (m : ℕ → 
       onward there = same
 
   -- an accepted call that makes no posting
-  accepted-left : (T : Table) (c : Call) → Confined T → firstCause (tests S T c) ≡ 0 → postingBy c ≡ [] → Left (drops c) T (effect S T c .table)
+  accepted-left : (T : Table) (c : Call) → Confined T → firstCause (tests S T c) ≡ 0 → postingsBy (entriesOf T) c ≡ [] → Left (drops c) T (effect S T c .table)
   unfolding effect
-  accepted-left T (post i kind z) confined h none′ =
-      posted-left (drops (post i kind z)) T i (postedValue kind z) confined none′
+  accepted-left T (post i kind z) confined h none′ = posted-left (drops (post i kind z)) T _ confined none′
   accepted-left T (keep i) confined h none′ =
       left-further (drops (keep i)) T (keepFigure S T i) confined
       (fill-further T (keepFigure S T i) confined (keep-fill S ordered T i (keep-passed S T i h .1)))
@@ -276,13 +275,14 @@ module _ (S : Sheet) (ordered : Ordered S) (e : ℕ) (E : Entries) (m : ℕ → 
   accepted-left T (board items results) confined h none′ =
       left-further (drops (board items results)) T _ confined (show-further T (listed items) confined)
   accepted-left T close confined h none′ = left-further (drops close) T (closeAll S T) confined (close-further T confined)
+  accepted-left T (swap giver taker quantity) confined h none′ = posted-left (drops (swap giver taker quantity)) T _ confined none′
 
   -- a call that makes no posting
   perform-left : (T : Table) (c : Call) → postingsMade S T c ≡ [] → Confined T → Left (drops c) T (perform S T c .table)
   unfolding postingsMade perform
   perform-left T c none-made confined = go (firstCause (tests S T c)) refl none-made
     where
-      go : (n : ℕ) → firstCause (tests S T c) ≡ n → ifAccepted (effectUnless n S T c .number) (postingBy c) ≡ []
+      go : (n : ℕ) → firstCause (tests S T c) ≡ n → ifAccepted (effectUnless n S T c .number) (postingsBy (entriesOf T) c) ≡ []
           → Left (drops c) T (effectUnless n S T c .table)
       go zero h none′ = accepted-left T c confined h (rw (effect-number S T c) at none′)
       go (suc n) h none′ = left-further (drops c) T T confined (λ k low outside. same)
@@ -302,6 +302,29 @@ module _ (S : Sheet) (ordered : Ordered S) (e : ℕ) (E : Entries) (m : ℕ → 
             (first .stored k low outside (or-false (drops c k) (droppedIn cs k) d .0) h);
       }
 
+-- a call makes no posting, or leaves what its postings leave
+data Posts (S : Sheet) (T : Table) (c : Call) : Type 0 where
+  nothing : postingsMade S T c ≡ [] → Posts S T c
+  stores : perform S T c .table ≡ storePostings T (postingsMade S T c) → Posts S T c
+
+perform-posts : (S : Sheet) (T : Table) (c : Call) → Posts S T c
+unfolding postingsMade perform effect
+perform-posts S T c = go (firstCause (tests S T c)) refl
+  where
+    go : (k : ℕ) → firstCause (tests S T c) ≡ k → Posts S T c
+    go (suc k) e = nothing (rw e)
+    go zero e = by c e
+      where
+        by : (d : Call) → firstCause (tests S T d) ≡ 0 → Posts S T d
+        by (post i kind z) h = stores (rw h)
+        by (keep i) h = nothing (rw h)
+        by (drop i) h = nothing (rw h)
+        by (step i) h = nothing (rw h)
+        by (ask i) h = nothing (rw h)
+        by (board items results) h = nothing (rw (h, effect-number S T (board items results)))
+        by close h = nothing (rw h)
+        by (swap giver taker quantity) h = stores (rw h)
+
 -- a figure is dropped by a drop of it, and by no other call
 pub drop-words : (c : Call) (k : ℕ) → (drops c k ≡ true) ↔ (c ≡ drop k)
 drop-words c k = (is-drop c, λ e. subst (λ d. drops d k ≡ true) (sym e) (eq-eqb k k refl))
@@ -314,6 +337,7 @@ drop-words c k = (is-drop c, λ e. subst (λ d. drops d k ≡ true) (sym e) (eq-
     is-drop (ask i) h = cc
     is-drop (board items results) h = cc
     is-drop close h = cc
+    is-drop (swap giver taker quantity) h = cc
 
 pub stored-entry : (it : Item) (c : Cell) → cellForm it c ≡ true → isFigure it ≡ false → isStored c ≡ true
 stored-entry entry (unk f) h g = let bad : _≡_ {A = ℕ} 0 1 = cc in absurd (omega arith)
@@ -328,21 +352,8 @@ stored-value S ordered T k = go (T k) refl
     go (unk f) h s = let bad : _≡_ {A = ℕ} 0 1 = cc in absurd (omega arith)
     go (held v m) h s = sym (ap (λ r. r .value) (view-at S ordered T k h))
 
--- a post changes its own cell only
-post-other : (S : Sheet) (T : Table) (e kind : ℕ) (z : ℤ) (k : ℕ) → (k ≡ e → ⊥) → perform S T (post e kind z) .table k ≡ T k
-unfolding perform effect storePosting
-post-other S T e kind z k other = go (firstCause (tests S T (post e kind z)))
-  where
-    stores : (o : Option Value) → postIt T e o k ≡ T k
-    stores none = refl
-    stores (some v) = upd-other T e (postCell (T e) v) k other
-
-    go : (n : ℕ) → effectUnless n S T (post e kind z) .table k ≡ T k
-    go zero = stores (postedValue kind z)
-    go (suc n) = refl
-
--- Figure k on the table U, which a list of calls left after the table T and a post: stored if it was and no drop named it;
--- if it is stored, with the solution's value under the entries before the post, which is also the solution's value under
+-- Figure k on the table U, which a list of calls left after the table T and postings: stored if it was and no drop named it;
+-- if it is stored, with the solution's value under the entries before the postings, which is also the solution's value under
 -- the entries now, and the value that it had if it was stored; without a mark.
 pub record Retained (S : Sheet) (T : Table) (cs : List Call) (U : Table) (k : ℕ) : Type 0 where
   pub stored : isStored (T k) ≡ true → droppedIn cs k ≡ false → isStored (U k) ≡ true
@@ -351,51 +362,69 @@ pub record Retained (S : Sheet) (T : Table) (cs : List Call) (U : Table) (k : �
   pub unchanged : isStored (T k) ≡ true → isStored (U k) ≡ true → valueIn (U k) ≡ valueIn (T k)
   pub unmarked : isMarked (U k) ≡ false
 
--- What stays stored, on any table that has the invariant and no mark: after an accepted post to e and a list of calls that
--- makes no posting, of every item that is neither e nor led to by e.
-pub retention : (S : Sheet) → Ordered S → (T : Table) → Invariant S T → Formed S T → Quiet S T
-    → (e kind : ℕ) (z : ℤ) (cs : List Call) → postings S (perform S T (post e kind z) .table) cs ≡ []
-    → (k : ℕ) → k < size S → Outside S e k
-    → Retained S T cs (run S (perform S T (post e kind z) .table) cs) k
-retention S ordered T invariant formed quiet e kind z cs none-made k low outside =
-    record {
-      stored = λ h d. left .stored k low outside d (rw (post-other S T e kind z k (outside .0)) h);
-      before = λ h D holds w solvesW. value h ∙ agrees D w solvesW (λ i l f o. holds i l f);
-      now = λ h D holds w solvesW. value h ∙ agrees D w solvesW (λ i l f o. held-on i l f o ∙ holds i l f);
-      unchanged = λ g h. value h ∙ sym (was k low g);
-      unmarked = calm-unmarked (left .calm k low outside);
-    }
-  where
-    E : Entries
-    E = λ i. valueIn (T i)
+-- What stays stored, on any table T that has the invariant and no mark: after a change at the items es, which leaves P, and a list of
+-- calls that makes no posting, of every item that is none of them nor led to by one.
+module _ (S : Sheet) (ordered : Ordered S) (T : Table) (invariant : Invariant S T) (formed : Formed S T) (quiet : Quiet S T) where
+  pub retention : (es : List ℕ) (P : Table) → ((i : ℕ) → (Listed i es → ⊥) → P i ≡ T i) → (cs : List Call) → postings S P cs ≡ []
+      → (k : ℕ) → k < size S → Outside S es k → Retained S T cs (run S P cs) k
+  retention es P other cs none-made k low outside =
+      record {
+        stored = λ h d. left .stored k low outside d (rw (other k (outside .0)) h);
+        before = λ h D holds w solvesW. value h ∙ agrees D w solvesW (λ i l f o. holds i l f);
+        now = λ h D holds w solvesW. value h ∙ agrees D w solvesW (λ i l f o. held-on i l f o ∙ holds i l f);
+        unchanged = λ g h. value h ∙ sym (was k low g);
+        unmarked = calm-unmarked (left .calm k low outside);
+      }
+    where
+      E : Entries
+      E = entriesOf T
 
-    m : ℕ → Value
-    m = solution (circuitOf S) E
+      m : ℕ → Value
+      m = solution (circuitOf S) E
 
-    solves : IsSolution (circuitOf S) E m
-    solves = solution-solves (circuitOf S) (sheet-acyclic S ordered) E
+      solves : IsSolution (circuitOf S) E m
+      solves = solution-solves (circuitOf S) (sheet-acyclic S ordered) E
 
-    was : (i : ℕ) → i < size S → isStored (T i) ≡ true → valueIn (T i) ≡ m i
-    was i l h =
-        stored-value S ordered T i h
-        ∙ exact-solution S ordered E m solves T formed (λ j b f. refl) (quiet-exact S ordered T invariant quiet) i l
+      was : (i : ℕ) → i < size S → isStored (T i) ≡ true → valueIn (T i) ≡ m i
+      was i l h =
+          stored-value S ordered T i h
+          ∙ exact-solution S ordered E m solves T formed (λ j b f. refl) (quiet-exact S ordered T invariant quiet) i l
 
-    posted : Confined S ordered e E m solves (perform S T (post e kind z) .table)
-    posted i l o =
-        rw (post-other S T e kind z i (o .0))
-        (calm-cell (itemAt S i) (m i) (T i) (quiet i l) (was i l) (stored-entry (itemAt S i) (T i) (formed i l)))
+      posted : Confined S ordered es E m solves P
+      posted i l o =
+          rw (other i (o .0))
+          (calm-cell (itemAt S i) (m i) (T i) (quiet i l) (was i l) (stored-entry (itemAt S i) (T i) (formed i l)))
 
-    left : Left S ordered e E m solves (droppedIn cs) (perform S T (post e kind z) .table) (run S (perform S T (post e kind z) .table) cs)
-    left = run-left S ordered e E m solves cs (perform S T (post e kind z) .table) none-made posted
+      left : Left S ordered es E m solves (droppedIn cs) P (run S P cs)
+      left = run-left S ordered es E m solves cs P none-made posted
 
-    value : isStored (run S (perform S T (post e kind z) .table) cs k) ≡ true → valueIn (run S (perform S T (post e kind z) .table) cs k) ≡ m k
-    value h = calm-value (left .calm k low outside) h
+      value : isStored (run S P cs k) ≡ true → valueIn (run S P cs k) ≡ m k
+      value h = calm-value (left .calm k low outside) h
 
-    -- an entry other than e holds what it held
-    held-on : (i : ℕ) → i < size S → isFigure (itemAt S i) ≡ false → Outside S e i → E i ≡ valueIn (run S (perform S T (post e kind z) .table) cs i)
-    held-on i l f o =
-        was i l (stored-entry (itemAt S i) (T i) (formed i l) f) ∙ sym (calm-entry (left .calm i l o) f)
+      -- an entry that is none of them holds what it held
+      held-on : (i : ℕ) → i < size S → isFigure (itemAt S i) ≡ false → Outside S es i → E i ≡ valueIn (run S P cs i)
+      held-on i l f o =
+          was i l (stored-entry (itemAt S i) (T i) (formed i l) f) ∙ sym (calm-entry (left .calm i l o) f)
 
-    agrees : (D : Entries) (w : ℕ → Value) → IsSolution (circuitOf S) D w
-        → ((i : ℕ) → i < size S → isFigure (itemAt S i) ≡ false → Outside S e i → E i ≡ D i) → m k ≡ w k
-    agrees D w solvesW equal = outside-agree S ordered e E D m w solves solvesW equal k low outside
+      agrees : (D : Entries) (w : ℕ → Value) → IsSolution (circuitOf S) D w
+          → ((i : ℕ) → i < size S → isFigure (itemAt S i) ≡ false → Outside S es i → E i ≡ D i) → m k ≡ w k
+      agrees D w solvesW equal = outside-agree S ordered es E D m w solves solvesW equal k low outside
+
+  -- after any call, and a list of calls that makes no posting, of every item that is none of those posted to nor led to by one
+  pub call-retention : (c : Call) (cs : List Call) → postings S (perform S T c .table) cs ≡ []
+      → (k : ℕ) → k < size S → Outside S (postedTo (postingsMade S T c)) k → Retained S T (c ∷ cs) (run S (perform S T c .table) cs) k
+  unfolding run droppedIn postings
+  call-retention c cs none-made k low outside = go (perform-posts S T c)
+    where
+      go : Posts S T c → Retained S T (c ∷ cs) (run S (perform S T c .table) cs) k
+      go (nothing made) =
+          retention [] T (λ i n. refl) (c ∷ cs) (rw (made, none-made)) k low (λ l. absurd l, λ e l. absurd l)
+      go (stores is) =
+          let r = retention (postedTo (postingsMade S T c)) (perform S T c .table) (λ i n. ap (λ U. U i) is ∙ postings-other (postingsMade S T c) T i n) cs none-made k low outside in
+          record {
+            stored = λ h d. r .stored h (or-false (drops c k) (droppedIn cs k) d .1);
+            before = r .before;
+            now = r .now;
+            unchanged = r .unchanged;
+            unmarked = r .unmarked;
+          }

@@ -1,32 +1,31 @@
 -- Every call keeps a table sound, refused calls included: it has the invariant, it is well formed, and its entries hold
--- what the fresh office holds that heard the same calls. Both openings are sound. Assumes that the sheet is ordered,
+-- what the fresh office holds that is fed the same calls. Both openings are sound. Assumes that the sheet is ordered,
 -- where it says so.
 use Prim.Native.Nat.{ℕ, zero, suc, _<_}
-use mathlib.Core.Path.{_≡_, refl, sym, subst, _∙_}
-use mathlib.Core.Bool.{Bool, true, false, cond, _||_}
+use mathlib.Core.Path.{_≡_, refl, sym, ap, subst, _∙_}
+use mathlib.Core.Bool.{Bool, true, false, cond}
 use mathlib.Core.List.{List, [], _∷_}
-use mathlib.Core.Option.{Option, none, some}
 use lib.Dec.{eqb}
-use lib.IntN.{ℤ}
 use Rattle.circuit.specs.Value.{Value, null, same}
 use Rattle.circuit.specs.Circuit.{Listed}
-use Rattle.circuit.specs.Sheet.{Sheet, Item, entry, figure, size, itemAt, beyond, isFigure, parentsOf, Ordered, Entries}
-use Rattle.circuit.specs.Table.{Table, Cell, unmarked, refresh, notice, unk, held, upd, valueIn, entryForm, cellForm, bareCell, openBare, openFull}
+use Rattle.circuit.specs.Sheet.{Sheet, Item, entry, figure, size, itemAt, isFigure, parentsOf, Ordered, Entries}
+use Rattle.circuit.specs.Table.{Table, Cell, unmarked, refresh, notice, unk, held, upd, valueIn, entriesOf, entryForm, cellForm, bareCell, openBare, openFull}
 use Rattle.circuit.specs.Machine.{lookUp, workOut, postCell, storePosting, keepFigure, dropFigure, tell, clearCell, clearMark, stepCell, stepItem, catchUp}
-use Rattle.circuit.specs.Call.{Call, post, keep, drop, step, ask, board, close}
+use Rattle.circuit.specs.Call.{Call, post, keep, drop, step, ask, board, close, swap, Posting}
 use Rattle.circuit.specs.Board.{listed}
-use Rattle.circuit.specs.Calls.{tests, firstCause, isNone, postedValue, showItems, effect, effectUnless, perform, run}
+use Rattle.circuit.specs.Calls.{tests, firstCause, showItems, postingsBy, storePostings, effect, effectUnless, perform, run, ifAccepted, postingsMade}
 use Rattle.circuit.specs.Closing.{closeAll}
-use Rattle.circuit.specs.Fresh.{called, blank, setEntry, hear, hearAll, freshRun}
+use Rattle.circuit.specs.Fresh.{fed, blank, setEntry, hearAll}
+use Rattle.circuit.specs.Events.{events, freshRun}
 use Rattle.circuit.specs.Words.{Formed, Holds}
-use Rattle.circuit.proofs.RuleLaws.{same-true}
-use Rattle.circuit.proofs.Fresh.{setIf, hear-post}
+use Rattle.circuit.proofs.Fresh.{entered, hear-append, hear-made}
 use Rattle.circuit.proofs.View.{never}
 use Rattle.circuit.proofs.Fill.{upd-other, upd-cases, Filling, stays, fills, Fill, look-right, looks-right, work-right, keep-fill}
 use Rattle.circuit.proofs.Invariant.{Invariant, changes-kept, fill-changes, post-changes, drop-changes, bare-invariant, full-invariant}
 use Rattle.circuit.proofs.Tell.{step-kept}
 use Rattle.circuit.proofs.Closure.{tell-closed, catchUp-closed}
-use Rattle.circuit.proofs.Accepted.{keep-passed, drop-passed}
+use Rattle.circuit.proofs.Accepted.{effect-number, keep-passed, drop-passed}
+use Rattle.circuit.proofs.Postings.{AllFit, postings-fit, posted-value}
 use Rattle.circuit.proofs.Closing.{close-invariant, close-formed, close-holds}
 
 -- what every call keeps
@@ -159,14 +158,6 @@ module _ (S : Sheet) (ordered : Ordered S) (E : Entries) where
         holds = holdsAt;
       }
     where
-      valued : (c : Cell) → valueIn (postCell c v) ≡ v
-      valued (unk f) = refl
-      valued (held w m) = go (same w v) refl
-        where
-          go : (b : Bool) → same w v ≡ b → valueIn (cond b (held w m) (held v notice)) ≡ v
-          go true e = same-true w v e
-          go false e = refl
-
       shaped : (c : Cell) → entryForm c ≡ true → entryForm (postCell c v) ≡ true
       shaped (unk f) e = refl
       shaped (held w m) e = go (same w v)
@@ -185,7 +176,7 @@ module _ (S : Sheet) (ordered : Ordered S) (E : Entries) where
       holdsAt j l e = go (eqb j i)
         where
           go : (b : Bool) → valueIn (cond b (postCell (T i) v) (T j)) ≡ cond b v (E j)
-          go true = valued (T i)
+          go true = posted-value (T i) v
           go false = sound .holds j l e
 
   -- the items of a board: none, or those that are looked up after catching up
@@ -198,50 +189,50 @@ module _ (S : Sheet) (ordered : Ordered S) (E : Entries) where
   close-sound T holds =
       record { invariant = close-invariant S ordered E T holds; formed = close-formed S ordered E T holds; holds = close-holds S ordered E T holds }
 
-  -- a post, refused or not
-  post-heard : (T : Table) (i kind : ℕ) (z : ℤ) → Sound S E T
-      → Sound S (hear S E (called (post i kind z))) (perform S T (post i kind z) .table)
-  unfolding perform tests firstCause effect
-  post-heard T i kind z sound = rw (hear-post S E i kind z) (go (beyond S i) (isFigure (itemAt S i)) (postedValue kind z) refl refl)
-    where
-      go : (b f : Bool) (o : Option Value) → isFigure (itemAt S i) ≡ f → postedValue kind z ≡ o
-          → Sound S (cond (b || f) E (setIf E i o)) (effectUnless (cond b 11 (cond f 12 (cond (isNone o) 13 0))) S T (post i kind z) .table)
-      go true f o e h = sound
-      go false true o e h = sound
-      go false false none e h = sound
-      go false false (some v) e h = rw h (post-sound T i v e sound)
+-- postings that fit set their entries, in order
+pub postings-sound : (S : Sheet) → Ordered S → (ps : List Posting) (E : Entries) (T : Table) → AllFit S ps → Sound S E T
+    → Sound S (entered E ps) (storePostings T ps)
+unfolding entered storePostings
+postings-sound S ordered [] E T fit sound = sound
+postings-sound S ordered (p ∷ ps) E T fit sound =
+    postings-sound S ordered ps (setEntry E (p .entry) (p .value)) (storePosting T (p .entry) (p .value)) (fit .1)
+    (post-sound S ordered E T (p .entry) (p .value) (fit .0 .to-entry) sound)
 
-  -- the other calls, refused or not: the fresh office hears nothing in them
-  heard : (T : Table) (c : Call) → Sound S E T → (firstCause (tests S T c) ≡ 0 → Sound S E (effect S T c .table))
-      → Sound S E (perform S T c .table)
-  unfolding perform
-  heard T c sound accepted = go (firstCause (tests S T c)) refl
+module _ (S : Sheet) (ordered : Ordered S) (E : Entries) where
+  -- an accepted call
+  accepted-sound : (T : Table) (c : Call) → Sound S E T → firstCause (tests S T c) ≡ 0 → Sound S (entered E (postingsBy (entriesOf T) c)) (effect S T c .table)
+  unfolding effect entered
+  accepted-sound T (post i kind z) sound e = postings-sound S ordered _ E T (postings-fit S T (post i kind z) e) sound
+  accepted-sound T (keep i) sound e = fill-sound S ordered E T (keepFigure S T i) (keep-fill S ordered T i (keep-passed S T i e .1)) sound
+  accepted-sound T (drop i) sound e = drop-sound S ordered E T i (drop-passed S T i e .1) sound
+  accepted-sound T (step i) sound e = step-sound S ordered E T i sound
+  accepted-sound T (ask i) sound e =
+      fill-sound S ordered E (catchUp S T) (lookUp S (catchUp S T) i .table) (look-right S ordered (catchUp S T) i .fill) (catchUp-sound S ordered E T sound)
+  accepted-sound T (board items results) sound e = show-sound S ordered E T (listed items) sound
+  accepted-sound T close sound e = close-sound S ordered E T (sound .holds)
+  accepted-sound T (swap giver taker quantity) sound e =
+      postings-sound S ordered _ E T (postings-fit S T (swap giver taker quantity) e) sound
+
+  -- every call keeps the table sound, with the entries set by the postings that it makes
+  pub perform-sound : (T : Table) (c : Call) → Sound S E T → Sound S (entered E (postingsMade S T c)) (perform S T c .table)
+  unfolding perform postingsMade entered
+  perform-sound T c sound = go (firstCause (tests S T c)) refl
     where
-      go : (k : ℕ) → firstCause (tests S T c) ≡ k → Sound S E (effectUnless k S T c .table)
-      go zero e = accepted e
+      go : (k : ℕ) → firstCause (tests S T c) ≡ k → Sound S (entered E (ifAccepted (effectUnless k S T c .number) (postingsBy (entriesOf T) c))) (effectUnless k S T c .table)
+      go zero e = rw (effect-number S T c) (accepted-sound T c sound e)
       go (suc k) e = sound
 
-  -- every call keeps the table sound, with the entries that the fresh office holds after hearing it
-  pub perform-sound : (T : Table) (c : Call) → Sound S E T → Sound S (hear S E (called c)) (perform S T c .table)
-  unfolding hear effect
-  perform-sound T (post i kind z) sound = post-heard T i kind z sound
-  perform-sound T (keep i) sound =
-      heard T (keep i) sound (λ e. fill-sound T (keepFigure S T i) (keep-fill S ordered T i (keep-passed S T i e .1)) sound)
-  perform-sound T (drop i) sound = heard T (drop i) sound (λ e. drop-sound T i (drop-passed S T i e .1) sound)
-  perform-sound T (step i) sound = heard T (step i) sound (λ e. step-sound T i sound)
-  perform-sound T (ask i) sound =
-      heard T (ask i) sound
-      (λ e. fill-sound (catchUp S T) (lookUp S (catchUp S T) i .table) (look-right S ordered (catchUp S T) i .fill) (catchUp-sound T sound))
-  perform-sound T (board items results) sound = heard T (board items results) sound (λ e. show-sound T (listed items) sound)
-  perform-sound T close sound = heard T close sound (λ e. close-sound T (sound .holds))
-
--- and so does every list of calls
+-- and so does every list of calls, with the entries that the fresh office then holds
 pub run-sound : (S : Sheet) → Ordered S → (cs : List Call) (E : Entries) (T : Table) → Sound S E T
-    → Sound S (freshRun S E cs) (run S T cs)
-unfolding hearAll run
+    → Sound S (freshRun S E T cs) (run S T cs)
+unfolding hearAll events run
 run-sound S ordered [] E T sound = sound
 run-sound S ordered (c ∷ cs) E T sound =
-    run-sound S ordered cs (hear S E (called c)) (perform S T c .table) (perform-sound S ordered E T c sound)
+    let made : List Posting = postingsMade S T c in
+    let U : Table = perform S T c .table in
+    subst (λ F. Sound S F (run S U cs)) (sym (hear-append S (fed c made) (events S U cs) E))
+    (run-sound S ordered cs (hearAll S E (fed c made)) U
+    (subst (λ F. Sound S F U) (sym (hear-made S E T c)) (perform-sound S ordered E T c sound)))
 
 -- both openings are sound
 pub bare-sound : (S : Sheet) → Sound S blank (openBare S)

@@ -7,10 +7,11 @@ use mathlib.Core.Option.{Option, none, some}
 use lib.Dec.{eqb}
 use lib.IntN.{ℤ}
 use Rattle.circuit.specs.Value.{Value, partsOf}
-use Rattle.circuit.specs.Sheet.{Sheet, itemAt, isFigure, beyond}
-use Rattle.circuit.specs.Table.{Table, isMarked}
-use Rattle.circuit.specs.Call.{Call, post, keep, drop, step, ask, board, close, Posting}
+use Rattle.circuit.specs.Sheet.{Sheet, Entries, itemAt, isFigure, beyond}
+use Rattle.circuit.specs.Table.{Table, entriesOf, isMarked}
+use Rattle.circuit.specs.Call.{Call, post, keep, drop, step, ask, board, close, swap, Posting, posting}
 use Rattle.circuit.specs.Board.{listed, listsWrong}
+use Rattle.circuit.specs.Swap.{noSwap, resultsBeyond, swapPostings}
 use Rattle.circuit.specs.Closing.{closeAll}
 use Rattle.circuit.specs.Machine.{Looked, Gathered, gather, storePosting, keepFigure, dropFigure, stepItem, catchUp, lookUp}
 
@@ -56,6 +57,15 @@ unfoldable pub firstCause : List Test → ℕ
 firstCause [] = 0
 firstCause (t ∷ ts) = cond (t .holds) (t .number) (firstCause ts)
 
+-- the tests of a swap, by the values that the entries hold: 11 and 12 of either item, then 18, then 13
+abbrev pub swapTests : Sheet → Entries → ℕ → ℕ → ℤ → List Test
+swapTests S E giver taker quantity =
+    test 11 (noItem S giver || noItem S taker)
+    ∷ test 12 (notEntry S giver || notEntry S taker)
+    ∷ test 18 (noSwap giver taker quantity)
+    ∷ test 13 (resultsBeyond E giver taker quantity)
+    ∷ []
+
 -- the tests of a call, in their order
 unfoldable pub tests : Sheet → Table → Call → List Test
 tests S T (post i kind z) = test 11 (noItem S i) ∷ test 12 (notEntry S i) ∷ test 13 (notPostable kind z) ∷ []
@@ -65,6 +75,7 @@ tests S T (step i) = test 11 (noItem S i) ∷ test 14 (noMark T i) ∷ []
 tests S T (ask i) = test 11 (noItem S i) ∷ []
 tests S T (board items results) = test 17 (listsWrong items results) ∷ test 11 (someNoItem S (listed items)) ∷ []
 tests S T close = []
+tests S T (swap giver taker quantity) = swapTests S (entriesOf T) giver taker quantity
 
 -- what a call gives: its number, the value of an accepted ask, the values of an accepted board, and the table afterwards
 pub record Outcome : Type 0 where
@@ -76,9 +87,30 @@ pub record Outcome : Type 0 where
 abbrev pub outcome : ℕ → Option Value → Table → Outcome
 outcome k v T = record { number = k; reading = v; shown = []; table = T }
 
-abbrev pub postIt : Table → ℕ → Option Value → Table
-postIt T i none = T
-postIt T i (some v) = storePosting T i v
+abbrev pub postingOf : ℕ → Option Value → List Posting
+postingOf i none = []
+postingOf i (some v) = posting i v ∷ []
+
+-- What a call posts if it is accepted, by the values that the entries hold: a post one posting, also of an equal value; a swap two; the
+-- other calls none.
+abbrev pub postingsBy : Entries → Call → List Posting
+postingsBy E (post i kind z) = postingOf i (postedValue kind z)
+postingsBy E (keep i) = []
+postingsBy E (drop i) = []
+postingsBy E (step i) = []
+postingsBy E (ask i) = []
+postingsBy E (board items results) = []
+postingsBy E close = []
+postingsBy E (swap giver taker quantity) = swapPostings E giver taker quantity
+
+-- postings are stored one after the other
+unfoldable pub storePostings : Table → List Posting → Table
+storePostings T [] = T
+storePostings T (p ∷ ps) = storePostings (storePosting T (p .entry) (p .value)) ps
+
+-- a call that does nothing but post
+abbrev pub posts : Table → Call → Outcome
+posts T c = outcome 0 none (storePostings T (postingsBy (entriesOf T) c))
 
 abbrev pub readingOf : Looked → Outcome
 readingOf r = outcome 0 (some (r .value)) (r .table)
@@ -94,13 +126,14 @@ showItems S T (i ∷ is) = shownOf (gather (lookUp S) (catchUp S T) (i ∷ is))
 
 -- the call itself, where no cause holds
 unfoldable pub effect : Sheet → Table → Call → Outcome
-effect S T (post i kind z) = outcome 0 none (postIt T i (postedValue kind z))
+effect S T (post i kind z) = posts T (post i kind z)
 effect S T (keep i) = outcome 0 none (keepFigure S T i)
 effect S T (drop i) = outcome 0 none (dropFigure T i)
 effect S T (step i) = outcome 0 none (stepItem S T i)
 effect S T (ask i) = readingOf (lookUp S (catchUp S T) i)
 effect S T (board items results) = showItems S T (listed items)
 effect S T close = outcome 0 none (closeAll S T)
+effect S T (swap giver taker quantity) = posts T (swap giver taker quantity)
 
 abbrev pub effectUnless : ℕ → Sheet → Table → Call → Outcome
 effectUnless zero S T c = effect S T c
@@ -115,27 +148,13 @@ unfoldable pub run : Sheet → Table → List Call → Table
 run S T [] = T
 run S T (c ∷ cs) = run S (perform S T c .table) cs
 
-abbrev pub postingOf : ℕ → Option Value → List Posting
-postingOf i none = []
-postingOf i (some v) = record { entry = i; value = v } ∷ []
-
--- the posting of a post's arguments; the other calls make none
-abbrev pub postingBy : Call → List Posting
-postingBy (post i kind z) = postingOf i (postedValue kind z)
-postingBy (keep i) = []
-postingBy (drop i) = []
-postingBy (step i) = []
-postingBy (ask i) = []
-postingBy (board items results) = []
-postingBy close = []
-
 abbrev pub ifAccepted : ℕ → List Posting → List Posting
 ifAccepted zero ps = ps
 ifAccepted (suc k) ps = []
 
--- The postings that a call makes: one for a post that is accepted, that is, gives number 0.
+-- The postings that a call makes: those that it posts, if it is accepted, that is, gives number 0.
 unfoldable pub postingsMade : Sheet → Table → Call → List Posting
-postingsMade S T c = ifAccepted (perform S T c .number) (postingBy c)
+postingsMade S T c = ifAccepted (perform S T c .number) (postingsBy (entriesOf T) c)
 
 -- the postings that a list of calls makes, in order
 unfoldable pub postings : Sheet → Table → List Call → List Posting
@@ -151,3 +170,4 @@ drops (step i) k = false
 drops (ask i) k = false
 drops (board items results) k = false
 drops close k = false
+drops (swap giver taker quantity) k = false

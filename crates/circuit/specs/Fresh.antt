@@ -1,6 +1,6 @@
 -- 01's fresh office, a plain machine beside the engine. It is fed the sheet, the calls' arguments and the postings that a
--- later request's call makes, and nothing else from an index or work table: nothing here names a cell or a table, or what a
--- call of the engine tests or does; 11 and 12 are read off the sheet. Assumes nothing.
+-- later request's call makes (02's swap does), and nothing else from an index or work table: nothing here names a cell or a table,
+-- or what a call of the engine tests or does; 11 and 12 are read off the sheet. Assumes nothing.
 use Prim.Native.Nat.{ℕ, zero, suc}
 use mathlib.Core.Bool.{Bool, cond, not, _&&_, _||_}
 use mathlib.Core.List.{List, [], _∷_, map}
@@ -10,12 +10,23 @@ use lib.IntN.{ℤ, natAbs}
 use Rattle.circuit.specs.Value.{Value, null, num, limit}
 use Rattle.circuit.specs.Rules.{apply}
 use Rattle.circuit.specs.Sheet.{Sheet, Item, entry, figure, itemAt, isFigure, beyond, Entries}
-use Rattle.circuit.specs.Call.{Call, post, keep, drop, step, ask, board, close, Posting}
+use Rattle.circuit.specs.Call.{Call, post, keep, drop, step, ask, board, close, swap, Posting}
 
--- what it is fed besides the sheet: a call's arguments, or a posting that a later request's call makes (no call makes one yet)
+-- what it is fed besides the sheet: a call's arguments, or a posting that a later request's call makes
 pub data Event : Type 0 where
   called : Call → Event
   posted : Posting → Event
+
+-- What it is fed of a call that made the postings ps: of a swap these postings alone, of any other call the arguments alone.
+abbrev pub fed : Call → List Posting → List Event
+fed (post i kind z) ps = called (post i kind z) ∷ []
+fed (keep i) ps = called (keep i) ∷ []
+fed (drop i) ps = called (drop i) ∷ []
+fed (step i) ps = called (step i) ∷ []
+fed (ask i) ps = called (ask i) ∷ []
+fed (board items results) ps = called (board items results) ∷ []
+fed close ps = called close ∷ []
+fed (swap giver taker quantity) ps = map posted ps
 
 -- Its state is one value for each entry (`Entries`), all NULL at an opening.
 abbrev pub blank : Entries
@@ -37,7 +48,8 @@ unfoldable pub hasCause : Sheet → ℕ → ℕ → ℤ → Bool
 hasCause S i kind z = beyond S i || (isFigure (itemAt S i) || not (postable kind z))
 
 -- A post with a cause changes nothing; any other sets its entry to what was posted. Keep, drop, step, ask, board and close
--- change nothing, refused or not. A posting that a later request's call makes sets its entry, whatever the value or the entry.
+-- change nothing, refused or not. A swap's arguments, which it is not fed, would change nothing. A posting that a later request's call
+-- makes sets its entry, whatever the value or the entry.
 unfoldable pub hear : Sheet → Entries → Event → Entries
 hear S E (called (post i kind z)) = cond (hasCause S i kind z) E (setEntry E i (postedAs kind z))
 hear S E (called (keep i)) = E
@@ -46,6 +58,7 @@ hear S E (called (step i)) = E
 hear S E (called (ask i)) = E
 hear S E (called (board items results)) = E
 hear S E (called close) = E
+hear S E (called (swap giver taker quantity)) = E
 hear S E (posted p) = setEntry E (p .entry) (p .value)
 
 unfoldable pub hearAll : Sheet → Entries → List Event → Entries
@@ -79,7 +92,3 @@ valuesWith (some v) (some vs) = some (v ∷ vs)
 unfoldable pub freshAsks : Sheet → Entries → List ℕ → Option (List Value)
 freshAsks S E [] = some []
 freshAsks S E (i ∷ is) = valuesWith (freshAsk S E i) (freshAsks S E is)
-
--- fed a list of calls from the entries E
-abbrev pub freshRun : Sheet → Entries → List Call → Entries
-freshRun S E cs = hearAll S E (map called cs)

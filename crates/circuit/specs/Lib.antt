@@ -9,8 +9,10 @@ pub mod Owed
 pub mod Machine
 pub mod Ascending
 pub mod Closing
+pub mod Swap
 pub mod Calls
 pub mod Fresh
+pub mod Events
 pub mod Words
 pub mod WellFormed
 pub mod Equations

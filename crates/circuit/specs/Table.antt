@@ -3,7 +3,7 @@ use Prim.Native.Nat.{ℕ}
 use mathlib.Core.Bool.{Bool, true, false, cond}
 use lib.Dec.{eqb}
 use Rattle.circuit.specs.Value.{Value, null}
-use Rattle.circuit.specs.Sheet.{Sheet, Item, entry, figure, itemAt}
+use Rattle.circuit.specs.Sheet.{Sheet, Item, entry, figure, itemAt, Entries}
 use Rattle.circuit.specs.Call.{Opening, bare, full}
 
 pub data Mark : Type 0 where
@@ -31,6 +31,10 @@ isStored (held v m) = true
 abbrev pub valueIn : Cell → Value
 valueIn (unk b) = null
 valueIn (held v m) = v
+
+-- the values that its entries hold
+abbrev pub entriesOf : Table → Entries
+entriesOf T = λ i. valueIn (T i)
 
 abbrev pub isNotice : Mark → Bool
 isNotice unmarked = false

@@ -1,0 +1,108 @@
+-- Swaps. Over any of them, refused ones included, the sum of the entries stays (`swaps-sum`). On a sound table a swap's tests and postings
+-- follow from the values that the fresh office holds (`swap-tests`, `swap-posts`). Assumes nothing.
+use Prim.Native.Nat.{ℕ, zero, suc, _<_, _≤_}
+use native.Mathlib.Omega.{arith}
+use mathlib.Core.Path.{_≡_, refl, sym, ap, subst, _∙_}
+use mathlib.Core.Bool.{Bool, true, false, cond, not, _&&_, _||_}
+use mathlib.Core.List.{List, [], _∷_, map}
+use lib.Dec.{eqb}
+use lib.IntN.{ℤ, pos, negℤ, _+ℤ_, _-ℤ_, +ℤ-idr, +ℤ-assoc, +ℤ-comm, -ℤ-+ℤ-cancel}
+use borrow.Author.Tests.{eqb-true, eqb-false, eq-eqb, ne-eqb, leb-false}
+use Rattle.circuit.specs.Value.{Value, num, inRange}
+use Rattle.circuit.specs.Sheet.{Sheet, Entries, size, itemAt, isFigure}
+use Rattle.circuit.specs.Table.{Table, entriesOf}
+use Rattle.circuit.specs.Call.{Call, swap, Posting}
+use Rattle.circuit.specs.Swap.{counted, leftWith, comesTo, noSwap, resultsBeyond, swapPostings, sumBelow, sumOf}
+use Rattle.circuit.specs.Calls.{test, noItem, notEntry, swapTests, tests, firstCause, effect, effectUnless, perform}
+use Rattle.circuit.specs.Fresh.{setEntry}
+use Rattle.circuit.specs.Words.{Holds}
+use Rattle.circuit.proofs.RuleLaws.{or-false}
+use Rattle.circuit.proofs.Fresh.{entered}
+use Rattle.circuit.proofs.Accepted.{SwapPassed, swap-passed, tests-passed}
+use Rattle.circuit.proofs.Postings.{postings-entries}
+
+-- ---- the sum
+
+-- what is added to the sum for item j
+abbrev share : Sheet → Entries → ℕ → ℤ
+share S E j = cond (isFigure (itemAt S j)) (pos 0) (counted (E j))
+
+-- a sum that does not reach e
+sum-beyond : (S : Sheet) (E : Entries) (e : ℕ) (v : Value) (k : ℕ) → k ≤ e → sumBelow S (setEntry E e v) k ≡ sumBelow S E k
+unfolding sumBelow
+sum-beyond S E e v zero high = refl
+sum-beyond S E e v (suc k) high =
+    rw (sum-beyond S E e v k (omega arith), ne-eqb k e (λ q. omega arith))
+
+-- an entry that changes by d changes the sum by d
+sum-set : (S : Sheet) (E : Entries) (e : ℕ) (v : Value) (d : ℤ) → isFigure (itemAt S e) ≡ false → counted v ≡ counted (E e) +ℤ d
+    → (k : ℕ) → e < k → sumBelow S (setEntry E e v) k ≡ sumBelow S E k +ℤ d
+unfolding sumBelow
+sum-set S E e v d entry by zero low = absurd (omega arith)
+sum-set S E e v d entry by (suc k) low = go (sum-set S E e v d entry by k) (eqb k e) refl
+  where
+    go : (e < k → sumBelow S (setEntry E e v) k ≡ sumBelow S E k +ℤ d) → (b : Bool) → eqb k e ≡ b → sumBelow S (setEntry E e v) k +ℤ share S (setEntry E e v) k ≡ (sumBelow S E k +ℤ share S E k) +ℤ d
+    go below true q =
+        let here : k ≡ e = eqb-true k e q in
+        let at : isFigure (itemAt S k) ≡ false = ap (λ j. isFigure (itemAt S j)) here ∙ entry in
+        rw (sum-beyond S E e v k (omega arith), at, q, by)
+        (ap (λ j. sumBelow S E k +ℤ (counted (E j) +ℤ d)) (sym here) ∙ sym (+ℤ-assoc (sumBelow S E k) (counted (E k)) d))
+    go below false q =
+        let other : k ≡ e → ⊥ = eqb-false k e q in
+        let x : ℤ = share S E k in
+        rw (below (omega arith), q)
+        (+ℤ-assoc (sumBelow S E k) d x ∙ ap (λ y. sumBelow S E k +ℤ y) (+ℤ-comm d x) ∙ sym (+ℤ-assoc (sumBelow S E k) x d))
+
+-- a swap that is one keeps the sum
+swap-entered : (S : Sheet) (E : Entries) (giver taker : ℕ) (quantity : ℤ) → SwapPassed S E giver taker quantity
+    → sumOf S (entered E (swapPostings E giver taker quantity)) ≡ sumOf S E
+unfolding entered noSwap
+swap-entered S E giver taker quantity passed =
+    sum-set S D taker (num (comesTo E taker quantity)) quantity (passed .taker-entry) gains (size S) (passed .taker-low)
+    ∙ ap (λ x. x +ℤ quantity) (sum-set S E giver (num (leftWith E giver quantity)) (negℤ quantity) (passed .giver-entry) refl (size S) (passed .giver-low))
+    ∙ -ℤ-+ℤ-cancel (sumOf S E) quantity
+  where
+    D : Entries
+    D = setEntry E giver (num (leftWith E giver quantity))
+
+    two : taker ≡ giver → ⊥
+    two q = eqb-false giver taker (or-false _ _ (passed .a-swap) .0) (sym q)
+
+    gains : comesTo E taker quantity ≡ counted (D taker) +ℤ quantity
+    gains = rw (ne-eqb taker giver two)
+
+pub swap-sum : (S : Sheet) (T : Table) (giver taker : ℕ) (quantity : ℤ)
+    → sumOf S (entriesOf (perform S T (swap giver taker quantity) .table)) ≡ sumOf S (entriesOf T)
+unfolding perform effect
+swap-sum S T giver taker quantity = go (firstCause (tests S T (swap giver taker quantity))) refl
+  where
+    go : (k : ℕ) → firstCause (tests S T (swap giver taker quantity)) ≡ k
+        → sumOf S (entriesOf (effectUnless k S T (swap giver taker quantity) .table)) ≡ sumOf S (entriesOf T)
+    go zero e =
+        ap (sumOf S) (postings-entries (swapPostings (entriesOf T) giver taker quantity) T)
+        ∙ swap-entered S (entriesOf T) giver taker quantity (swap-passed S T giver taker quantity e)
+    go (suc k) e = refl
+
+-- ---- by the fresh office's values
+
+module _ (S : Sheet) (T : Table) (E : Entries) (holds : Holds S T E) (giver taker : ℕ) (quantity : ℤ) where
+  -- the tests of a swap are those by the values that the entries hold
+  pub swap-tests : firstCause (tests S T (swap giver taker quantity)) ≡ firstCause (swapTests S E giver taker quantity)
+  unfolding tests firstCause resultsBeyond
+  swap-tests = go (noItem S giver || noItem S taker) (notEntry S giver || notEntry S taker) refl refl
+    where
+      go : (a b : Bool) → (noItem S giver || noItem S taker) ≡ a → (notEntry S giver || notEntry S taker) ≡ b
+          → firstCause (test 11 a ∷ test 12 b ∷ test 18 (noSwap giver taker quantity) ∷ test 13 (resultsBeyond (entriesOf T) giver taker quantity) ∷ [])
+          ≡ firstCause (test 11 a ∷ test 12 b ∷ test 18 (noSwap giver taker quantity) ∷ test 13 (resultsBeyond E giver taker quantity) ∷ [])
+      go true b e f = refl
+      go false true e f = refl
+      go false false e f =
+          let low = or-false _ _ e in
+          let entries = or-false _ _ f in
+          rw (holds giver (leb-false (size S) giver (low .0)) (entries .0), holds taker (leb-false (size S) taker (low .1)) (entries .1))
+
+  -- and so are the postings of one that is accepted
+  pub swap-posts : firstCause (tests S T (swap giver taker quantity)) ≡ 0 → swapPostings (entriesOf T) giver taker quantity ≡ swapPostings E giver taker quantity
+  swap-posts e =
+      let passed = swap-passed S T giver taker quantity e in
+      rw (holds giver (passed .giver-low) (passed .giver-entry), holds taker (passed .taker-low) (passed .taker-entry))
