@@ -9,13 +9,13 @@ use native.Mathlib.Omega.{arith}
 use Rattle.circuit.specs.Circuit.{Listed, LeadsTo}
 use Rattle.circuit.specs.Sheet.{Sheet, Ordered, Entries, size, itemAt, isFigure, circuitOf}
 use Rattle.circuit.specs.Table.{Table, entriesOf, opened}
-use Rattle.circuit.specs.Call.{Call, Posting, Opening}
+use Rattle.circuit.specs.Call.{Call, Posting, postedTo, Opening}
 use Rattle.circuit.specs.Calls.{tests, firstCause, postingsBy, effectUnless, perform, run, ifAccepted, postingsMade, postings}
 use Rattle.circuit.specs.Fresh.{blank}
 use Rattle.circuit.specs.Events.{freshRun}
 use Rattle.circuit.specs.Words.{Quiet, Holds}
 use Rattle.circuit.proofs.Accepted.{effect-number}
-use Rattle.circuit.proofs.Postings.{AllFit, postings-fit, postedTo}
+use Rattle.circuit.proofs.Postings.{AllFit, postings-fit}
 use Rattle.circuit.proofs.Fresh.{entered, fresh-entered}
 use Rattle.circuit.proofs.Sound.{Sound, run-sound}
 use Rattle.circuit.proofs.Offices.{Agree, opened-sound, two-openings}

@@ -2,7 +2,7 @@
 use Prim.Native.Nat.{ℕ, _<_}
 use mathlib.Core.Path.{_≡_, refl, ap, _∙_, fun-ext}
 use mathlib.Core.Bool.{Bool, true, false, cond}
-use mathlib.Core.List.{List, [], _∷_, map}
+use mathlib.Core.List.{List, [], _∷_}
 use mathlib.Core.Logic.{inl, inr}
 use mathlib.Core.Option.{Option, none, some}
 use lib.Dec.{eqb}
@@ -12,7 +12,7 @@ use Rattle.circuit.specs.Circuit.{Listed}
 use Rattle.circuit.specs.Sheet.{Sheet, size, itemAt, isFigure}
 use Rattle.circuit.specs.Table.{Table, Cell, notice, unk, held, valueIn, entriesOf}
 use Rattle.circuit.specs.Machine.{postCell, storePosting}
-use Rattle.circuit.specs.Call.{Call, post, keep, drop, step, ask, board, close, swap, Posting}
+use Rattle.circuit.specs.Call.{Call, post, keep, drop, step, ask, board, close, swap, Posting, postedTo}
 use Rattle.circuit.specs.Calls.{tests, firstCause, postedValue, postingOf, postingsBy, storePostings}
 use Rattle.circuit.specs.Fresh.{setEntry}
 use Rattle.circuit.proofs.RuleLaws.{same-true}
@@ -77,10 +77,6 @@ unfolding storePostings entered
 postings-entries [] T = refl
 postings-entries (p ∷ ps) T =
     postings-entries ps (storePosting T (p .entry) (p .value)) ∙ ap (λ E. entered E ps) (posting-entries T (p .entry) (p .value))
-
--- the entries that are posted to
-abbrev pub postedTo : List Posting → List ℕ
-postedTo ps = map (λ p. p .entry) ps
 
 -- no other cell changes
 pub postings-other : (ps : List Posting) (T : Table) (k : ℕ) → (Listed k (postedTo ps) → ⊥) → storePostings T ps k ≡ T k

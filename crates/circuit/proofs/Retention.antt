@@ -14,7 +14,7 @@ use Rattle.circuit.specs.Circuit.{IsSolution, Listed, LeadsTo, direct, f
 use Rattle.circuit.specs.Sheet.{Sheet, Item, entry, figure, itemAt, isFigure, size, parents, Ordered, Entries, circuitOf, evaluate}
 use Rattle.circuit.specs.Table.{Table, Cell, unmarked, refresh, notice, unk, held, isStored, valueIn, entriesOf, isMarked, cellForm}
 use Rattle.circuit.specs.Machine.{workOut, keepFigure, dropFigure, dropCell, stepItem, catchUp}
-use Rattle.circuit.specs.Call.{Call, post, keep, drop, step, ask, board, close, swap, Posting}
+use Rattle.circuit.specs.Call.{Call, post, keep, drop, step, ask, board, close, swap, Posting, postedTo}
 use Rattle.circuit.specs.Board.{listed}
 use Rattle.circuit.specs.Calls.{tests, firstCause, showItems, postingsBy, storePostings, effect, effectUnless, perform, run, ifAccepted, postingsMade, postings, drops}
 use Rattle.circuit.specs.Closing.{closeAll}
@@ -29,7 +29,7 @@ use Rattle.circuit.proofs.Reading.{quiet-exact, exact-solution}
 use Rattle.circuit.proofs.Closure.{Closed, step-closed, catchUp-closed}
 use Rattle.circuit.proofs.Closing.{close-at}
 use Rattle.circuit.proofs.Accepted.{effect-number, keep-passed, drop-passed, step-passed}
-use Rattle.circuit.proofs.Postings.{postedTo, postings-other}
+use Rattle.circuit.proofs.Postings.{postings-other}
 
 -- k is none of the items es, nor led to by one
 abbrev pub Outside : Sheet → List ℕ → ℕ → Type 0

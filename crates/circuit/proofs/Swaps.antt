@@ -6,7 +6,8 @@ use mathlib.Core.Path.{_≡_, refl, sym, ap, subst, _∙_}
 use mathlib.Core.Bool.{Bool, true, false, cond, not, _&&_, _||_}
 use mathlib.Core.List.{List, [], _∷_, map}
 use lib.Dec.{eqb}
-use lib.IntN.{ℤ, pos, negℤ, _+ℤ_, _-ℤ_, +ℤ-idr, +ℤ-assoc, +ℤ-comm, -ℤ-+ℤ-cancel}
+use lib.IntN.{ℤ, pos, negsuc, negℤ, _+ℤ_, _-ℤ_, +ℤ-assoc, +ℤ-comm, +ℤ-invr, +ℤ-negℤ-cancel, -ℤ-+ℤ-cancel}
+use lib.Signed.{ltZ}
 use borrow.Author.Tests.{eqb-true, eqb-false, eq-eqb, ne-eqb, leb-false}
 use Rattle.circuit.specs.Value.{Value, num, inRange}
 use Rattle.circuit.specs.Sheet.{Sheet, Entries, size, itemAt, isFigure}
@@ -20,6 +21,15 @@ use Rattle.circuit.proofs.RuleLaws.{or-false}
 use Rattle.circuit.proofs.Fresh.{entered}
 use Rattle.circuit.proofs.Accepted.{SwapPassed, swap-passed, tests-passed}
 use Rattle.circuit.proofs.Postings.{postings-entries}
+
+-- a number and another of 1 or more come to another number
+pub moved : (x d : ℤ) → ltZ d (pos 1) ≡ false → (x +ℤ d ≡ x) → ⊥
+moved x d some-d e = positive d some-d (sym (+ℤ-negℤ-cancel d x) ∙ ap (λ y. y -ℤ x) (+ℤ-comm d x ∙ e) ∙ +ℤ-invr x)
+  where
+    positive : (y : ℤ) → ltZ y (pos 1) ≡ false → y ≡ pos 0 → ⊥
+    positive (pos zero) h q = let bad : _≡_ {A = ℕ} 0 1 = cc in omega arith
+    positive (pos (suc n)) h q = let bad : _≡_ {A = ℕ} 0 1 = cc in omega arith
+    positive (negsuc n) h q = let bad : _≡_ {A = ℕ} 0 1 = cc in omega arith
 
 -- ---- the sum
 

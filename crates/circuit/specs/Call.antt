@@ -1,7 +1,7 @@
 -- A call with its arguments as given, a posting, and an opening: what is handed in. What a call tests and does stands in
 -- Calls. Assumes nothing.
 use Prim.Native.Nat.{ℕ}
-use mathlib.Core.List.{List}
+use mathlib.Core.List.{List, map}
 use lib.IntN.{ℤ}
 use Rattle.circuit.specs.Value.{Value}
 
@@ -21,6 +21,10 @@ pub record Posting : Type 0 where
 
 abbrev pub posting : ℕ → Value → Posting
 posting e v = record { entry = e; value = v }
+
+-- the entries that are posted to
+abbrev pub postedTo : List Posting → List ℕ
+postedTo ps = map (λ p. p .entry) ps
 
 -- 01's two openings
 pub data Opening : Type 0 where

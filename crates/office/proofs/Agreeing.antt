@@ -1,31 +1,33 @@
 -- Two offices agree, and what stays stored, for the calls on lent bytes. Assumes nothing.
 use Prim.Native.Nat.{ℕ, zero, suc, _<_}
 use native.Mathlib.Omega.{arith}
-use mathlib.Core.Path.{_≡_, refl, sym, ap, _∙_, subst, subst₂}
+use mathlib.Core.Path.{_≡_, refl, sym, ap, ap₂, _∙_, subst, subst₂}
 use mathlib.Core.Bool.{Bool, true, false, cond, not}
-use mathlib.Core.List.{List, [], _∷_, _++_, append-assoc, append-nil}
+use mathlib.Core.List.{List, [], _∷_}
+use mathlib.Core.Logic.{inl, inr}
 use mathlib.Core.Option.{Option, none, some}
 use lib.Dec.{eqb, ltb}
-use lib.IntN.{ℤ}
 use lib.ListN.{length, length-map}
 use borrow.Author.Tests.{lt-ltb, le-ltb}
 use Rattle.circuit.specs.Value.{Value}
-use Rattle.circuit.specs.Circuit.{LeadsTo}
+use Rattle.circuit.specs.Circuit.{Listed, LeadsTo}
 use Rattle.circuit.specs.Sheet.{Sheet, Ordered, Entries, size, itemAt, isFigure, circuitOf}
 use Rattle.circuit.specs.Table.{Table, Mark, unmarked, unk, held, isStored, valueIn, opened}
-use Rattle.circuit.specs.Call.{Call, post, keep, drop, step, ask, board, close, Posting, Opening, bare, full}
-use Rattle.circuit.specs.Calls.{Outcome, firstCause, tests, effect, perform, run, postingsMade, postingBy, postings, postingOf, postedValue, ifAccepted as ifMade}
+use Rattle.circuit.specs.Call.{Call, post, ask, board, close, postedTo, Opening, bare, full}
+use Rattle.circuit.specs.Calls.{Outcome, firstCause, tests, effect, perform, run, postingsMade, postings, postingOf, postedValue, ifAccepted}
 use Rattle.circuit.specs.Board.{listed, listsWrong}
-use Rattle.circuit.specs.Fresh.{blank, give, freshAsk, freshAsks, freshRun}
+use Rattle.circuit.specs.Fresh.{blank, hearAll, give, freshAsk, freshAsks}
+use Rattle.circuit.specs.Events.{freshRun}
 use Rattle.circuit.specs.Closing.{closeAll}
+use Rattle.circuit.specs.Words.{droppedIn}
 use Rattle.circuit.proofs.Solution.{figure-below}
 use Rattle.circuit.proofs.Offices.{Agree, Answers, Shows, two-offices, opened-sound}
-use Rattle.circuit.proofs.Retention.{Retained, retention}
+use Rattle.circuit.proofs.Retention.{Retained, call-retention}
+use Rattle.circuit.proofs.Demand.{figure-outside}
 use Rattle.circuit.proofs.View.{result-below}
 use Rattle.circuit.proofs.Invariant.{Justified, exact, due, awaits}
 use Rattle.circuit.proofs.Closing.{close-at}
 use Rattle.circuit.proofs.Sound.{Sound, run-sound}
-use Rattle.circuit.proofs.Accepted.{number-cause, post-passed}
 use Rattle.layout.specs.Read.{Placed, Scan, going, stopped, placeField, goOn, judge, itemTests, lastTests, headTests, scanItem, scan, scanEnd, afterLast, scanLast, scanSheet, conclude}
 use Rattle.layout.specs.Read.{headContent, SheetRead, opens, refused, readSheet, layoutOf}
 use Rattle.layout.specs.Content.{editionIn, countIn}
@@ -42,11 +44,11 @@ use Rattle.table.specs.Bytes.{encodeTable, Holdable}
 use Rattle.table.proofs.Tables.{encoded-kind, encoded-number, encodeTable-ext, bare-holdable, full-holdable}
 use Rattle.office.specs.Office.{Office, keeping, Given, resultsLent, accepted, openingTests, unlessRefused, callOn, openRead, openOn, runOn, kindRead, numberRead}
 use Rattle.office.specs.Demand2Words.{answerOf}
-use Rattle.office.specs.Demand3Words.{Posted, postOf, ifAccepted, acceptedPosts, freshAnswer, SameReading, Shown, shown, boardAfter, freshShown, freshBoard, SameBoard, SameAnswers}
-use Rattle.office.specs.Demand3Words.{storedIn, StaysStored, Retains}
+use Rattle.office.specs.Demand3Words.{madeOn, postingsOn, freshAnswer, freshEntries, freshAfter, SameReading, Shown, shown, boardAfter, freshShown, freshBoard, SameBoard, SameAnswers}
+use Rattle.office.specs.Demand3Words.{storedIn, StaysStored, Retains, RetainsPost}
 use Rattle.office.proofs.Cells.{kind-cell, parts-same, quiet-encoded}
 use Rattle.office.proofs.Holdable.{run-holdable, perform-holdable}
-use Rattle.office.proofs.Bridge.{Within, perform-within, run-within, resultsBy, givenBy, call-performs, run-performs}
+use Rattle.office.proofs.Bridge.{Within, perform-within, run-within, resultsBy, givenBy, call-performs, run-performs, made-performs, postings-performs, events-performs}
 
 -- a reading that stops does so by a number that is not 0
 abbrev Positive : Scan → Type 0
@@ -151,29 +153,6 @@ opened-holdable : (o : Opening) (S : Sheet) → Holdable S (opened o S)
 opened-holdable bare S = bare-holdable S
 opened-holdable full S = full-holdable S
 
--- the postings of posts by their arguments
-unfoldable pub postingsOf : List Posted → List Posting
-postingsOf [] = []
-postingsOf (p ∷ ps) = postingOf (p .item) (postedValue (p .kind) (p .number)) ++ postingsOf ps
-
-postings-append : (ps qs : List Posted) → postingsOf (ps ++ qs) ≡ postingsOf ps ++ postingsOf qs
-unfolding postingsOf
-postings-append [] qs = refl
-postings-append (p ∷ ps) qs =
-    ap (λ r. postingOf (p .item) (postedValue (p .kind) (p .number)) ++ r) (postings-append ps qs)
-    ∙ sym (append-assoc (postingOf (p .item) (postedValue (p .kind) (p .number))) (postingsOf ps) (postingsOf qs))
-
-post-made : (k : ℕ) (c : Call) → postingsOf (ifAccepted k (postOf c)) ≡ ifMade k (postingBy c)
-unfolding postingsOf
-post-made zero (post i kind z) = append-nil (postingOf i (postedValue kind z))
-post-made zero (keep i) = refl
-post-made zero (drop i) = refl
-post-made zero (step i) = refl
-post-made zero (ask i) = refl
-post-made zero (board items results) = refl
-post-made zero close = refl
-post-made (suc k) c = refl
-
 answer-same : (S : Sheet) (x : List ℕ) (o : Outcome) (k : ℕ) (v : Option Value) → o .number ≡ k → o .reading ≡ v
     → answerOf (givenBy S x [] o) ≡ record { number = k; offset = 0; kind = kindRead v; value = numberRead v }
 answer-same S x o k v n r = λ i. record { number = n i; offset = 0; kind = kindRead (r i); value = numberRead (r i) }
@@ -234,19 +213,19 @@ module _ (s : List ℕ) (edition : ℕ) (ps : List Placed) (reads : readSheet s 
       → callOn s (at T) c ≡ givenBy (sheetRead edition ps) (indexBytes ps) (resultsLent c) (perform (sheetRead edition ps) T c)
   performs = call-performs s edition ps reads (index-length ps) sized ordered
 
-  -- the accepted posts of a list are the postings that it makes
+  -- the postings of a call and of a list
+  pub made : (T : Table) (c : Call) → Holdable (sheetRead edition ps) T → Within (sheetRead edition ps) T → madeOn s (at T) c ≡ postingsMade (sheetRead edition ps) T c
+  made = made-performs s (indexBytes ps) (sheetRead edition ps) ordered performs
+
   pub posts-made : (cs : List Call) (T : Table) → Holdable (sheetRead edition ps) T → Within (sheetRead edition ps) T
-      → postingsOf (acceptedPosts s (at T) cs) ≡ postings (sheetRead edition ps) T cs
-  unfolding acceptedPosts postings postingsMade postingsOf
-  posts-made [] T h w = refl
-  posts-made (c ∷ cs) T h w =
-      let U : Table = perform (sheetRead edition ps) T c .table in
-      let one = performs T c h w in
-      let rest = posts-made cs U (perform-holdable (sheetRead edition ps) ordered T c h) (perform-within (sheetRead edition ps) ordered T c w) in
-      ap (λ g. postingsOf (ifAccepted (g .number) (postOf c) ++ acceptedPosts s (g .after) cs)) one
-      ∙ postings-append (ifAccepted (perform (sheetRead edition ps) T c .number) (postOf c)) _
-      ∙ ap (λ qs. postingsOf (ifAccepted (perform (sheetRead edition ps) T c .number) (postOf c)) ++ qs) rest
-      ∙ ap (λ qs. qs ++ postings (sheetRead edition ps) U cs) (post-made (perform (sheetRead edition ps) T c .number) c)
+      → postingsOn s (at T) cs ≡ postings (sheetRead edition ps) T cs
+  posts-made = postings-performs s (indexBytes ps) (sheetRead edition ps) ordered performs
+
+  -- what the fresh office then holds
+  pub fresh-is : (E : Entries) (cs : List Call) (T : Table) → Holdable (sheetRead edition ps) T → Within (sheetRead edition ps) T
+      → freshEntries s E (at T) cs ≡ freshRun (sheetRead edition ps) E T cs
+  fresh-is E cs T h w =
+      ap₂ (λ Y es. hearAll Y E es) sheet-is (events-performs s (indexBytes ps) (sheetRead edition ps) ordered performs cs T h w)
 
   pub runs : (cs : List Call) (T : Table) → Holdable (sheetRead edition ps) T → Within (sheetRead edition ps) T
       → runOn s (at T) cs ≡ at (run (sheetRead edition ps) T cs)
@@ -285,7 +264,7 @@ module _ (s : List ℕ) (edition : ℕ) (ps : List Placed) (reads : readSheet s 
 
   -- every ask and every board at two offices
   offices-same : (o p : Opening) (cs ds : List Call)
-      → acceptedPosts s (at (start o)) cs ≡ acceptedPosts s (at (start p)) ds
+      → postingsOn s (at (start o)) cs ≡ postingsOn s (at (start p)) ds
       → SameAnswers s (at (start o)) cs (at (start p)) ds
   offices-same o p cs ds equal = record { asks = same-reading; boards = same-board; closes = same-closed }
     where
@@ -298,22 +277,27 @@ module _ (s : List ℕ) (edition : ℕ) (ps : List Placed) (reads : readSheet s 
       made-same : postings X (start o) cs ≡ postings X (start p) ds
       made-same =
           sym (posts-made cs (start o) (start-holdable o) (start-within o))
-          ∙ ap postingsOf equal
+          ∙ equal
           ∙ posts-made ds (start p) (start-holdable p) (start-within p)
 
       both : Agree X blank (start o) cs (start p) ds
       both = two-offices X ordered blank (start o) cs (start p) ds (start-sound o) (start-sound p) made-same
 
+      -- what the fresh office holds, on the opened table
+      fresh-at : (how : Opening) (es : List Call) → freshEntries s blank (at (start how)) es ≡ freshRun X blank (start how) es
+      fresh-at how es = fresh-is blank es (start how) (start-holdable how) (start-within how)
+
       same-reading : (i : ℕ) → SameReading s (at (start o)) cs (at (start p)) ds i
       same-reading i =
           record {
             same = first ∙ alike ∙ sym second;
-            fresh = first ∙ answer-fresh X x one (freshAsk X (freshRun X blank cs) i) (both .first i) ∙ ap (λ Y. freshAnswer (freshAsk Y (freshRun Y blank cs) i)) (sym sheet-is);
-            fresh-other =
-                second ∙ sym alike ∙ answer-fresh X x one (freshAsk X (freshRun X blank ds) i) (both .second i)
-                ∙ ap (λ Y. freshAnswer (freshAsk Y (freshRun Y blank ds) i)) (sym sheet-is);
+            fresh = first ∙ answer-fresh X x one (freshAsk X (freshRun X blank (start o) cs) i) (both .first i) ∙ in-words o cs;
+            fresh-other = second ∙ sym alike ∙ answer-fresh X x one (freshAsk X (freshRun X blank (start p) ds) i) (both .second i) ∙ in-words p ds;
           }
         where
+          in-words : (how : Opening) (es : List Call) → freshAnswer (freshAsk X (freshRun X blank (start how) es) i) ≡ freshAfter s (at (start how)) es i
+          in-words how es = ap₂ (λ Y E. freshAnswer (freshAsk Y E i)) (sym sheet-is) (sym (fresh-at how es))
+
           one : Outcome
           one = perform X (run X (start o) cs) (ask i)
 
@@ -333,32 +317,32 @@ module _ (s : List ℕ) (edition : ℕ) (ps : List Placed) (reads : readSheet s 
       same-board items results =
           record {
             same = first ∙ ap (λ E. freshShown wrong (freshAsks X E (listed items)) results) (both .heard) ∙ sym second;
-            fresh = first ∙ in-words cs;
-            fresh-other = second ∙ in-words ds;
+            fresh = first ∙ in-words o cs;
+            fresh-other = second ∙ in-words p ds;
           }
         where
           wrong : Bool
           wrong = listsWrong items results
 
-          fresh : List Call → Shown
-          fresh es = freshShown wrong (freshAsks X (freshRun X blank es) (listed items)) results
+          fresh : Opening → List Call → Shown
+          fresh how es = freshShown wrong (freshAsks X (freshRun X blank (start how) es) (listed items)) results
 
-          in-words : (es : List Call) → fresh es ≡ freshBoard s es items results
-          in-words es = ap (λ Y. freshShown wrong (freshAsks Y (freshRun Y blank es) (listed items)) results) (sym sheet-is)
+          in-words : (how : Opening) (es : List Call) → fresh how es ≡ freshBoard s (at (start how)) es items results
+          in-words how es = ap₂ (λ Y E. freshShown wrong (freshAsks Y E (listed items)) results) (sym sheet-is) (sym (fresh-at how es))
 
-          first : boardAfter s (at (start o)) cs items results ≡ fresh cs
+          first : boardAfter s (at (start o)) cs items results ≡ fresh o cs
           first =
               ap shownBy (called-after cs (start o) (board items results) (start-holdable o) (start-within o))
               ∙ shown-fresh X x results wrong _ _ (both .shows items results)
 
-          second : boardAfter s (at (start p)) ds items results ≡ fresh ds
+          second : boardAfter s (at (start p)) ds items results ≡ fresh p ds
           second =
               ap shownBy (called-after ds (start p) (board items results) (start-holdable p) (start-within p))
               ∙ shown-fresh X x results wrong _ _ (both .shows-other items results)
 
       -- what the run leaves at an office is the fresh office's values
-      closed-cell : (how : Opening) (es : List Call) (i : ℕ) → i < size X → closeAll X (run X (start how) es) i ≡ held (give X (freshRun X blank es) i) unmarked
-      closed-cell how es = close-at X ordered (freshRun X blank es) (run X (start how) es) (run-sound X ordered es blank (start how) (start-sound how) .holds)
+      closed-cell : (how : Opening) (es : List Call) (i : ℕ) → i < size X → closeAll X (run X (start how) es) i ≡ held (give X (freshRun X blank (start how) es) i) unmarked
+      closed-cell how es = close-at X ordered (freshRun X blank (start how) es) (run X (start how) es) (run-sound X ordered es blank (start how) (start-sound how) .holds)
 
       same-closed : callOn s (runOn s (at (start o)) cs) close .after ≡ callOn s (runOn s (at (start p)) ds) close .after
       same-closed =
@@ -389,60 +373,51 @@ module _ (s : List ℕ) (edition : ℕ) (ps : List Placed) (reads : readSheet s 
         value = λ g. let now : isStored (U k) ≡ true = sym (stored-is U k low) ∙ g in held-same T U k low was now (r .unchanged was now);
       }
 
-  -- an entry is not led to, nor is it a figure: what is retained is no entry
-  outside : (e k : ℕ) → isFigure (itemAt (sheetRead edition ps) e) ≡ false → isFigure (itemAt (sheetRead edition ps) k) ≡ true → k ≡ e → ⊥
-  outside e k a b same =
-      let z : _≡_ {A = Bool} false true = sym a ∙ ap (λ j. isFigure (itemAt (sheetRead edition ps) j)) (sym same) ∙ b in
-      let bad : _≡_ {A = ℕ} 0 1 = cc in omega arith
-
   table-stays : (E : Entries) (T : Table) → Sound (sheetRead edition ps) E T → Holdable (sheetRead edition ps) T → Within (sheetRead edition ps) T
       → (p : Office) → p ≡ at T → ((k : ℕ) → k < size (sheetRead edition ps) → markIn (row width (p .table) k) ≡ 0)
-      → (e kind : ℕ) (z : ℤ) → callOn s p (post e kind z) .number ≡ 0
-      → (ds : List Call) → acceptedPosts s (callOn s p (post e kind z) .after) ds ≡ []
-      → (k : ℕ) → k < size (sheetRead edition ps) → isFigure (itemAt (sheetRead edition ps) k) ≡ true → (LeadsTo (circuitOf (sheetRead edition ps)) e k → ⊥)
-      → storedIn (p .table) k ≡ true → StaysStored (p .table) ds (runOn s (callOn s p (post e kind z) .after) ds .table) k
-  unfolding postingsOf
-  table-stays E T sound h w p is marks e kind z accepts ds none-made k low fig away was =
-      subst₂ (λ a b. StaysStored (a .table) ds (b .table) k) (sym is) (sym ran)
-      (stays T ds (run X U ds) k low
-      (retention X ordered T (sound .invariant) (sound .formed) (quiet-encoded X T (λ j l. ap (λ b. markIn (row width (b .table) j)) (sym is) ∙ marks j l)) e kind z ds none k low
-      (outside e k entry-e fig, away))
+      → (c : Call) (ds : List Call) → postingsOn s (callOn s p c .after) ds ≡ []
+      → (k : ℕ) → k < size (sheetRead edition ps) → isFigure (itemAt (sheetRead edition ps) k) ≡ true
+      → ((e : ℕ) → Listed e (postedTo (madeOn s p c)) → LeadsTo (circuitOf (sheetRead edition ps)) e k → ⊥)
+      → storedIn (p .table) k ≡ true → StaysStored (p .table) (c ∷ ds) (runOn s (callOn s p c .after) ds .table) k
+  table-stays E T sound h w p is marks c ds none-made k low fig away was =
+      subst₂ (λ a b. StaysStored (a .table) (c ∷ ds) (b .table) k) (sym is) (sym ran)
+      (stays T (c ∷ ds) (run X U ds) k low
+      (call-retention X ordered T (sound .invariant) (sound .formed) (quiet-encoded X T (λ j l. ap (λ b. markIn (row width (b .table) j)) (sym is) ∙ marks j l)) c ds none k low
+      (figure-outside X T c k fig (λ e l. away e (subst (λ qs. Listed e (postedTo qs)) (sym postings-is) l))))
       (ap (λ b. storedIn (b .table) k) (sym is) ∙ was))
     where
       X : Sheet
       X = sheetRead edition ps
 
       U : Table
-      U = perform X T (post e kind z) .table
+      U = perform X T c .table
 
       hU : Holdable X U
-      hU = perform-holdable X ordered T (post e kind z) h
+      hU = perform-holdable X ordered T c h
 
       wU : Within X U
-      wU = perform-within X ordered T (post e kind z) w
+      wU = perform-within X ordered T c w
 
-      called : callOn s p (post e kind z) ≡ givenBy X (indexBytes ps) [] (perform X T (post e kind z))
-      called = ap (λ b. callOn s b (post e kind z)) is ∙ performs T (post e kind z) h w
+      after : callOn s p c .after ≡ at U
+      after = ap (λ g. g .after) (ap (λ b. callOn s b c) is ∙ performs T c h w)
 
-      ran : runOn s (callOn s p (post e kind z) .after) ds ≡ at (run X U ds)
-      ran = ap (λ g. runOn s (g .after) ds) called ∙ runs ds U hU wU
+      ran : runOn s (callOn s p c .after) ds ≡ at (run X U ds)
+      ran = ap (λ q. runOn s q ds) after ∙ runs ds U hU wU
 
       none : postings X U ds ≡ []
-      none =
-          sym (posts-made ds U hU wU)
-          ∙ ap postingsOf (ap (λ g. acceptedPosts s (g .after) ds) (sym called) ∙ none-made)
+      none = sym (posts-made ds U hU wU) ∙ ap (λ q. postingsOn s q ds) (sym after) ∙ none-made
 
-      entry-e : isFigure (itemAt X e) ≡ false
-      entry-e = post-passed X T e kind z (number-cause X T (post e kind z) (ap (λ g. g .number) (sym called) ∙ accepts)) .1
+      postings-is : madeOn s p c ≡ postingsMade X T c
+      postings-is = ap (λ b. madeOn s b c) is ∙ made T c h w
 
   -- the two parts, for openings of this sheet
   agree-at : (kept other : Office) (o p : Opening) → openOn o s kept .number ≡ 0 → openOn p s other .number ≡ 0
-      → (cs ds : List Call) → acceptedPosts s (openOn o s kept .after) cs ≡ acceptedPosts s (openOn p s other .after) ds
+      → (cs ds : List Call) → postingsOn s (openOn o s kept .after) cs ≡ postingsOn s (openOn p s other .after) ds
       → SameAnswers s (openOn o s kept .after) cs (openOn p s other .after) ds
   unfolding office
   agree-at kept other o p a b cs ds equal =
       subst₂ (λ u v. SameAnswers s (u .after) cs (v .after) ds) (sym g) (sym h)
-      (offices-same o p cs ds (ap (λ u. acceptedPosts s (u .after) cs) (sym g) ∙ equal ∙ ap (λ v. acceptedPosts s (v .after) ds) h))
+      (offices-same o p cs ds (ap (λ u. postingsOn s (u .after) cs) (sym g) ∙ equal ∙ ap (λ v. postingsOn s (v .after) ds) h))
     where
       g : openOn o s kept ≡ office o
       g = opening-gives kept o a
@@ -454,20 +429,20 @@ module _ (s : List ℕ) (edition : ℕ) (ps : List Placed) (reads : readSheet s 
   unfolding office
   retained-at kept o a =
       subst (λ g. Retains s (g .after)) (sym (opening-gives kept o a))
-      (λ cs marks e kind z accepts ds none-made k low fig away was.
-      table-stays (freshRun X blank cs) (run X (start o) cs) (run-sound X ordered cs blank (start o) (start-sound o))
+      (λ cs marks c ds none-made k low fig away was.
+      table-stays (freshRun X blank (start o) cs) (run X (start o) cs) (run-sound X ordered cs blank (start o) (start-sound o))
       (run-holdable X ordered cs (start o) (start-holdable o)) (run-within X ordered cs (start o) (start-within o))
       (runOn s (at (start o)) cs) (runs cs (start o) (start-holdable o) (start-within o))
-      (λ j l. marks j (subst (λ Y. j < size Y) (sym sheet-is) l)) e kind z accepts ds none-made k
+      (λ j l. marks j (subst (λ Y. j < size Y) (sym sheet-is) l)) c ds none-made k
       (subst (λ Y. k < size Y) sheet-is low) (subst (λ Y. isFigure (itemAt Y k) ≡ true) sheet-is fig)
-      (λ l. away (subst (λ Y. LeadsTo (circuitOf Y) e k) (sym sheet-is) l)) was)
+      (λ e posted l. away e posted (subst (λ Y. LeadsTo (circuitOf Y) e k) (sym sheet-is) l)) was)
     where
       X : Sheet
       X = sheetRead edition ps
 
 -- Demand 3: two offices
 pub offices-agree : (s : List ℕ) (kept other : Office) (o p : Opening) → openOn o s kept .number ≡ 0 → openOn p s other .number ≡ 0
-    → (cs ds : List Call) → acceptedPosts s (openOn o s kept .after) cs ≡ acceptedPosts s (openOn p s other .after) ds
+    → (cs ds : List Call) → postingsOn s (openOn o s kept .after) cs ≡ postingsOn s (openOn p s other .after) ds
     → SameAnswers s (openOn o s kept .after) cs (openOn p s other .after) ds
 offices-agree s kept other o p a b cs ds equal =
     let first : Opens s kept o = opening-opens s kept o a in
@@ -478,3 +453,24 @@ pub offices-retain : (s : List ℕ) (kept : Office) (o : Opening) → openOn o s
 offices-retain s kept o a =
     let first : Opens s kept o = opening-opens s kept o a in
     retained-at s (first .edition) (first .placed) (first .reads) kept o a
+
+-- the sentence of the demand, the case of one post
+pub offices-retain-post : (s : List ℕ) (kept : Office) (o : Opening) → openOn o s kept .number ≡ 0 → RetainsPost s (openOn o s kept .after)
+unfolding droppedIn
+offices-retain-post s kept o a cs marks e kind z accepts ds none-made k low fig away was =
+    let begin : Office = openOn o s kept .after in
+    let p : Office = runOn s begin cs in
+    let stays = offices-retain s kept o a cs marks (post e kind z) ds none-made k low fig (λ i l led. away (subst (λ j. LeadsTo (circuitOf (sheetOf s)) j k) (only-entry p i l) led)) was in
+    record { stored = stays .stored; value = stays .value }
+  where
+    only-posted : (o : Option Value) (i : ℕ) → Listed i (postedTo (postingOf e o)) → i ≡ e
+    only-posted none i l = absurd l
+    only-posted (some v) i (inl q) = q
+    only-posted (some v) i (inr l) = absurd l
+
+    by-number : (n i : ℕ) → Listed i (postedTo (ifAccepted n (postingOf e (postedValue kind z)))) → i ≡ e
+    by-number zero i l = only-posted (postedValue kind z) i l
+    by-number (suc n) i l = absurd l
+
+    only-entry : (p : Office) (i : ℕ) → Listed i (postedTo (madeOn s p (post e kind z))) → i ≡ e
+    only-entry p i l = by-number (callOn s p (post e kind z) .number) i l

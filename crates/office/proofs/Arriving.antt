@@ -29,7 +29,7 @@ use Rattle.table.proofs.Tables.{holdable-formed}
 use Rattle.office.specs.Office.{Office, callOn, openOn, runOn}
 use Rattle.office.specs.Demand1Words.{AcceptedLent}
 use Rattle.office.specs.Demand2Words.{answerOf, reading, readingIn, entriesIn, Stores, HasCells, NoMarkStands}
-use Rattle.office.specs.Demand3Words.{ifAccepted, postOf, acceptedPosts, boardAfter, SameAnswers}
+use Rattle.office.specs.Demand3Words.{madeOn, postingsOn, boardAfter, SameAnswers}
 use Rattle.office.specs.FinishWords.{afterSteps, QuietRight, AnyOrder}
 use Rattle.office.proofs.Accepted.{office-accepted}
 use Rattle.office.proofs.Agreeing as opened
@@ -42,18 +42,18 @@ use Rattle.office.proofs.Holdable.{run-holdable}
 use Rattle.office.proofs.Lent.{ordered, holdable}
 use Rattle.office.proofs.StepsEnd.{quiet-cells}
 
--- a list after another: what the office keeps, and the accepted posts
+-- a list after another: what the office keeps, and the postings
 run-on-append : (s : List ℕ) (cs ds : List Call) (o : Office) → runOn s o (cs ++ ds) ≡ runOn s (runOn s o cs) ds
 unfolding runOn
 run-on-append s [] ds o = refl
 run-on-append s (c ∷ cs) ds o = run-on-append s cs ds (callOn s o c .after)
 
-posts-append : (s : List ℕ) (cs ds : List Call) (o : Office) → acceptedPosts s o (cs ++ ds) ≡ acceptedPosts s o cs ++ acceptedPosts s (runOn s o cs) ds
-unfolding runOn acceptedPosts
+posts-append : (s : List ℕ) (cs ds : List Call) (o : Office) → postingsOn s o (cs ++ ds) ≡ postingsOn s o cs ++ postingsOn s (runOn s o cs) ds
+unfolding runOn postingsOn
 posts-append s [] ds o = refl
 posts-append s (c ∷ cs) ds o =
-    ap (λ ps. ifAccepted (callOn s o c .number) (postOf c) ++ ps) (posts-append s cs ds (callOn s o c .after))
-    ∙ sym (append-assoc (ifAccepted (callOn s o c .number) (postOf c)) _ _)
+    ap (λ ps. madeOn s o c ++ ps) (posts-append s cs ds (callOn s o c .after))
+    ∙ sym (append-assoc (madeOn s o c) _ _)
 
 -- What an opened sheet's office keeps after a list of calls: the encoding of a table that has the invariant.
 record Written (s : List ℕ) (p : Office) : Type 0 where
@@ -194,10 +194,10 @@ office-any-order s kept o e cs is =
     ran : runOn s begin (cs ++ map step is) ≡ afterSteps s (runOn s begin cs) is
     ran = run-on-append s cs (map step is) begin
 
-    same-posts : acceptedPosts s begin (cs ++ map step is) ≡ acceptedPosts s begin cs
+    same-posts : postingsOn s begin (cs ++ map step is) ≡ postingsOn s begin cs
     same-posts =
         posts-append s cs (map step is) begin
-        ∙ ap (λ ps. acceptedPosts s begin cs ++ ps) (steps-post s is (runOn s begin cs)) ∙ append-nil (acceptedPosts s begin cs)
+        ∙ ap (λ ps. postingsOn s begin cs ++ ps) (steps-post s is (runOn s begin cs)) ∙ append-nil (postingsOn s begin cs)
 
     both : SameAnswers s begin (cs ++ map step is) begin cs
     both = offices-agree s kept kept o o e e (cs ++ map step is) cs same-posts

@@ -28,7 +28,7 @@ use Rattle.table.proofs.Records.{number-fits}
 use Rattle.office.specs.Office.{Office, keeping, Given, resultsLent, resultOf, resultsOf, callOn, runOn}
 use Rattle.office.specs.Demand1Words.{AcceptedLent}
 use Rattle.office.specs.Demand2Words.{ResultWords, BoardLeaves, Asks, no-more, then-ask}
-use Rattle.office.specs.Demand3Words.{acceptedPosts, CountsAsAsks}
+use Rattle.office.specs.Demand3Words.{postingsOn, CountsAsAsks}
 use Rattle.office.proofs.Holdable.{look-formed, catchUp-holdable, perform-holdable}
 use Rattle.office.proofs.Bridge.{Within, perform-within, givenBy}
 use Rattle.office.proofs.Lent.{ordered, holdable, within, encoded, performs}
@@ -51,8 +51,8 @@ ask-then s o p i is r rest g e =
 
 -- a list of calls that begins with the asks
 asks-run : (s : List ℕ) (cs : List Call) {o p : Office} {is results : List ℕ} → Asks s o is results p
-    → (runOn s o (map ask is ++ cs) ≡ runOn s p cs) × (acceptedPosts s o (map ask is ++ cs) ≡ acceptedPosts s p cs)
-unfolding runOn acceptedPosts
+    → (runOn s o (map ask is ++ cs) ≡ runOn s p cs) × (postingsOn s o (map ask is ++ cs) ≡ postingsOn s p cs)
+unfolding runOn postingsOn
 asks-run s cs no-more = (refl, refl)
 asks-run s cs (then-ask z w rest) = let later = asks-run s cs rest in (later .0, rw (z, later .1))
 
@@ -164,5 +164,5 @@ module _ (s : List ℕ) (kept : Office) (lent : AcceptedLent s kept) (bytes : By
 
   -- and it counts as the asks in a list of calls
   pub board-counts : (cs : List Call) → CountsAsAsks s kept items results cs
-  unfolding runOn acceptedPosts
+  unfolding runOn postingsOn
   board-counts cs = let run = asks-run s cs board-asks in record { posts = rw accepted (sym (run .1)); keeps = sym (run .0) }

@@ -3,25 +3,27 @@
 use Prim.Native.Nat.{ℕ, zero, suc, _<_, _≤_, _*_}
 use native.Mathlib.Nat.{mul-le-mul-left}
 use native.Mathlib.Omega.{arith}
-use mathlib.Core.Path.{_≡_, refl, sym, ap, _∙_, fun-ext}
+use mathlib.Core.Path.{_≡_, refl, sym, ap, ap₂, _∙_, fun-ext}
 use mathlib.Core.Bool.{Bool, true, false, not}
-use mathlib.Core.List.{List, [], _∷_}
-use mathlib.Core.Option.{Option, none, some}
+use mathlib.Core.List.{List, [], _∷_, _++_}
 use lib.Dec.{ltb}
 use lib.ListN.{length, take, drop-of-length-le, List·getD-eq-default}
 use borrow.Author.Tests.{eq-eqb, ltb-true, ltb-false}
 use Rattle.circuit.specs.Value.{Value}
 use Rattle.circuit.specs.Sheet.{Sheet, entry, size, itemAt, Ordered}
-use Rattle.circuit.specs.Table.{Table, Cell, unk, upd}
+use Rattle.circuit.specs.Table.{Table, Cell, unk, upd, entriesOf}
 use Rattle.circuit.specs.Machine.{storePosting, dropFigure, stepItem, catchUp}
-use Rattle.circuit.specs.Call.{Call, post, keep, drop, step, ask, board, close}
+use Rattle.circuit.specs.Call.{Call, post, keep, drop, step, ask, board, close, swap, Posting}
 use Rattle.circuit.specs.Board.{listed}
 use Rattle.circuit.specs.Closing.{closeAll}
-use Rattle.circuit.specs.Calls.{Test, test, firstCause, tests, Outcome, showItems, effect, perform, effectUnless, run, postIt, postedValue}
+use Rattle.circuit.specs.Calls.{Test, test, firstCause, tests, Outcome, showItems, postingsBy, storePostings, effect, perform, effectUnless, run, ifAccepted, postingsMade, postings}
+use Rattle.circuit.specs.Fresh.{fed}
+use Rattle.circuit.specs.Events.{events}
 use Rattle.circuit.proofs.Fill.{Fill, Filling, stays, fills, upd-cases, look-right, looks-right, work-right, keep-fill}
 use Rattle.circuit.proofs.Closure.{Closed, step-closed, catchUp-closed}
 use Rattle.circuit.proofs.Closing.{close-above}
-use Rattle.circuit.proofs.Accepted.{effect-number, accepted-effect, refused-table, keep-passed, drop-passed, step-passed, post-passed}
+use Rattle.circuit.proofs.Accepted.{effect-number, accepted-effect, refused-table, keep-passed, drop-passed, step-passed}
+use Rattle.circuit.proofs.Postings.{AllFit, postings-fit}
 use Rattle.layout.specs.Read.{Placed, opens, readSheet}
 use Rattle.layout.specs.Opened.{sheetRead}
 use Rattle.layout.specs.Index.{indexWidth, indexBytes}
@@ -30,6 +32,8 @@ use Rattle.table.specs.Record.{width, decodeCell}
 use Rattle.table.specs.Bytes.{encodeTable, decodeTable, Holdable, tableLength}
 use Rattle.table.proofs.Tables.{length-encodeTable, decode-encodeTable, encoded-tableForm, encoded-owedTrue, holdable-wellFormed}
 use Rattle.office.specs.Office.{keeping, Given, kindRead, numberRead, resultsLent, resultsOf, lengthsWrong, indexWrong, tableWrong, callTests, unlessRefused, effectOn, callRead, callOn, runOn}
+use Rattle.office.specs.Demand2Words.{entriesIn}
+use Rattle.office.specs.Demand3Words.{madeOn, postingsOn, eventsOn}
 use Rattle.office.proofs.Holdable.{perform-holdable}
 
 -- nothing stands beyond the sheet
@@ -42,6 +46,17 @@ WithinAt S j c = size S ≤ j → c ≡ unk false
 -- a store below n leaves it so
 upd-within : (S : Sheet) (T : Table) (i : ℕ) (c : Cell) → i < size S → Within S T → Within S (upd T i c)
 upd-within S T i c low h = upd-cases (WithinAt S) T i c (λ out. absurd (omega arith)) (λ j n. h j)
+
+-- and so does a posting, and so do postings that fit
+pub posting-within : (S : Sheet) (T : Table) (e : ℕ) (v : Value) → e < size S → Within S T → Within S (storePosting T e v)
+unfolding storePosting
+posting-within S T e v low h = upd-within S T e _ low h
+
+postings-within : (S : Sheet) (ps : List Posting) (T : Table) → AllFit S ps → Within S T → Within S (storePostings T ps)
+unfolding storePostings
+postings-within S [] T fit h = h
+postings-within S (p ∷ ps) T fit h =
+    postings-within S ps (storePosting T (p .entry) (p .value)) (fit .1) (posting-within S T (p .entry) (p .value) (fit .0 .low) h)
 
 -- no figure stands beyond the sheet, so a fill leaves it so
 fill-within : (S : Sheet) (T U : Table) → Fill S T U → Within S T → Within S U
@@ -64,7 +79,7 @@ module _ (S : Sheet) (ordered : Ordered S) where
 
   -- a call leaves nothing beyond the sheet
   pub perform-within : (T : Table) (c : Call) → Within S T → Within S (perform S T c .table)
-  unfolding effect storePosting dropFigure closeAll
+  unfolding effect dropFigure closeAll
   perform-within T c h = go (firstCause (tests S T c)) refl
     where
       steps : (U : Table) (i : ℕ) → i < size S → Within S U → Within S (stepItem S U i)
@@ -80,10 +95,6 @@ module _ (S : Sheet) (ordered : Ordered S) where
                   let d : itemAt S k ≡ entry = List·getD-eq-default S entry {n = k} (ltb-false k (size S) e) in
                   absurd (rw d at l)
 
-      posted : (i : ℕ) (o : Option Value) → i < size S → Within S (postIt T i o)
-      posted i none low = h
-      posted i (some v) low = upd-within S T i _ low h
-
       caught : Within S (catchUp S T)
       caught = catchUp-closed S (Within S) (λ U k low m g. steps U k low g) T h
 
@@ -92,13 +103,14 @@ module _ (S : Sheet) (ordered : Ordered S) where
       shows (i ∷ is) = fill-within S (catchUp S T) _ (looks-right S ordered (catchUp S T) (i ∷ is) .fill) caught
 
       done : (d : Call) → firstCause (tests S T d) ≡ 0 → Within S (effect S T d .table)
-      done (post i kind z) e = posted i (postedValue kind z) (post-passed S T i kind z e .0)
+      done (post i kind z) e = postings-within S _ T (postings-fit S T (post i kind z) e) h
       done (keep i) e = fill-within S T _ (keep-fill S ordered T i (keep-passed S T i e .1)) h
       done (drop i) e = upd-within S T i _ (drop-passed S T i e .0) h
       done (step i) e = steps T i (step-passed S T i e .0) h
       done (ask i) e = fill-within S (catchUp S T) _ (look-right S ordered (catchUp S T) i .fill) caught
       done (board items results) e = shows (listed items)
       done close e = λ j out. close-above S T (size S) j out ∙ h j out
+      done (swap giver taker quantity) e = postings-within S _ T (postings-fit S T (swap giver taker quantity) e) h
 
       go : (k : ℕ) → firstCause (tests S T c) ≡ k → Within S (perform S T c .table)
       go zero e = rw (accepted-effect S T c e) (done c e)
@@ -146,15 +158,36 @@ givenBy S x lent o =
       after = keeping x (encodeTable S (o .table));
     }
 
--- Where calls on an index and the encoding of a table are the machine's, so are lists of calls.
-pub run-performs : (s x : List ℕ) (S : Sheet) → Ordered S
-    → ((T : Table) (c : Call) → Holdable S T → Within S T → callOn s (keeping x (encodeTable S T)) c ≡ givenBy S x (resultsLent c) (perform S T c))
-    → (cs : List Call) (T : Table) → Holdable S T → Within S T → runOn s (keeping x (encodeTable S T)) cs ≡ keeping x (encodeTable S (run S T cs))
-unfolding runOn run
-run-performs s x S ordered performs [] T h w = refl
-run-performs s x S ordered performs (c ∷ cs) T h w =
-    ap (λ g. runOn s (g .after) cs) (performs T c h w)
-    ∙ run-performs s x S ordered performs cs (perform S T c .table) (perform-holdable S ordered T c h) (perform-within S ordered T c w)
+-- Where calls on an index and the encoding of a table are the machine's, so are lists of calls, the postings that they make, and what the
+-- fresh office is fed of them.
+module _ (s x : List ℕ) (S : Sheet) (ordered : Ordered S)
+    (performs : (T : Table) (c : Call) → Holdable S T → Within S T → callOn s (keeping x (encodeTable S T)) c ≡ givenBy S x (resultsLent c) (perform S T c)) where
+  pub run-performs : (cs : List Call) (T : Table) → Holdable S T → Within S T → runOn s (keeping x (encodeTable S T)) cs ≡ keeping x (encodeTable S (run S T cs))
+  unfolding runOn run
+  run-performs [] T h w = refl
+  run-performs (c ∷ cs) T h w =
+      ap (λ g. runOn s (g .after) cs) (performs T c h w)
+      ∙ run-performs cs (perform S T c .table) (perform-holdable S ordered T c h) (perform-within S ordered T c w)
+
+  pub made-performs : (T : Table) (c : Call) → Holdable S T → Within S T → madeOn s (keeping x (encodeTable S T)) c ≡ postingsMade S T c
+  unfolding postingsMade
+  made-performs T c h w =
+      ap (λ g. ifAccepted (g .number) (postingsBy (entriesIn (encodeTable S T)) c)) (performs T c h w)
+      ∙ ap (λ U. ifAccepted (perform S T c .number) (postingsBy (entriesOf U) c)) (decode-within S T h w)
+
+  pub postings-performs : (cs : List Call) (T : Table) → Holdable S T → Within S T → postingsOn s (keeping x (encodeTable S T)) cs ≡ postings S T cs
+  unfolding postingsOn postings
+  postings-performs [] T h w = refl
+  postings-performs (c ∷ cs) T h w =
+      ap (λ g. madeOn s (keeping x (encodeTable S T)) c ++ postingsOn s (g .after) cs) (performs T c h w)
+      ∙ ap₂ _++_ (made-performs T c h w) (postings-performs cs (perform S T c .table) (perform-holdable S ordered T c h) (perform-within S ordered T c w))
+
+  pub events-performs : (cs : List Call) (T : Table) → Holdable S T → Within S T → eventsOn s (keeping x (encodeTable S T)) cs ≡ events S T cs
+  unfolding eventsOn events
+  events-performs [] T h w = refl
+  events-performs (c ∷ cs) T h w =
+      ap (λ g. fed c (madeOn s (keeping x (encodeTable S T)) c) ++ eventsOn s (g .after) cs) (performs T c h w)
+      ∙ ap₂ (λ ps es. fed c ps ++ es) (made-performs T c h w) (events-performs cs (perform S T c .table) (perform-holdable S ordered T c h) (perform-within S ordered T c w))
 
 -- a cause that does not hold is passed over
 pass-over : (k : ℕ) (b : Bool) (ts : List Test) → b ≡ false → firstCause (test k b ∷ ts) ≡ firstCause ts

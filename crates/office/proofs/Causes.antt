@@ -7,13 +7,15 @@ use mathlib.Core.List.{List, [], _∷_}
 use mathlib.Core.Logic.{_⊎_, inl, inr, ⊎-elim}
 use mathlib.Core.Option.{none, some}
 use lib.Dec.{leb}
-use lib.IntN.{ℤ, pos, negsuc, natAbs}
+use lib.IntN.{ℤ, pos, negsuc, natAbs, _+ℤ_, _-ℤ_}
+use lib.Signed.{ltZ}
 use lib.ListN.{length, getD}
 use borrow.Author.Tests.{leb-true, leb-false}
 use Rattle.circuit.specs.Value.{null, out, num, limit, inRange, sameNumber, partsOf, ofParts}
 use Rattle.circuit.specs.Sheet.{Sheet, Ordered, size, itemAt, isFigure, beyond}
-use Rattle.circuit.specs.Table.{unmarked, refresh, notice, unk, held, isMarked}
+use Rattle.circuit.specs.Table.{Mark, unmarked, refresh, notice, unk, held, isMarked, valueIn, entriesOf}
 use Rattle.circuit.specs.Board.{listedWidth, resultWidth, mostListed, listed, listsOff, listsWrong}
+use Rattle.circuit.specs.Swap.{counted, noSwap, resultsBeyond}
 use Rattle.circuit.specs.Calls.{postedValue, isNone, someNoItem}
 use Rattle.circuit.proofs.Board.{listed-count, listed-at}
 use Rattle.layout.specs.Read.{Placed}
@@ -21,11 +23,11 @@ use Rattle.layout.specs.Index.{indexWidth, indexBytes}
 use Rattle.layout.proofs.Tests.{Tells, holds, fails, tells-if, tells-or, tells-and, Refutes, right, wrong, refutes-if, refutes-and, tells-not, refutes-tells, tells-eq, refutes-le}
 use Rattle.table.specs.Rows.{row}
 use Rattle.table.specs.Record.{width, kindIn, markIn, numberIn, decodeCell, allowed, codesForm, numberForm, recordForm}
-use Rattle.table.specs.Bytes.{tableForm, recordInForm}
+use Rattle.table.specs.Bytes.{decodeTable, tableForm, recordInForm}
 use Rattle.office.specs.Office.{Office, lengthsWrong, indexWrong, tableWrong}
 use Rattle.office.specs.Demand1Words.{LengthsWrong, IndexNotAsOpened, BeyondRange, RecordBroken, kindUnknown, markUnknown, entryUnk, entryOut, entryRefresh, unkRefresh, numberNotZero}
 use Rattle.office.specs.Demand1Words.{beyondRange, RecordBrokenAt, OwedFalse, TableBroken, NoSuchItem, ListsWrong, odd, long, other, SomeNoItem}
-use Rattle.office.specs.Demand1Words.{NotPostable, kindOther, nullNotZero, numberBeyond}
+use Rattle.office.specs.Demand1Words.{NotPostable, kindOther, nullNotZero, numberBeyond, NoSwap, ResultBeyond, numbersIn}
 use Rattle.office.proofs.OwedBytes.{refutes-below, refutes-owed}
 use Rattle.item.specs.Offsets.{sameBytes}
 use Rattle.item.proofs.Offsets.{same-refl, same-equal}
@@ -263,3 +265,44 @@ tells-mark figure r form = go (tells-eq (kindIn r) 0) (tells-eq (markIn r) 1) (t
     go (fails p) (holds q) w = fails (λ e. omega arith)
     go (fails p) (fails q) (holds w) = fails (λ e. omega arith)
     go (fails p) (fails q) (fails w) = holds (omega (arith, low))
+
+-- 18
+pub tells-no-swap : (giver taker : ℕ) (quantity : ℤ) → Tells (NoSwap giver taker quantity) (noSwap giver taker quantity)
+unfolding noSwap
+tells-no-swap giver taker quantity = tells-or (tells-eq giver taker) (tells-is (ltZ quantity (pos 1)))
+
+-- the number in a record in form is its value's, NULL as 0
+pub number-counted : (figure : Bool) (r : List ℕ) → ¬ RecordBroken limit figure (kindIn r) (markIn r) (numberIn r) → numberIn r ≡ counted (valueIn (decodeCell r))
+unfolding decodeCell
+number-counted figure r form = go _ _ (tells-eq k 0) (tells-eq k 1) (tells-eq k 2)
+  where
+    k : ℕ
+    k = kindIn r
+
+    z : ℤ
+    z = numberIn r
+
+    zero-number : ¬ (k ≡ 3) → z ≡ pos 0
+    zero-number n = at (tells-zero z)
+      where
+        at : {b : Bool} → Tells (z ≡ pos 0) b → z ≡ pos 0
+        at (holds e) = e
+        at (fails m) = absurd (form (numberNotZero n m))
+
+    go : {a b c : Bool} (m : Bool) (l : Mark) → Tells (k ≡ 0) a → Tells (k ≡ 1) b → Tells (k ≡ 2) c
+        → z ≡ counted (valueIn (cond a (unk m) (held (cond b null (cond c out (num z))) l)))
+    go m l (holds p) q w = zero-number (λ e. omega arith)
+    go m l (fails p) (holds q) w = zero-number (λ e. omega arith)
+    go m l (fails p) (fails q) (holds w) = zero-number (λ e. omega arith)
+    go m l (fails p) (fails q) (fails w) = refl
+
+-- 13, of a swap whose items are in the sheet, where the table is not broken
+pub tells-results : (S : Sheet) (t : List ℕ) → ¬ TableBroken S t → (giver taker : ℕ) (quantity : ℤ) → ¬ (NoSuchItem S giver ⊎ NoSuchItem S taker)
+    → Tells (ResultBeyond (numbersIn t) giver taker quantity) (resultsBeyond (entriesOf (decodeTable t)) giver taker quantity)
+unfolding resultsBeyond
+tells-results S t form giver taker quantity inside =
+    rw (number giver (λ h. inside (inl h)), number taker (λ h. inside (inr h)))
+    (tells-not (refutes-and (refutes-range (counted (valueIn (decodeTable t giver)) -ℤ quantity)) (refutes-range (counted (valueIn (decodeTable t taker)) +ℤ quantity))))
+  where
+    number : (i : ℕ) → ¬ NoSuchItem S i → numbersIn t i ≡ counted (valueIn (decodeTable t i))
+    number i low = number-counted (isFigure (itemAt S i)) (row width t i) (λ b. form (i, omega (arith, low), inl b))

@@ -14,10 +14,11 @@ use Rattle.circuit.specs.Sheet.{Sheet, Spread, figure, Ordered, Entries, size, 
 use Rattle.circuit.specs.Circuit.{Listed}
 use Rattle.circuit.specs.Table.{Table, unmarked, held, isStored, valueIn}
 use Rattle.circuit.specs.Machine.{looked, lookCell, lookUp, catchUp}
-use Rattle.circuit.specs.Call.{Call, step, ask, close, Opening}
-use Rattle.circuit.specs.Calls.{outcome, tests, firstCause, readingOf, effect, perform, run, postings}
+use Rattle.circuit.specs.Call.{Call, step, ask, close, Posting, Opening}
+use Rattle.circuit.specs.Calls.{outcome, tests, firstCause, readingOf, effect, perform, run, ifAccepted, postings}
 use Rattle.circuit.specs.Closing.{closeAll, keepEvery}
-use Rattle.circuit.specs.Fresh.{blank, give, giveItem, freshAsk, freshRun}
+use Rattle.circuit.specs.Fresh.{blank, hearAll, give, giveItem, freshAsk}
+use Rattle.circuit.specs.Events.{freshRun}
 use Rattle.circuit.specs.Words.{Quiet, Holds}
 use Rattle.circuit.proofs.Solution.{map-listed, give-equation, give-solves, solution-given, entry-value}
 use Rattle.circuit.proofs.Fill.{lookUp-is}
@@ -26,7 +27,8 @@ use Rattle.circuit.proofs.Accepted.{accepted-effect}
 use Rattle.circuit.proofs.Closing.{close-at, close-quiet, close-holds}
 use Rattle.circuit.proofs.Sound.{Sound, close-sound, run-sound}
 use Rattle.circuit.proofs.KeepEvery.{keeps-at, steps-quiet}
-use Rattle.circuit.proofs.Offices.{entered, caught-value, ask-answers}
+use Rattle.circuit.proofs.Fresh.{entered}
+use Rattle.circuit.proofs.Offices.{caught-value, ask-answers}
 use Rattle.circuit.proofs.Demand.{run-entered}
 use Rattle.circuit.proofs.Retention.{stored-entry}
 use Rattle.layout.specs.Read.{Placed, opens, readSheet}
@@ -41,10 +43,10 @@ use Rattle.table.proofs.Tables.{encoded-cell, encoded-kind, encoded-number, enc
 use Rattle.office.specs.Office.{Office, keeping, resultsLent, callOn, openOn, runOn}
 use Rattle.office.specs.Demand1Words.{AcceptedLent}
 use Rattle.office.specs.Demand2Words.{answerOf, reading, valueOf, entriesIn, Stores, NoMarkStands, readingIn, CloseLeaves}
-use Rattle.office.specs.Demand3Words.{Posted, ifAccepted, acceptedPosts, askAfter, freshAnswer, freshFrom, ClosesRight}
+use Rattle.office.specs.Demand3Words.{postingsOn, eventsOn, askAfter, freshAnswer, freshFrom, ClosesRight}
 use Rattle.office.proofs.Cells.{held-kind, held-number, parts-same, encoded-quiet, quiet-encoded}
 use Rattle.office.proofs.Holdable.{perform-holdable, run-holdable}
-use Rattle.office.proofs.Bridge.{Within, perform-within, run-within, run-performs, decode-within, givenBy}
+use Rattle.office.proofs.Bridge.{Within, perform-within, run-within, run-performs, events-performs, decode-within, givenBy}
 use Rattle.office.proofs.Agreeing as opened
 use Rattle.office.proofs.Agreeing.{Opens, opening-opens, answer-fresh}
 use Rattle.office.proofs.Lent.{ordered, holdable, within, encoded, performs}
@@ -119,12 +121,13 @@ module _ {s x : List ℕ} {S : Sheet} {E : Entries} {T : Table} (keep : Keeps s 
       (λ i low. close-at S (keep .ordered) E U (close-holds S (keep .ordered) E T (keep .holds)) i low ∙ sym (close-at S (keep .ordered) E T (keep .holds) i low)))
 
   -- Later calls go on from the run's table: an ask after a list of them gives the fresh office's answer.
-  closed-on : (cs : List Call) (i : ℕ) → answerOf (callOn s (runOn s (office U) cs) (ask i)) ≡ freshAnswer (freshAsk S (freshRun S E cs) i)
+  closed-on : (cs : List Call) (i : ℕ) → answerOf (callOn s (runOn s (office U) cs) (ask i)) ≡ freshAnswer (freshAsk S (hearAll S E (eventsOn s (office U) cs)) i)
   closed-on cs i =
       ap (λ p. answerOf (callOn s p (ask i))) (run-performs s x S (keep .ordered) (keep .performs) cs U closed-holdable closed-within)
       ∙ ap answerOf (keep .performs W (ask i) (run-holdable S (keep .ordered) cs U closed-holdable) (run-within S (keep .ordered) cs U closed-within))
-      ∙ answer-fresh S x (perform S W (ask i)) (freshAsk S (freshRun S E cs) i)
-      (ask-answers S (keep .ordered) (freshRun S E cs) W (run-sound S (keep .ordered) cs E U (close-sound S (keep .ordered) E T (keep .holds))) i)
+      ∙ answer-fresh S x (perform S W (ask i)) (freshAsk S (freshRun S E U cs) i)
+      (ask-answers S (keep .ordered) (freshRun S E U cs) W (run-sound S (keep .ordered) cs E U (close-sound S (keep .ordered) E T (keep .holds))) i)
+      ∙ ap (λ es. freshAnswer (freshAsk S (hearAll S E es) i)) (sym (events-performs s x S (keep .ordered) (keep .performs) cs U closed-holdable closed-within))
     where
       W : Table
       W = run S U cs
@@ -218,16 +221,17 @@ module _ (s : List ℕ) (kept : Office) (lent : AcceptedLent s kept) (bytes : By
             again = closed-again keep;
           }
 
-  pub close-goes-on : (cs : List Call) (i : ℕ) → askAfter s (callOn s kept close .after) cs i ≡ freshFrom s (entriesIn t) cs i
-  close-goes-on cs i = ap (λ p. askAfter s p cs i) after ∙ closed-on keep cs i
+  pub close-goes-on : (cs : List Call) (i : ℕ) → askAfter s (callOn s kept close .after) cs i ≡ freshFrom s (entriesIn t) (callOn s kept close .after) cs i
+  close-goes-on cs i =
+      ap (λ p. askAfter s p cs i) after ∙ closed-on keep cs i ∙ ap (λ p. freshFrom s (entriesIn t) p cs i) (sym after)
 
 -- no step posts
-pub steps-post : (s : List ℕ) (is : List ℕ) (p : Office) → acceptedPosts s p (map step is) ≡ []
-unfolding acceptedPosts
+pub steps-post : (s : List ℕ) (is : List ℕ) (p : Office) → postingsOn s p (map step is) ≡ []
+unfolding postingsOn
 steps-post s [] p = refl
 steps-post s (i ∷ is) p = go (callOn s p (step i) .number) (steps-post s is (callOn s p (step i) .after))
   where
-    go : {qs : List Posted} (n : ℕ) → qs ≡ [] → ifAccepted n [] ++ qs ≡ []
+    go : {qs : List Posting} (n : ℕ) → qs ≡ [] → ifAccepted n [] ++ qs ≡ []
     go zero e = e
     go (suc n) e = e
 
@@ -243,7 +247,7 @@ module _ (s : List ℕ) (edition : ℕ) (ps : List Placed) (reads : readSheet s 
   T₁ = run X begin cs
 
   abbrev E₁ : Entries
-  E₁ = freshRun X blank cs
+  E₁ = freshRun X blank begin cs
 
   rising : Ordered X
   rising = opened.ordered s edition ps reads
@@ -273,10 +277,10 @@ module _ (s : List ℕ) (edition : ℕ) (ps : List Placed) (reads : readSheet s 
       ap answerOf (keep₁ .performs T₁ (ask i) h₁ w₁ ∙ ap (givenBy X (indexBytes ps) []) (accepted-effect X T₁ (ask i) (rw (lt-leb (size X) i low))))
       ∙ ap reading (caught-value X rising E₁ (give X E₁) (give-solves X rising E₁) T₁ sound i low)
 
-  -- a list without an accepted post after which no mark stands, and then a keep of every figure
-  keeps : (ds : List Call) → acceptedPosts s (here T₁) ds ≡ [] → NoMarkStands X (runOn s (here T₁) ds .table)
+  -- a list without a posting after which no mark stands, and then a keep of every figure
+  keeps : (ds : List Call) → postingsOn s (here T₁) ds ≡ [] → NoMarkStands X (runOn s (here T₁) ds .table)
       → runOn s (runOn s (here T₁) ds) (keepEvery X) ≡ here (closeAll X T₁)
-  unfolding opened.postingsOf entered
+  unfolding entered
   keeps ds none-made quiet =
       ap (λ p. runOn s p (keepEvery X)) ran
       ∙ opened.runs s edition ps reads (keepEvery X) W (run-holdable X rising ds T₁ h₁) (run-within X rising ds T₁ w₁)
@@ -289,7 +293,7 @@ module _ (s : List ℕ) (edition : ℕ) (ps : List Placed) (reads : readSheet s 
       ran = opened.runs s edition ps reads ds T₁ h₁ w₁
 
       no-postings : postings X T₁ ds ≡ []
-      no-postings = sym (opened.posts-made s edition ps reads ds T₁ h₁ w₁) ∙ ap opened.postingsOf none-made
+      no-postings = sym (opened.posts-made s edition ps reads ds T₁ h₁ w₁) ∙ none-made
 
       caught : Sound X E₁ W
       caught =
@@ -307,7 +311,7 @@ module _ (s : List ℕ) (edition : ℕ) (ps : List Placed) (reads : readSheet s 
       same i low = keeps-at X rising E₁ W caught still i low ∙ sym (close-at X rising E₁ T₁ (sound .holds) i low)
 
   -- the steps of catching up
-  catches : (is : List ℕ) × (acceptedPosts s (here T₁) (map step is) ≡ []) × NoMarkStands X (runOn s (here T₁) (map step is) .table)
+  catches : (is : List ℕ) × (postingsOn s (here T₁) (map step is) ≡ []) × NoMarkStands X (runOn s (here T₁) (map step is) .table)
   catches =
       let steps = steps-quiet X rising T₁ in
       let ran = opened.runs s edition ps reads (map step (steps .0)) T₁ h₁ w₁ in

@@ -1,10 +1,10 @@
--- The three demands hold, and catching up always finishes. Assumes nothing.
+-- The three demands hold, catching up always finishes, and swaps are one act. Assumes nothing.
 use Rattle.circuit.specs.Call.{board}
 use Rattle.circuit.proofs.Equations.{equations}
 use Rattle.circuit.proofs.Retention.{drop-words}
 use Rattle.circuit.proofs.Board.{listed-count, listed-at}
-use Rattle.office.specs.Demands.{Refuses, Means, Agrees, Finishes, Demands}
-use Rattle.office.proofs.Refusals.{turned-back, board-refuses, close-refuses, accepted-lent}
+use Rattle.office.specs.Demands.{Refuses, Means, Agrees, Finishes, Swaps, Demands}
+use Rattle.office.proofs.Refusals.{turned-back, board-refuses, close-refuses, swap-refuses, accepted-lent}
 use Rattle.office.proofs.Examples.{each-given}
 use Rattle.office.proofs.Older.{lower-accepted, former-refused}
 use Rattle.office.proofs.Words.{sheet-words}
@@ -13,9 +13,10 @@ use Rattle.office.proofs.Leaves.{leaves}
 use Rattle.office.proofs.Boards.{result-words, board-counts}
 use Rattle.office.proofs.Closes.{close-goes-on, office-closes}
 use Rattle.office.proofs.Accepted.{office-accepted}
-use Rattle.office.proofs.Agreeing.{offices-agree, offices-retain}
+use Rattle.office.proofs.Agreeing.{offices-agree, offices-retain, offices-retain-post}
 use Rattle.office.proofs.StepsEnd.{office-steps-end}
 use Rattle.office.proofs.Arriving.{office-quiet-right, office-any-order}
+use Rattle.office.proofs.Swapping.{swaps-keep-sum, office-swap-follows, swap-counts}
 
 -- Demand 1.
 pub refuses : Refuses
@@ -29,6 +30,7 @@ refuses =
       lowest = λ r b s o. turned-back r s o .lowest b;
       boards = board-refuses;
       closes = close-refuses;
+      swaps = swap-refuses;
       older = lower-accepted;
       former = former-refused;
       each = each-given;
@@ -57,7 +59,8 @@ pub agrees : Agrees
 agrees =
     record {
       agree = offices-agree;
-      retained = λ s o how e. offices-retain s o how e;
+      retained = λ s o how e. offices-retain-post s o how e;
+      retained-any = λ s o how e. offices-retain s o how e;
       dropped = drop-words;
       counts = λ s o bytes items results e cs. board-counts s o (accepted-lent s o (board items results) e) bytes items results e cs;
       closes = λ s o how e cs. office-closes s o how e cs;
@@ -69,5 +72,9 @@ agrees =
 pub finishes : Finishes
 finishes = record { steps-end = office-steps-end; quiet-right = office-quiet-right; any-order = office-any-order }
 
+-- 02's job 8.
+pub swaps : Swaps
+swaps = record { sum-kept = swaps-keep-sum; follows = office-swap-follows; counts = swap-counts }
+
 pub demands : Demands
-demands = record { refuses = refuses; means = means; agrees = agrees; finishes = finishes }
+demands = record { refuses = refuses; means = means; agrees = agrees; finishes = finishes; swaps = swaps }

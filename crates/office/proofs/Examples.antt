@@ -1,4 +1,4 @@
--- For each number from 1 to 14, and for 17, an input that is given it, and calls that are accepted, also on tables that the engine has not
+-- For each number from 1 to 14, and for 17 and 18, an input that is given it, and calls that are accepted, also on tables that the engine has not
 -- written. By computation. Assumes nothing.
 use Prim.Native.Nat.{ℕ, zero, suc, _+_, _-_}
 use native.Mathlib.Omega.{arith}
@@ -15,8 +15,9 @@ use lib.IntN.{ℤ, pos, negsuc}
 use lib.ListN.{replicate}
 use Rattle.word.specs.Word.{leAt, leBytes, bytes64}
 use Rattle.circuit.specs.Value.{limit, inRange, partsOf}
-use Rattle.circuit.specs.Call.{Call, post, keep, drop, step, ask, board, close, bare, full}
+use Rattle.circuit.specs.Call.{Call, post, keep, drop, step, ask, board, close, swap, bare, full}
 use Rattle.circuit.specs.Board.{listed, listsOff}
+use Rattle.circuit.specs.Swap.{noSwap, resultsBeyond}
 use Rattle.circuit.specs.Calls.{firstCause, tests, someNoItem, postedValue, effect}
 use Rattle.circuit.specs.Sheet.{Sheet, member}
 use Rattle.circuit.specs.Table.{Table}
@@ -92,7 +93,7 @@ unfolding tableForm owedTrue owed owedFor anyBelow member encodeTable rowsBelow 
 tabling S T = encodeTable S T
 
 unfoldable pub calls : List ℕ → Office → Call → Given
-unfolding callOn openOn reading tabling concat sameBytes indexBytes tests firstCause listed listsOff someNoItem resultsOf postedValue partsOf effect spreadMeant machineItem
+unfolding callOn openOn reading tabling concat sameBytes indexBytes tests firstCause listed listsOff someNoItem resultsOf postedValue partsOf noSwap resultsBeyond effect spreadMeant machineItem
 calls s kept c = callOn s kept c
 
 -- the openings write this index and these tables
@@ -212,6 +213,24 @@ examples =
     ∷ lend (calling close) unkRecord (firstIs unkRecord) 8
     ∷ lendTable close (lastIs (0 ∷ 1 ∷ zeros8)) 10
     ∷ lendTable close (lastStored (3 ∷ 1 ∷ atLimit)) 0
+    ∷ lendTable (swap 0 0 (pos 0)) (firstIs unkRecord) 10
+    ∷ lendTable (swap 5 3 (pos 0)) bareTable 11
+    ∷ lendTable (swap 3 5 (pos 0)) bareTable 11
+    ∷ lendTable (swap 5 5 (pos 1)) bareTable 11
+    ∷ lendTable (swap 3 0 (pos 0)) bareTable 12
+    ∷ lendTable (swap 0 4 (pos 0)) bareTable 12
+    ∷ lendTable (swap 4 4 (pos 1)) bareTable 12
+    ∷ lendTable (swap 0 0 (pos (limit + 1))) bareTable 18
+    ∷ lendTable (swap 0 1 (pos 0)) (firstIs (3 ∷ 0 ∷ atLowest)) 18
+    ∷ lendTable (swap 0 1 (negsuc 0)) bareTable 18
+    ∷ lendTable (swap 0 1 (negsuc 9_223_372_036_854_775_807)) bareTable 18
+    ∷ lendTable (swap 0 1 (pos (limit + 1))) bareTable 13
+    ∷ lendTable (swap 0 1 (pos 9_223_372_036_854_775_807)) (firstIs (3 ∷ 0 ∷ atLowest)) 13
+    ∷ lendTable (swap 0 1 (pos 1)) (firstIs (3 ∷ 0 ∷ atLowest)) 13
+    ∷ lendTable (swap 1 0 (pos 1)) (firstIs (3 ∷ 0 ∷ atLimit)) 13
+    ∷ lendTable (swap 1 0 (pos limit)) (firstIs (3 ∷ 0 ∷ atLowest)) 0
+    ∷ lendTable (swap 0 1 (pos limit)) (firstIs (3 ∷ 0 ∷ atLimit)) 0
+    ∷ lendTable (swap 0 1 (pos limit)) bareTable 0
     ∷ lend (opening bare) exampleIndex bareTable 0
     ∷ lendTable (post 2 1 (pos 0)) bareTable 0
     ∷ lendTable (post 2 3 (pos limit)) bareTable 0
@@ -261,8 +280,8 @@ called c x t k fits a b d e =
       given = e;
     }
 
--- Each of the numbers 1 to 14 is given, and 17.
-pub each-given : Gets 1 × Gets 2 × Gets 3 × Gets 4 × Gets 5 × Gets 6 × Gets 7 × Gets 8 × Gets 9 × Gets 10 × Gets 11 × Gets 12 × Gets 13 × Gets 14 × Gets 17
+-- Each of the numbers 1 to 14 is given, and 17 and 18.
+pub each-given : Gets 1 × Gets 2 × Gets 3 × Gets 4 × Gets 5 × Gets 6 × Gets 7 × Gets 8 × Gets 9 × Gets 10 × Gets 11 × Gets 12 × Gets 13 × Gets 14 × Gets 17 × Gets 18
 unfolding calls writing allBytes exampleBytes exampleIndex bareTable
 each-given =
     let sheets = sheets-refused (calling (ask 0)) (keeping [] []) in (
@@ -281,6 +300,7 @@ each-given =
       called (post 0 2 (pos 0)) exampleIndex bareTable 13 (omega arith, omega arith, record { sfits = omega arith }) refl refl refl refl,
       called (step 0) exampleIndex bareTable 14 (omega arith) refl refl refl refl,
       called (board (9 ∷ []) []) exampleIndex bareTable 17 (bytes-by (9 ∷ []) refl, bytes-by [] refl) refl refl refl refl,
+      called (swap 0 0 (pos 1)) exampleIndex bareTable 18 (omega arith, omega arith, record { sfits = omega arith }) refl refl refl refl,
     )
 
 -- the answers of a list of calls
@@ -313,6 +333,19 @@ pub example-close : callOn exampleBytes
     (owing (3 ∷ 0 ∷ bytes64 (pos 1000)) ++ owing (3 ∷ 0 ∷ bytes64 (pos 300)) ++ owing nullRecord ++ owing (3 ∷ 0 ∷ bytes64 (pos 1000)) ++ unowed (3 ∷ 0 ∷ bytes64 (pos 700))))
 unfolding calls machine exampleBytes exampleIndex
 example-close = refl
+
+-- A swap of 40 from A, which holds 1000, to L, which is NULL, and back again: A and L hold what they held, L's NULL now 0, both with notice.
+pub example-swap : runOn exampleBytes (keeping exampleIndex bareTable) (post 0 3 (pos 1000) ∷ swap 0 1 (pos 40) ∷ [])
+    ≡ keeping exampleIndex
+    (unowed (3 ∷ 2 ∷ bytes64 (pos 960)) ++ unowed (3 ∷ 2 ∷ bytes64 (pos 40)) ++ unowed nullRecord ++ unowed unkRecord ++ unowed unkRecord)
+unfolding calls machine runOn exampleBytes exampleIndex bareTable
+example-swap = refl
+
+pub example-swap-back : runOn exampleBytes (keeping exampleIndex bareTable) (post 0 3 (pos 1000) ∷ swap 0 1 (pos 40) ∷ swap 1 0 (pos 40) ∷ [])
+    ≡ keeping exampleIndex
+    (unowed (3 ∷ 2 ∷ bytes64 (pos 1000)) ++ unowed (3 ∷ 2 ∷ bytes64 (pos 0)) ++ unowed nullRecord ++ unowed unkRecord ++ unowed unkRecord)
+unfolding calls machine runOn exampleBytes exampleIndex bareTable
+example-swap-back = refl
 
 -- A chain of sums: entry A, figures B, C and D of the item before each; B and C renew, D defers.
 unfoldable pub chainBytes : List ℕ

@@ -6,8 +6,6 @@ use mathlib.Core.Path.{_≡_, refl, sym, ap, subst}
 use mathlib.Core.Bool.{Bool, true, false, cond, not, _&&_}
 use mathlib.Core.List.{List, [], _∷_, map}
 use mathlib.Core.Logic.{inl, inr}
-use mathlib.Core.Option.{Option, none, some}
-use lib.IntN.{ℤ}
 use Rattle.circuit.specs.Value.{Value, null, isOut, same, wellFormed}
 use Rattle.circuit.specs.WellFormed.{allWellFormed}
 use Rattle.circuit.specs.Circuit.{Listed}
@@ -16,16 +14,16 @@ use Rattle.circuit.specs.Table.{Table, Cell, Mark, unmarked, refresh, notice, u
 use Rattle.circuit.specs.Owed.{owed}
 use Rattle.circuit.specs.Machine.{gather, lookUp, workOut, storePosting, postCell, keepFigure, dropFigure, dropCell, renewed, tellChild, tellCell, tellStored, tellIf, tellBelow, tell}
 use Rattle.circuit.specs.Machine.{clearMark, clearCell, stepItem, stepCell, catchUp}
-use Rattle.circuit.specs.Call.{Call, post, keep, drop, step, ask, board, close}
+use Rattle.circuit.specs.Call.{Call, post, keep, drop, step, ask, board, close, swap, Posting}
 use Rattle.circuit.specs.Board.{listed}
 use Rattle.circuit.specs.Closing.{closedValue, closeItem, closeBelow, closeAll}
-use Rattle.circuit.specs.Calls.{postedValue, showItems, effect, perform, tests, firstCause, run, postIt}
-use Rattle.circuit.proofs.Parts.{posted-some}
+use Rattle.circuit.specs.Calls.{showItems, effect, perform, tests, firstCause, run, storePostings}
 use Rattle.circuit.proofs.RuleLaws.{apply-wellFormed, and-true, and-left, and-right}
 use Rattle.circuit.proofs.View.{view, view-at, result, strong}
 use Rattle.circuit.proofs.Fill.{Fill, Filling, stays, fills, upd-cases, look-right, looks-right, work-right, keep-fill}
 use Rattle.circuit.proofs.Closure.{catchUp-closed, member-listed}
 use Rattle.circuit.proofs.Accepted.{accepted-effect, refused-table, keep-passed, drop-passed, step-passed}
+use Rattle.circuit.proofs.Postings.{AllFit, postings-fit}
 use Rattle.table.specs.Record.{mayHold}
 use Rattle.table.specs.Bytes.{Holdable}
 use Rattle.table.proofs.Records.{holds-wellFormed}
@@ -245,10 +243,6 @@ module _ (S : Sheet) (ordered : Ordered S) where
   pub catchUp-holdable : (T : Table) → Holdable S T → Holdable S (catchUp S T)
   catchUp-holdable T h = catchUp-closed S (Holdable S) (λ U i low m g. step-holdable U i low g) T h
 
--- what a post may store
-posted-holdable : (kind : ℕ) (z : ℤ) (v : Value) → postedValue kind z ≡ some v → (wellFormed v ≡ true) × (isOut v ≡ false)
-posted-holdable kind z v e = let p = posted-some kind z v e in (p .0 .formed, p .1)
-
 noted : (f : Bool) (v : Value) → wellFormed v ≡ true → isOut v ≡ false → mayHold f (held v notice) ≡ true
 noted true v w o = w
 noted false v w o = and-true (true && not (isOut v)) (wellFormed v) (ap not o) w
@@ -265,28 +259,30 @@ post-holdable S T i v w o h = upd-cases (Allowed S) T i (postCell (T i) v) (λ l
         pick true = e
         pick false = noted (isFigure (itemAt S i)) v w o
 
+pub postings-holdable : (S : Sheet) (ps : List Posting) (T : Table) → AllFit S ps → Holdable S T → Holdable S (storePostings T ps)
+unfolding storePostings
+postings-holdable S [] T fit h = h
+postings-holdable S (p ∷ ps) T fit h =
+    postings-holdable S ps (storePosting T (p .entry) (p .value)) (fit .1) (post-holdable S T (p .entry) (p .value) (fit .0 .formed) (fit .0 .inside) h)
+
 -- every call keeps the cells allowed
 pub perform-holdable : (S : Sheet) → Ordered S → (T : Table) (c : Call) → Holdable S T → Holdable S (perform S T c .table)
 unfolding effect closeAll
 perform-holdable S ordered T c h = go (firstCause (tests S T c)) refl
   where
-    posted : (i : ℕ) (o : Option Value) (kind : ℕ) (z : ℤ) → postedValue kind z ≡ o → Holdable S (postIt T i o)
-    posted i none kind z e = h
-    posted i (some v) kind z e =
-        let p = posted-holdable kind z v e in post-holdable S T i v (p .0) (p .1) h
-
     show-holdable : (is : List ℕ) → Holdable S (showItems S T is .table)
     show-holdable [] = h
     show-holdable (i ∷ is) = looks-holdable S ordered (i ∷ is) (catchUp S T) (catchUp-holdable S ordered T h)
 
     done : (c : Call) → firstCause (tests S T c) ≡ 0 → Holdable S (effect S T c .table)
-    done (post i kind z) e = posted i (postedValue kind z) kind z refl
+    done (post i kind z) e = postings-holdable S _ T (postings-fit S T (post i kind z) e) h
     done (keep i) e = keep-holdable S ordered T i (keep-passed S T i e .1) h
     done (drop i) e = drop-holdable S ordered T i (drop-passed S T i e .1) h
     done (step i) e = step-holdable S ordered T i (step-passed S T i e .0) h
     done (ask i) e = look-holdable S ordered (catchUp S T) i (catchUp-holdable S ordered T h)
     done (board items results) e = show-holdable (listed items)
     done close e = close-holdable S ordered T (size S) (omega arith) h
+    done (swap giver taker quantity) e = postings-holdable S _ T (postings-fit S T (swap giver taker quantity) e) h
 
     go : (k : ℕ) → firstCause (tests S T c) ≡ k → Holdable S (perform S T c .table)
     go zero e = rw (accepted-effect S T c e) (done c e)

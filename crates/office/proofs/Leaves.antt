@@ -5,22 +5,26 @@ use mathlib.Core.Path.{_≡_, refl, sym, ap, _∙_, subst}
 use mathlib.Core.Bool.{Bool, true, false, cond}
 use mathlib.Core.List.{List, []}
 use mathlib.Core.Logic.{inl, inr, ⊎-elim}
+use mathlib.Core.Option.{none, some}
 use lib.ListN.{take}
-use lib.IntN.{ℤ}
-use Rattle.circuit.specs.Value.{Value, null, out, num, same, kindOf, numberOf, wellFormed}
+use lib.IntN.{ℤ, pos, _+ℤ_, _-ℤ_, -ℤ-+ℤ-cancel}
+use lib.Signed.{ltZ}
+use Rattle.circuit.specs.Value.{Value, null, out, num, same, kindOf, numberOf, wellFormed, partsOf}
 use Rattle.circuit.specs.Sheet.{Sheet, Ordered, size, itemAt, isFigure}
 use Rattle.circuit.specs.Table.{Table, Cell, Mark, unmarked, refresh, notice, unk, held, upd, isStored, noticeIf, markOf, valueIn}
 use Rattle.circuit.specs.Machine.{gather, lookUp, workOut, storePosting, postCell, keepFigure, keepCell, dropFigure, dropCell, droppedMark, tell, clearMark, stepItem, stepCell, catchUp}
-use Rattle.circuit.specs.Call.{Call, post, keep, drop, step, ask, board}
+use Rattle.circuit.specs.Call.{Call, post, keep, drop, step, ask, board, swap}
 use Rattle.circuit.specs.Board.{listed}
-use Rattle.circuit.specs.Calls.{perform, effect, postIt}
+use Rattle.circuit.specs.Swap.{counted}
+use Rattle.circuit.specs.Calls.{perform, effect, postedValue, postingOf, storePostings}
 use Rattle.circuit.specs.Words.{Quiet}
 use Rattle.circuit.proofs.RuleLaws.{same-true, same-refl}
 use Rattle.circuit.proofs.Fill.{Fill, upd-same, upd-other, looks-right}
 use Rattle.circuit.proofs.CatchUp.{caught-unique, fill-quiet, asked-quiet, catchUp-quiet, catchUp-ends}
 use Rattle.circuit.proofs.Accepted.{accepted-effect, effect-number}
+use Rattle.circuit.proofs.Swaps.{moved}
 use Rattle.layout.specs.Opened.{sheetOf}
-use Rattle.layout.proofs.Tests.{Tells, holds, fails, tells-eq}
+use Rattle.layout.proofs.Tests.{Tells, holds, fails, tells-eq, Refutes, right, wrong}
 use Rattle.word.specs.Word.{Bytes}
 use Rattle.table.specs.Rows.{row, setRow}
 use Rattle.table.specs.Record.{width, owedPlace, kindIn, markIn, numberIn, markCode, encodeCell, mayHold}
@@ -28,16 +32,18 @@ use Rattle.table.specs.Bytes.{encodeTable, decodeTable, Holdable}
 use Rattle.table.proofs.Records.{length-encodeCell, kind-by, mark-by, number-by}
 use Rattle.table.proofs.Rows.{row-setRow-other}
 use Rattle.table.proofs.Tables.{length-encodeTable, bytes-encodeTable, encoded-cell, encodeTable-ext, encode-upd, encoded-tableForm, encoded-owedTrue, holdable-wellFormed}
-use Rattle.office.specs.Office.{Office, keeping, effectOn, callOn}
-use Rattle.office.specs.Demand1Words.{calling, NoneHolds, ownCauses, AcceptedLent}
-use Rattle.office.specs.Demand2Words.{valueOf, Stores, PostLeaves, KeepLeaves, DropLeaves, StepLeaves, AskLeaves, BoardLeaves, OwedRight, NoMarkStands, CallsLeave}
+use Rattle.office.specs.Office.{Office, keeping, Given, accepted, effectOn, callOn}
+use Rattle.office.specs.Demand1Words.{calling, NoneHolds, ownCauses, AcceptedLent, BeyondRange, NotPostable, kindOther, nullNotZero, numberBeyond, IsEntry, NoSwap, ResultBeyond, numbersIn}
+use Rattle.office.specs.Demand2Words.{valueOf, Stores, PostLeaves, KeepLeaves, DropLeaves, StepLeaves, AskLeaves, BoardLeaves, OwedRight, NoMarkStands, SwapLeaves, CallsLeave}
 use Rattle.office.proofs.OwedBytes.{unfalse-right}
 use Rattle.office.proofs.Holdable.{perform-holdable}
-use Rattle.office.proofs.Lent.{ordered as lent-ordered, holdable as lent-holdable, encoded}
+use Rattle.office.proofs.Lent.{ordered as lent-ordered, holdable as lent-holdable, within, encoded}
+use Rattle.office.proofs.Bridge.{Within, posting-within, decode-within}
+use Rattle.office.proofs.Causes.{refutes-range, number-counted}
 use Rattle.office.proofs.Boards.{board-leaves, board-asks}
 use Rattle.office.proofs.Closes.{close-leaves}
 use Rattle.office.proofs.Cells.{held-kind, held-number, unk-kind, unk-number, mark-cell, stored-encoded, encoded-quiet}
-use Rattle.office.proofs.Refusals.{turned-back, form-unbroken, call-accepted, own-passed, Postable, postable}
+use Rattle.office.proofs.Refusals.{turned-back, form-unbroken, call-accepted, own-passed, own-accepted, swap-refuses, Postable, postable}
 
 value-same : (w v : Value) → kindOf w ≡ kindOf v → numberOf w ≡ numberOf v → w ≡ v
 value-same null null k n = refl
@@ -304,9 +310,9 @@ module _ (s : List ℕ) (kept : Office) (lent : AcceptedLent s kept) where
         subst (AskLeaves (sheetOf s) t i) (sym (is (ask i) z))
         (record { caught-up = catchUp (sheetOf s) (decodeTable t); catches = catchUp-ends (sheetOf s) ordered (decodeTable t); value-is = refl; table-is = refl })
 
-    post-leaves : (i kind : ℕ) (z : ℤ) → callOn s kept (post i kind z) .number ≡ 0
+    pub post-leaves : (i kind : ℕ) (z : ℤ) → callOn s kept (post i kind z) .number ≡ 0
         → PostLeaves (size (sheetOf s)) t i kind z (callOn s kept (post i kind z) .after .table)
-    unfolding effect storePosting
+    unfolding effect storePostings storePosting
     post-leaves i kind z zero = subst (PostLeaves (size (sheetOf s)) t i kind z) (sym table-is) (pick (decodeTable t i) refl)
       where
         S : Sheet
@@ -328,7 +334,7 @@ module _ (s : List ℕ) (kept : Office) (lent : AcceptedLent s kept) where
         v = p .value
 
         table-is : callOn s kept (post i kind z) .after .table ≡ encodeTable S (upd T i (postCell (T i) v))
-        table-is = ap (λ g. g .after .table) (is (post i kind z) zero) ∙ ap (λ w. encodeTable S (postIt T i w)) (p .posted)
+        table-is = ap (λ g. g .after .table) (is (post i kind z) zero) ∙ ap (λ w. encodeTable S (storePostings T (postingOf i w))) (p .posted)
 
         -- an entry is stored
         there : isStored (T i) ≡ true
@@ -337,7 +343,7 @@ module _ (s : List ℕ) (kept : Office) (lent : AcceptedLent s kept) where
         formed : (d : Cell) → postCell (T i) v ≡ d → wellFormed (valueIn d) ≡ true
         formed d e =
             subst (λ c. wellFormed (valueIn c) ≡ true) (upd-same T i (postCell (T i) v) ∙ e)
-            (holdable-wellFormed S _ (subst (λ w. Holdable S (postIt T i w)) (p .posted) (effect-holdable (post i kind z) zero)) i low)
+            (holdable-wellFormed S _ (subst (λ w. Holdable S (storePostings T (postingOf i w))) (p .posted) (effect-holdable (post i kind z) zero)) i low)
 
         -- another value is stored with notice
         new : ¬ ((kindIn (row width t i) ≡ kind) × (numberIn (row width t i) ≡ z)) → wellFormed v ≡ true
@@ -437,21 +443,164 @@ module _ (s : List ℕ) (kept : Office) (lent : AcceptedLent s kept) where
         quiet : Quiet S C
         quiet = subst (Quiet S) (caught-unique (catchUp-ends S ordered (decodeTable t)) (left .catches)) (catchUp-quiet S ordered (decodeTable t))
 
-    pub leaves : CallsLeave s kept
-    leaves =
-        record {
-          index-kept = index-same;
-          accepted = stays-accepted;
-          bytes = stays-bytes bytes;
-          owed-right = owes-right;
-          posts = post-leaves;
-          keeps = keep-leaves;
-          drops = drop-leaves;
-          steps = step-leaves;
-          asks = ask-leaves;
-          quiet = ask-quiets;
-          boards = λ items results z. board-leaves s kept lent bytes items results z;
-          board-asks = λ items results z. board-asks s kept lent bytes items results z;
-          board-quiet = board-quiets;
-          closes = λ z. close-leaves s kept lent bytes;
-        }
+-- a number of the range can be posted
+pub posted-number : (z : ℤ) → ¬ BeyondRange z → postedValue 3 z ≡ some (num z)
+unfolding postedValue partsOf
+posted-number z inside = go (refutes-range z)
+  where
+    go : {c : Bool} → Refutes (BeyondRange z) c → cond c (some (num z)) none ≡ some (num z)
+    go (right n) = refl
+    go (wrong h) = absurd (inside h)
+
+-- What a swap leaves: what two posts leave, the giver's and then the taker's.
+module _ (s : List ℕ) (kept : Office) (lent : AcceptedLent s kept) (bytes : Bytes (kept .table)) (giver taker : ℕ) (quantity : ℤ)
+    (accepts : callOn s kept (swap giver taker quantity) .number ≡ 0) where
+  abbrev before : ℕ → ℤ
+  before = numbersIn (kept .table)
+
+  abbrev first : Given
+  first = callOn s kept (post giver 3 (numbersIn (kept .table) giver -ℤ quantity))
+
+  abbrev second : Given
+  second = callOn s (callOn s kept (post giver 3 (numbersIn (kept .table) giver -ℤ quantity)) .after) (post taker 3 (numbersIn (kept .table) taker +ℤ quantity))
+
+  parts : AcceptedLent s kept × IsEntry (sheetOf s) giver × IsEntry (sheetOf s) taker × (¬ NoSwap giver taker quantity) × (¬ ResultBeyond (numbersIn (kept .table)) giver taker quantity)
+  parts = swap-refuses s kept giver taker quantity .accepted .0 accepts
+
+  -- a post of a number of the range to an entry is accepted
+  post-accepted : (o : Office) → AcceptedLent s o → (e : ℕ) (z : ℤ) → IsEntry (sheetOf s) e → ¬ BeyondRange z → callOn s o (post e 3 z) .number ≡ 0
+  post-accepted o l e z entry inside =
+      own-accepted s o (post e 3 z) .1 (l, ((λ h. omega (arith, h, entry .0)), ((λ h. differ h (entry .1)), (sound, tt))))
+    where
+      differ : {b : Bool} → b ≡ true → b ≡ false → ⊥
+      differ p q = let bad : _≡_ {A = ℕ} 0 1 = cc in omega arith
+
+      sound : NotPostable 3 z → ⊥
+      sound (kindOther a b) = b refl
+      sound (nullNotZero a b) = omega (arith, a)
+      sound (numberBeyond a b) = inside b
+
+  first-accepted : first .number ≡ 0
+  first-accepted = post-accepted kept lent giver _ (parts .1) (λ h. parts .4 (inl h))
+
+  second-lent : AcceptedLent s (first .after)
+  second-lent = stays-accepted s kept lent (post giver 3 (numbersIn (kept .table) giver -ℤ quantity))
+
+  second-accepted : second .number ≡ 0
+  second-accepted = post-accepted (first .after) second-lent taker _ (parts .2) (λ h. parts .4 (inr h))
+
+  first-left : PostLeaves (size (sheetOf s)) (kept .table) giver 3 (before giver -ℤ quantity) (first .after .table)
+  first-left = post-leaves s kept lent bytes giver 3 _ first-accepted
+
+  second-left : PostLeaves (size (sheetOf s)) (first .after .table) taker 3 (before taker +ℤ quantity) (second .after .table)
+  second-left =
+      post-leaves s (first .after) second-lent (stays-bytes s kept lent bytes (post giver 3 (numbersIn (kept .table) giver -ℤ quantity))) taker 3 _ second-accepted
+
+  -- the machine's two postings, in bytes
+  both-posts : callOn s kept (swap giver taker quantity) .after ≡ second .after
+  unfolding effect storePostings
+  both-posts =
+      ap (λ g. g .after) (is s kept lent (swap giver taker quantity) accepts)
+      ∙ ap (λ U. keeping (kept .index) (encodeTable S U)) numbers-are
+      ∙ sym (ap (λ g. g .after) (ap (λ o. callOn s o (post taker 3 b)) after-first ∙ later-post))
+    where
+      S : Sheet
+      S = sheetOf s
+
+      T : Table
+      T = decodeTable (kept .table)
+
+      a : ℤ
+      a = before giver -ℤ quantity
+
+      b : ℤ
+      b = before taker +ℤ quantity
+
+      number-of : (e : ℕ) → IsEntry S e → before e ≡ counted (valueIn (T e))
+      number-of e entry = number-counted (isFigure (itemAt S e)) (row width (kept .table) e) (λ h. lent .lent .1 .1 .0 (e, entry .0, inl h))
+
+      numbers-are : storePosting (storePosting T giver (num (counted (valueIn (T giver)) -ℤ quantity))) taker (num (counted (valueIn (T taker)) +ℤ quantity))
+          ≡ storePosting (storePosting T giver (num a)) taker (num b)
+      numbers-are = rw (← number-of giver (parts .1), ← number-of taker (parts .2))
+
+      U : Table
+      U = storePosting T giver (num a)
+
+      after-first : first .after ≡ keeping (kept .index) (encodeTable S U)
+      after-first =
+          ap (λ g. g .after) (is s kept lent (post giver 3 a) first-accepted)
+          ∙ ap (λ w. keeping (kept .index) (encodeTable S (storePostings T (postingOf giver w)))) (posted-number a (λ h. parts .4 (inl h)))
+
+      U-holdable : Holdable S U
+      U-holdable =
+          subst (λ w. Holdable S (storePostings T (postingOf giver w))) (posted-number a (λ h. parts .4 (inl h))) (effect-holdable s kept lent (post giver 3 a) first-accepted)
+
+      U-within : Within S U
+      U-within = posting-within S T giver (num a) (parts .1 .0) (within s kept lent)
+
+      accepted-again : callOn s (keeping (kept .index) (encodeTable S U)) (post taker 3 b) .number ≡ 0
+      accepted-again = ap (λ o. callOn s o (post taker 3 b) .number) (sym after-first) ∙ second-accepted
+
+      later-post : callOn s (keeping (kept .index) (encodeTable S U)) (post taker 3 b) ≡ accepted none [] (keeping (kept .index) (encodeTable S (storePosting U taker (num b))))
+      later-post =
+          is s _ (lent-again s kept lent U U-holdable) (post taker 3 b) accepted-again
+          ∙ ap (λ W. accepted none [] (keeping (kept .index) (encodeTable S (storePostings W (postingOf taker (postedValue 3 b)))))) (decode-within S U U-holdable U-within)
+          ∙ ap (λ w. accepted none [] (keeping (kept .index) (encodeTable S (storePostings U (postingOf taker w))))) (posted-number b (λ h. parts .4 (inr h)))
+
+  some-quantity : ltZ quantity (pos 1) ≡ false
+  some-quantity = go (ltZ quantity (pos 1)) (λ h. parts .3 (inr h))
+    where
+      go : (b : Bool) → ¬ (b ≡ true) → b ≡ false
+      go true n = absurd (n refl)
+      go false n = refl
+
+  two : taker ≡ giver → ⊥
+  two e = parts .3 (inl (sym e))
+
+  -- the taker's record is not the giver's
+  taker-row : row width (first .after .table) taker ≡ row width (kept .table) taker
+  taker-row = first-left .others taker (parts .2 .0) two
+
+  giver-row : row width (second .after .table) giver ≡ row width (first .after .table) giver
+  giver-row = second-left .others giver (parts .1 .0) (λ e. two (sym e))
+
+  two-leave : SwapLeaves s kept giver taker quantity (second .after)
+  two-leave =
+      record {
+        giver-is = (ap kindIn giver-row ∙ first-left .kind-is, ap numberIn giver-row ∙ first-left .number-is);
+        taker-is = (second-left .kind-is, second-left .number-is);
+        noticed = (
+          ap markIn giver-row ∙ first-left .noticed (λ h. given-up (sym (h .1))),
+          second-left .noticed (λ h. moved (before taker) quantity some-quantity (sym (ap numberIn (sym taker-row) ∙ h .1))),
+        );
+        others = λ j low g t. second-left .others j low t ∙ first-left .others j low g;
+        as-posts = (first-accepted, second-accepted, refl);
+      }
+    where
+      -- what is left and the quantity come to what was there
+      given-up : (before giver -ℤ quantity ≡ before giver) → ⊥
+      given-up e =
+          moved (before giver -ℤ quantity) quantity some-quantity (-ℤ-+ℤ-cancel (before giver) quantity ∙ sym e)
+
+  pub swap-leaves : SwapLeaves s kept giver taker quantity (callOn s kept (swap giver taker quantity) .after)
+  swap-leaves = subst (SwapLeaves s kept giver taker quantity) (sym both-posts) two-leave
+
+pub leaves : (s : List ℕ) (kept : Office) → AcceptedLent s kept → Bytes (kept .table) → CallsLeave s kept
+leaves s kept lent bytes =
+    record {
+      index-kept = index-same s kept lent;
+      accepted = stays-accepted s kept lent;
+      bytes = stays-bytes s kept lent bytes;
+      owed-right = owes-right s kept lent;
+      posts = post-leaves s kept lent bytes;
+      keeps = keep-leaves s kept lent bytes;
+      drops = drop-leaves s kept lent bytes;
+      steps = step-leaves s kept lent bytes;
+      asks = ask-leaves s kept lent bytes;
+      quiet = ask-quiets s kept lent;
+      boards = λ items results z. board-leaves s kept lent bytes items results z;
+      board-asks = λ items results z. board-asks s kept lent bytes items results z;
+      board-quiet = board-quiets s kept lent bytes;
+      closes = λ z. close-leaves s kept lent bytes;
+      swaps = λ giver taker quantity z. swap-leaves s kept lent bytes giver taker quantity z;
+    }

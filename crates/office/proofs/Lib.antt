@@ -6,6 +6,7 @@ pub mod Bridge
 pub mod Causes
 pub mod Cells
 pub mod Closes
+pub mod Swapping
 pub mod Demands
 pub mod Examples
 pub mod Giving

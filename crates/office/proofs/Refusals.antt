@@ -2,23 +2,23 @@
 use Prim.Native.Nat.{ℕ, zero, suc, _<_, _≤_}
 use native.Mathlib.Omega.{arith}
 use mathlib.Core.Path.{_≡_, refl, sym, ap, ap₂, _∙_, subst}
-use mathlib.Core.Bool.{Bool, true, cond, not, _&&_}
+use mathlib.Core.Bool.{Bool, true, false, cond, not, _&&_}
 use mathlib.Core.List.{List, [], _∷_}
-use mathlib.Core.Logic.{_⊎_, inl, inr, _↔_}
+use mathlib.Core.Logic.{_⊎_, inl, inr, ⊎-elim, _↔_}
 use mathlib.Core.Option.{Option, none, some}
 use lib.IntN.{ℤ, pos}
 use lib.ListN.{length, length-map}
 use borrow.Author.Tests.{not-false}
 use Rattle.circuit.specs.Value.{Value, kindOf, numberOf}
 use Rattle.circuit.specs.Sheet.{Sheet, Ordered, size, itemAt, isFigure}
-use Rattle.circuit.specs.Call.{Call, post, keep, drop, step, ask, board, close}
+use Rattle.circuit.specs.Call.{Call, post, keep, drop, step, ask, board, close, swap}
 use Rattle.circuit.specs.Calls.{Test, firstCause, tests, postedValue, effect, isNone}
 use Rattle.circuit.proofs.Parts.{posted-some}
 use Rattle.circuit.proofs.RuleLaws.{and-left, and-right}
 use Rattle.layout.specs.Read.{Placed, SheetRead, opens, refused, readSheet, layoutOf}
 use Rattle.layout.specs.Opened.{sheetRead, sheetOf, sheetFrom, itemsOf, placedFrom}
 use Rattle.layout.specs.Causes.{Faultless}
-use Rattle.layout.proofs.Tests.{Tells, holds, fails, tells-eq}
+use Rattle.layout.proofs.Tests.{Tells, holds, fails, tells-or, tells-eq}
 use Rattle.layout.proofs.Scan.{opened-ordered}
 use Rattle.layout.proofs.Causes.{refused-exactly, opens-faultless, refused-number}
 use Rattle.table.specs.Rows.{row}
@@ -26,8 +26,9 @@ use Rattle.table.specs.Record.{width}
 use Rattle.table.specs.Bytes.{decodeTable, tableForm, owedTrue}
 use Rattle.office.specs.Office.{Office, Given, resultsLent, refusal, accepted, openingTests, callTests, unlessRefused, effectOn, callRead, callOn, openRead, openOn}
 use Rattle.office.specs.Demand1Words.{Invocation, opening, calling, serve, resultsLentTo, TableBroken, NotPostable, Row, cause, ownCauses, causesIn, causesOf, First, NoneHolds}
-use Rattle.office.specs.Demand1Words.{HoldsAt, ByNumber, Lowest, Refused, bySheet, byLent, NoCause, ListsWrong, SomeNoItem, AcceptedLent, BoardRefuses, CloseRefuses}
-use Rattle.office.proofs.Causes.{tells-is, tells-is-not, tells-lengths, tells-index, tells-table, tells-beyond, tells-lists, tells-listed, tells-posted, tells-mark}
+use Rattle.office.specs.Demand1Words.{HoldsAt, ByNumber, Lowest, Refused, bySheet, byLent, NoCause, ListsWrong, SomeNoItem, lentCauses, AcceptedLent, BoardRefuses, CloseRefuses}
+use Rattle.office.specs.Demand1Words.{NoSuchItem, ToFigure, IsEntry, NoSwap, ResultBeyond, numbersIn, SwapRefuses}
+use Rattle.office.proofs.Causes.{tells-is, tells-is-not, tells-lengths, tells-index, tells-table, tells-beyond, tells-lists, tells-listed, tells-posted, tells-mark, tells-no-swap, tells-results}
 
 -- ---- the first cause
 
@@ -101,6 +102,17 @@ own-tested S t (step i) form =
 own-tested S t (ask i) form = (refl, omega arith, tells-beyond S i, λ low. tt)
 own-tested S t (board items results) form = (refl, omega arith, tells-lists items results, λ n. (refl, omega arith, tells-listed S items, λ m. tt))
 own-tested S t close form = tt
+own-tested S t (swap giver taker quantity) form = (
+  refl,
+  omega arith,
+  tells-or (tells-beyond S giver) (tells-beyond S taker),
+  λ low. (
+    refl,
+    omega arith,
+    tells-or (tells-is (isFigure (itemAt S giver))) (tells-is (isFigure (itemAt S taker))),
+    λ n. (refl, omega arith, tells-no-swap giver taker quantity, λ m. (refl, omega arith, tells-results S t form giver taker quantity low, λ l. tt)),
+  ),
+)
 
 tested : (S : Sheet) → Ordered S → (ps : List Placed) → size S ≡ length ps → (kept : Office) (r : Invocation) → Tested (causesIn S ps kept r) (testsIn S ps kept r)
 unfolding testsIn
@@ -153,6 +165,7 @@ own-rising S t (step i) b = (omega arith, (omega arith, tt))
 own-rising S t (ask i) b = (omega arith, tt)
 own-rising S t (board items results) b = absurd b
 own-rising S t close b = tt
+own-rising S t (swap giver taker quantity) b = absurd b
 
 causes-rising : (S : Sheet) (ps : List Placed) (kept : Office) (r : Invocation) → ByNumber r → Rising 7 (causesIn S ps kept r)
 causes-rising S ps kept (opening o) b = (omega arith, tt)
@@ -373,6 +386,11 @@ lent-numbers s kept lent c = go (tells-eq (callOn s kept c .number) 0)
     own (board items results) k (inr (n, inl f)) = omega (arith, f .0)
     own (board items results) k (inr (n, inr f)) = absurd (f .1)
     own close k f = absurd f
+    own (swap giver taker quantity) k (inl f) = omega (arith, f .0)
+    own (swap giver taker quantity) k (inr (n, inl f)) = omega (arith, f .0)
+    own (swap giver taker quantity) k (inr (n, inr (m, inl f))) = omega (arith, f .0)
+    own (swap giver taker quantity) k (inr (n, inr (m, inr (l, inl f)))) = omega (arith, f .0)
+    own (swap giver taker quantity) k (inr (n, inr (m, inr (l, inr f)))) = absurd (f .1)
 
     past : (k : ℕ) → First (causesOf s kept (calling c)) k → 11 ≤ k
     past k (inl f) = absurd (lent .lent .0 (f .1))
@@ -411,46 +429,186 @@ close-refuses s kept =
     go (holds e) = omega (arith, e)
     go (fails n) = refuse _ _ (turned-back (calling close) s kept .given (callOn s kept close .number) (callOn s kept close .offset) n .0 (refl, refl))
 
+-- A call's own refusals: those with a number over 10, where what is lent is accepted.
+module _ (s : List ℕ) (kept : Office) (c : Call) where
+  abbrev Own : ℕ → Type 0
+  Own k = First (ownCauses (sheetOf s) (kept .table) c) k
+
+  -- a number of the call's own comes after those of what is lent
+  past : (k : ℕ) → 10 < k → Faultless s → First (causesOf s kept (calling c)) k → AcceptedLent s kept × Own k
+  past k h sound (inl f) = absurd (omega (arith, f .0))
+  past k h sound (inr (n, inl f)) = absurd (omega (arith, f .0))
+  past k h sound (inr (n, inr (m, inl f))) = absurd (omega (arith, f .0))
+  past k h sound (inr (n, inr (m, inr (o, f)))) = (record { sheet = sound; lent = (n, (m, (o, tt))) }, f)
+
+  by-own : (k : ℕ) → 10 < k → callOn s kept c .number ≡ k → AcceptedLent s kept × Own k
+  by-own k h e = go (turned-back (calling c) s kept .given k _ (λ z. omega arith) .0 (e, refl))
+    where
+      go : {offset : ℕ} → Refused s kept (calling c) k offset → AcceptedLent s kept × Own k
+      go {offset} (bySheet f) = absurd (omega (arith, refused-number s k offset (refused-exactly s k offset .1 f)))
+      go (byLent f q z) = past k h f q
+
+  from-own : (k : ℕ) → 10 < k → AcceptedLent s kept → Own k → callOn s kept c .number ≡ k
+  from-own k h lent f =
+      let all = lent .lent in
+      turned-back (calling c) s kept .given k 0 (λ z. omega arith) .1 (byLent (lent .sheet) (inr (all .0, inr (all .1 .0, inr (all .1 .1 .0, f)))) refl) .0
+
+  -- where what is lent is accepted, a call is refused for its own causes, and accepted exactly if none holds
+  pub own-refused : AcceptedLent s kept → (k : ℕ) → ¬ (k ≡ 0) → (callOn s kept c .number ≡ k) ↔ Own k
+  own-refused lent k n = (to, λ f. turned-back (calling c) s kept .given k 0 n .1 (byLent (lent .sheet) (inr (all .0, inr (all .1 .0, inr (all .1 .1 .0, f)))) refl) .0)
+    where
+      all : NoneHolds (lentCauses (sheetOf s) (itemsOf s) kept)
+      all = lent .lent
+
+      own : First (causesOf s kept (calling c)) k → Own k
+      own (inl f) = absurd (all .0 (f .1))
+      own (inr (a, inl f)) = absurd (all .1 .0 (f .1))
+      own (inr (a, inr (b, inl f))) = absurd (all .1 .1 .0 (f .1))
+      own (inr (a, inr (b, inr (d, f)))) = f
+
+      to : callOn s kept c .number ≡ k → Own k
+      to e = go (turned-back (calling c) s kept .given k _ n .0 (e, refl))
+        where
+          go : {offset : ℕ} → Refused s kept (calling c) k offset → Own k
+          go (bySheet f) = absurd (lent .sheet (f .place) (f .in-sheet) k (f .cause))
+          go (byLent f q z) = own q
+
+  pub own-accepted : (callOn s kept c .number ≡ 0) ↔ AcceptedLent s kept × NoneHolds (ownCauses (sheetOf s) (kept .table) c)
+  own-accepted = (
+    λ e. (accepted-lent s kept c e, turned-back (calling c) s kept .accepted .0 e .lent .1 .1 .1),
+    λ h.
+    let all = h .0 .lent in
+    turned-back (calling c) s kept .accepted .1 (record { sheet = h .0 .sheet; lent = (all .0, (all .1 .0, (all .1 .1 .0, h .1))) }),
+  )
+
 -- A board's own refusals, in their order.
 pub board-refuses : (s : List ℕ) (kept : Office) (items results : List ℕ) → BoardRefuses s kept items results
 board-refuses s kept items results =
     record {
-      lists-17 = (λ e. lists (by-first 17 (omega arith) e), λ h. from-first 17 (omega arith) (h .0) (inl (refl, h .1)));
-      item-11 = (λ e. item (by-first 11 (omega arith) e), λ h. from-first 11 (omega arith) (h .0) (inr (h .1, inl (refl, h .2))));
+      lists-17 = (λ e. lists (by-own s kept c 17 (omega arith) e), λ h. from-own s kept c 17 (omega arith) (h .0) (inl (refl, h .1)));
+      item-11 = (λ e. item (by-own s kept c 11 (omega arith) e), λ h. from-own s kept c 11 (omega arith) (h .0) (inr (h .1, inl (refl, h .2))));
       results-left = λ n. turned-back (calling c) s kept .left n .1;
     }
   where
     c : Call
     c = board items results
 
-    Own : ℕ → Type 0
-    Own k = First (ownCauses (sheetOf s) (kept .table) c) k
-
-    -- a number of the call's own comes after those of what is lent
-    past : (k : ℕ) → 10 < k → Faultless s → First (causesOf s kept (calling c)) k → AcceptedLent s kept × Own k
-    past k h sound (inl f) = absurd (omega (arith, f .0))
-    past k h sound (inr (n, inl f)) = absurd (omega (arith, f .0))
-    past k h sound (inr (n, inr (m, inl f))) = absurd (omega (arith, f .0))
-    past k h sound (inr (n, inr (m, inr (o, f)))) = (record { sheet = sound; lent = (n, (m, (o, tt))) }, f)
-
-    by-first : (k : ℕ) → 10 < k → callOn s kept c .number ≡ k → AcceptedLent s kept × Own k
-    by-first k h e = go (turned-back (calling c) s kept .given k _ (λ z. omega arith) .0 (e, refl))
-      where
-        go : {offset : ℕ} → Refused s kept (calling c) k offset → AcceptedLent s kept × Own k
-        go {offset} (bySheet f) = absurd (omega (arith, refused-number s k offset (refused-exactly s k offset .1 f)))
-        go (byLent f q z) = past k h f q
-
-    from-first : (k : ℕ) → 10 < k → AcceptedLent s kept → Own k → callOn s kept c .number ≡ k
-    from-first k h lent f =
-        let all = lent .lent in
-        turned-back (calling c) s kept .given k 0 (λ z. omega arith) .1 (byLent (lent .sheet) (inr (all .0, inr (all .1 .0, inr (all .1 .1 .0, f)))) refl) .0
-
-    lists : AcceptedLent s kept × Own 17 → AcceptedLent s kept × ListsWrong items results
+    lists : AcceptedLent s kept × Own s kept c 17 → AcceptedLent s kept × ListsWrong items results
     lists (lent, inl f) = (lent, f .1)
     lists (lent, inr (n, inl f)) = absurd (omega (arith, f .0))
     lists (lent, inr (n, inr f)) = absurd (f .1)
 
-    item : AcceptedLent s kept × Own 11 → AcceptedLent s kept × (¬ ListsWrong items results) × SomeNoItem (sheetOf s) items
+    item : AcceptedLent s kept × Own s kept c 11 → AcceptedLent s kept × (¬ ListsWrong items results) × SomeNoItem (sheetOf s) items
     item (lent, inl f) = absurd (omega (arith, f .0))
     item (lent, inr (n, inl f)) = (lent, n, f .1)
     item (lent, inr (n, inr f)) = absurd (f .1)
+
+-- A swap's own refusals, in their order.
+module _ (s : List ℕ) (kept : Office) (giver taker : ℕ) (quantity : ℤ) where
+  abbrev S : Sheet
+  S = sheetOf s
+
+  abbrev swaps : Call
+  swaps = swap giver taker quantity
+
+  abbrev Both : Type 0
+  Both = IsEntry (sheetOf s) giver × IsEntry (sheetOf s) taker
+
+  inside : (i : ℕ) → ¬ NoSuchItem (sheetOf s) i → i < size (sheetOf s)
+  inside i n = omega (arith, n)
+
+  -- both items are entries, by the first two causes
+  entries : ¬ (NoSuchItem (sheetOf s) giver ⊎ NoSuchItem (sheetOf s) taker) → ¬ (ToFigure (sheetOf s) giver ⊎ ToFigure (sheetOf s) taker) → Both
+  entries low plain =
+      ((inside giver (λ h. low (inl h)), not-figure giver (λ h. plain (inl h))), (inside taker (λ h. low (inr h)), not-figure taker (λ h. plain (inr h))))
+    where
+      not-figure : (i : ℕ) → ¬ ToFigure (sheetOf s) i → isFigure (itemAt (sheetOf s) i) ≡ false
+      not-figure i = go (isFigure (itemAt (sheetOf s) i))
+        where
+          go : (b : Bool) → ¬ (b ≡ true) → b ≡ false
+          go true n = absurd (n refl)
+          go false n = refl
+
+  low-items : Both → ¬ (NoSuchItem (sheetOf s) giver ⊎ NoSuchItem (sheetOf s) taker)
+  low-items both = ⊎-elim (λ h. omega (arith, h, both .0 .0)) (λ h. omega (arith, h, both .1 .0))
+
+  plain-items : Both → ¬ (ToFigure (sheetOf s) giver ⊎ ToFigure (sheetOf s) taker)
+  plain-items both = ⊎-elim (λ h. differ h (both .0 .1)) (λ h. differ h (both .1 .1))
+    where
+      differ : {b : Bool} → b ≡ true → b ≡ false → ⊥
+      differ p q = let bad : _≡_ {A = ℕ} 0 1 = cc in omega arith
+
+  pub swap-refuses : SwapRefuses s kept giver taker quantity
+  swap-refuses =
+      record {
+        item-11 = (λ e. item (by-own s kept swaps 11 (omega arith) e), λ h. from-own s kept swaps 11 (omega arith) (h .0) (inl (refl, h .1)));
+        figure-12 = (
+          λ e. figure (by-own s kept swaps 12 (omega arith) e),
+          λ h. from-own s kept swaps 12 (omega arith) (h .0) (inr (⊎-elim (λ a. omega (arith, a, h .1)) (λ a. omega (arith, a, h .2)), inl (refl, h .3))),
+        );
+        no-swap-18 = (
+          λ e. no-swap (by-own s kept swaps 18 (omega arith) e),
+          λ h. from-own s kept swaps 18 (omega arith) (h .0) (inr (low-items (h .1, h .2), inr (plain-items (h .1, h .2), inl (refl, h .3)))),
+        );
+        beyond-13 = (
+          λ e. beyond-range (by-own s kept swaps 13 (omega arith) e),
+          λ h. from-own s kept swaps 13 (omega arith) (h .0) (inr (low-items (h .1, h .2), inr (plain-items (h .1, h .2), inr (h .3, inl (refl, h .4))))),
+        );
+        accepted = (
+          λ e. free (own-accepted s kept swaps .0 e),
+          λ h. own-accepted s kept swaps .1 (h .0, (low-items (h .1, h .2), (plain-items (h .1, h .2), (h .3, (h .4, tt))))),
+        );
+        numbers = by-number (tells-eq (callOn s kept swaps .number) 0);
+      }
+    where
+      item : AcceptedLent s kept × Own s kept swaps 11 → AcceptedLent s kept × (NoSuchItem (sheetOf s) giver ⊎ NoSuchItem (sheetOf s) taker)
+      item (lent, inl f) = (lent, f .1)
+      item (lent, inr (n, inl f)) = absurd (omega (arith, f .0))
+      item (lent, inr (n, inr (m, inl f))) = absurd (omega (arith, f .0))
+      item (lent, inr (n, inr (m, inr (l, inl f)))) = absurd (omega (arith, f .0))
+      item (lent, inr (n, inr (m, inr (l, inr f)))) = absurd (f .1)
+
+      figure : AcceptedLent s kept × Own s kept swaps 12
+          → AcceptedLent s kept × (giver < size (sheetOf s)) × (taker < size (sheetOf s)) × (ToFigure (sheetOf s) giver ⊎ ToFigure (sheetOf s) taker)
+      figure (lent, inl f) = absurd (omega (arith, f .0))
+      figure (lent, inr (n, inl f)) = (lent, inside giver (λ h. n (inl h)), inside taker (λ h. n (inr h)), f .1)
+      figure (lent, inr (n, inr (m, inl f))) = absurd (omega (arith, f .0))
+      figure (lent, inr (n, inr (m, inr (l, inl f)))) = absurd (omega (arith, f .0))
+      figure (lent, inr (n, inr (m, inr (l, inr f)))) = absurd (f .1)
+
+      no-swap : AcceptedLent s kept × Own s kept swaps 18 → AcceptedLent s kept × IsEntry (sheetOf s) giver × IsEntry (sheetOf s) taker × NoSwap giver taker quantity
+      no-swap (lent, inl f) = absurd (omega (arith, f .0))
+      no-swap (lent, inr (n, inl f)) = absurd (omega (arith, f .0))
+      no-swap (lent, inr (n, inr (m, inl f))) = let both = entries n m in (lent, both .0, both .1, f .1)
+      no-swap (lent, inr (n, inr (m, inr (l, inl f)))) = absurd (omega (arith, f .0))
+      no-swap (lent, inr (n, inr (m, inr (l, inr f)))) = absurd (f .1)
+
+      beyond-range : AcceptedLent s kept × Own s kept swaps 13
+          → AcceptedLent s kept × IsEntry (sheetOf s) giver × IsEntry (sheetOf s) taker × (¬ NoSwap giver taker quantity) × ResultBeyond (numbersIn (kept .table)) giver taker quantity
+      beyond-range (lent, inl f) = absurd (omega (arith, f .0))
+      beyond-range (lent, inr (n, inl f)) = absurd (omega (arith, f .0))
+      beyond-range (lent, inr (n, inr (m, inl f))) = absurd (omega (arith, f .0))
+      beyond-range (lent, inr (n, inr (m, inr (l, inl f)))) = let both = entries n m in (lent, both .0, both .1, l, f .1)
+      beyond-range (lent, inr (n, inr (m, inr (l, inr f)))) = absurd (f .1)
+
+      free : AcceptedLent s kept × NoneHolds (ownCauses (sheetOf s) (kept .table) swaps)
+          → AcceptedLent s kept × IsEntry (sheetOf s) giver × IsEntry (sheetOf s) taker × (¬ NoSwap giver taker quantity) × (¬ ResultBeyond (numbersIn (kept .table)) giver taker quantity)
+      free (lent, none-holds) = let both = entries (none-holds .0) (none-holds .1 .0) in (lent, both .0, both .1, none-holds .1 .1 .0, none-holds .1 .1 .1 .0)
+
+      cause-number : (k : ℕ) → First (causesOf s kept (calling swaps)) k → (k ≤ 13) ⊎ (k ≡ 18)
+      cause-number k (inl f) = inl (omega (arith, f .0))
+      cause-number k (inr (a, inl f)) = inl (omega (arith, f .0))
+      cause-number k (inr (a, inr (b, inl f))) = inl (omega (arith, f .0))
+      cause-number k (inr (a, inr (b, inr (c, inl f)))) = inl (omega (arith, f .0))
+      cause-number k (inr (a, inr (b, inr (c, inr (n, inl f))))) = inl (omega (arith, f .0))
+      cause-number k (inr (a, inr (b, inr (c, inr (n, inr (m, inl f)))))) = inr (f .0)
+      cause-number k (inr (a, inr (b, inr (c, inr (n, inr (m, inr (l, inl f))))))) = inl (omega (arith, f .0))
+      cause-number k (inr (a, inr (b, inr (c, inr (n, inr (m, inr (l, inr f))))))) = absurd (f .1)
+
+      number : (k offset : ℕ) → Refused s kept (calling swaps) k offset → (k ≤ 13) ⊎ (k ≡ 18)
+      number k offset (bySheet f) = inl (omega (arith, refused-number s k offset (refused-exactly s k offset .1 f)))
+      number k offset (byLent f h z) = cause-number k h
+
+      by-number : {b : Bool} → Tells (callOn s kept swaps .number ≡ 0) b → (callOn s kept swaps .number ≤ 13) ⊎ (callOn s kept swaps .number ≡ 18)
+      by-number (holds e) = inl (omega (arith, e))
+      by-number (fails n) = number _ _ (turned-back (calling swaps) s kept .given (callOn s kept swaps .number) (callOn s kept swaps .offset) n .0 (refl, refl))

@@ -1,18 +1,19 @@
--- Demand 1, its words: each row of "Turned back" from 8 to 14, and 02's 17, as a statement about what is lent, and the order in
+-- Demand 1, its words: each row of "Turned back" from 8 to 14, and 02's 17 and 18, as a statement about what is lent, and the order in
 -- which the causes of an invocation count. The rows 1 to 7 are those of the sheet (layout, Causes). Assumes nothing.
 use Prim.Native.Nat.{ℕ, _+_, _*_, _^_, _<_, _≤_}
 use mathlib.Core.Path.{_≡_}
 use mathlib.Core.Bool.{Bool, true, false}
 use mathlib.Core.List.{List, [], _∷_, _++_}
 use mathlib.Core.Logic.{_⊎_, _↔_}
-use lib.IntN.{ℤ, pos, natAbs}
+use lib.IntN.{ℤ, pos, natAbs, _+ℤ_, _-ℤ_}
+use lib.Signed.{ltZ}
 use lib.ListN.{length}
 use mir.Syntax.{w64}
 use mir.Val.{SFits}
 use Rattle.circuit.specs.Value.{limit}
 use Rattle.circuit.specs.Circuit.{Listed}
 use Rattle.circuit.specs.Sheet.{Sheet, Ordered, size, itemAt, isFigure, parents}
-use Rattle.circuit.specs.Call.{Call, post, keep, drop, step, ask, board, close, Opening}
+use Rattle.circuit.specs.Call.{Call, post, keep, drop, step, ask, board, close, swap, Opening}
 use Rattle.circuit.specs.Board.{listedWidth, resultWidth, mostListed}
 use Rattle.field.specs.Field.{Bytes, le16At}
 use Rattle.layout.specs.Read.{Placed}
@@ -111,6 +112,10 @@ ToFigure S i = isFigure (itemAt S i) ≡ true
 abbrev pub OfEntry : Sheet → ℕ → Type 0
 OfEntry S i = isFigure (itemAt S i) ≡ false
 
+-- an entry of the sheet
+abbrev pub IsEntry : Sheet → ℕ → Type 0
+IsEntry S i = (i < size S) × (isFigure (itemAt S i) ≡ false)
+
 -- 13: posted kind not 1 or 3, number not 0 for kind 1, or beyond the range
 pub data NotPostable (kind : ℕ) (z : ℤ) : Type 0 where
   kindOther : ¬ (kind ≡ 1) → ¬ (kind ≡ 3) → NotPostable kind z
@@ -130,6 +135,14 @@ pub data ListsWrong (items results : List ℕ) : Type 0 where
 -- 11, of a board: some item of its list, in two bytes from 2k on, is n or more
 abbrev pub SomeNoItem : Sheet → List ℕ → Type 0
 SomeNoItem S items = (k : ℕ) × (listedWidth * k + 1 < length items) × NoSuchItem S (le16At items (listedWidth * k))
+
+-- 18: a swap with one entry on both sides, or a quantity under 1
+abbrev pub NoSwap : ℕ → ℕ → ℤ → Type 0
+NoSwap giver taker quantity = (giver ≡ taker) ⊎ (ltZ quantity (pos 1) ≡ true)
+
+-- 13, of a swap: a result beyond the range, the giver's or the taker's; `before` has the entries' numbers, NULL as 0
+abbrev pub ResultBeyond : (ℕ → ℤ) → ℕ → ℕ → ℤ → Type 0
+ResultBeyond before giver taker quantity = BeyondRange (before giver -ℤ quantity) ⊎ BeyondRange (before taker +ℤ quantity)
 
 -- a number with its cause
 pub record Row : Type 1 where
@@ -151,6 +164,19 @@ lentCausesUnder most S ps o =
 abbrev pub lentCauses : Sheet → List Placed → Office → List Row
 lentCauses S ps o = lentCausesUnder limit S ps o
 
+-- The causes of a swap's own: 11 and 12 of either item, then 18, then 13.
+abbrev pub swapCauses : Sheet → (ℕ → ℤ) → ℕ → ℕ → ℤ → List Row
+swapCauses S before giver taker quantity =
+    cause 11 (NoSuchItem S giver ⊎ NoSuchItem S taker)
+    ∷ cause 12 (ToFigure S giver ⊎ ToFigure S taker)
+    ∷ cause 18 (NoSwap giver taker quantity)
+    ∷ cause 13 (ResultBeyond before giver taker quantity)
+    ∷ []
+
+-- the numbers in a table's records; that of NULL is 0
+abbrev pub numbersIn : List ℕ → ℕ → ℤ
+numbersIn t i = numberIn (row width t i)
+
 -- the causes of a call's own
 abbrev pub ownCauses : Sheet → List ℕ → Call → List Row
 ownCauses S t (post i kind z) = cause 11 (NoSuchItem S i) ∷ cause 12 (ToFigure S i) ∷ cause 13 (NotPostable kind z) ∷ []
@@ -160,10 +186,11 @@ ownCauses S t (step i) = cause 11 (NoSuchItem S i) ∷ cause 14 (NoMark t i) ∷
 ownCauses S t (ask i) = cause 11 (NoSuchItem S i) ∷ []
 ownCauses S t (board items results) = cause 17 (ListsWrong items results) ∷ cause 11 (SomeNoItem S items) ∷ []
 ownCauses S t close = []
+ownCauses S t (swap giver taker quantity) = swapCauses S (numbersIn t) giver taker quantity
 
 -- The causes of an invocation in the order in which they count, after the sheet has been read. Openings use 8 alone. 01's calls have
--- theirs by rising numbers; a board has 17 before 11; a season-close run has those of what is lent alone. (A later request's call may
--- have a number twice.)
+-- theirs by rising numbers; a board has 17 before 11; a season-close run has those of what is lent alone; a swap has 18 before 13. (A
+-- later request's call may have a number twice.)
 abbrev pub causesIn : Sheet → List Placed → Office → Invocation → List Row
 causesIn S ps o (opening how) = cause 8 (LengthsWrong (size S) o) ∷ []
 causesIn S ps o (calling c) = lentCauses S ps o ++ ownCauses S (o .table) c
@@ -196,6 +223,7 @@ ByNumber (calling (step i)) = Unit {0}
 ByNumber (calling (ask i)) = Unit {0}
 ByNumber (calling (board items results)) = ⊥
 ByNumber (calling close) = Unit {0}
+ByNumber (calling (swap giver taker quantity)) = ⊥
 
 -- k is the lowest number whose cause holds
 pub record Lowest (rs : List Row) (k : ℕ) : Type 0 where
@@ -213,7 +241,8 @@ pub record NoCause (s : List ℕ) (o : Office) (r : Invocation) : Type 0 where
   pub sheet : Faultless s
   pub lent : NoneHolds (causesOf s o r)
 
--- What can be lent and given: slices of bytes, arguments of 64 bits, posted numbers signed, and a board's two lists of bytes.
+-- What can be lent and given: slices of bytes, arguments of 64 bits, posted numbers and a swap's quantity signed, and a board's two lists
+-- of bytes.
 abbrev pub FitsArguments : Invocation → Type 0
 FitsArguments (opening how) = Unit {0}
 FitsArguments (calling (post i kind z)) = (i < 2 ^ 64) × (kind < 2 ^ 64) × SFits w64 z
@@ -223,6 +252,7 @@ FitsArguments (calling (step i)) = i < 2 ^ 64
 FitsArguments (calling (ask i)) = i < 2 ^ 64
 FitsArguments (calling (board items results)) = Bytes items × Bytes results
 FitsArguments (calling close) = Unit {0}
+FitsArguments (calling (swap giver taker quantity)) = (giver < 2 ^ 64) × (taker < 2 ^ 64) × SFits w64 quantity
 
 pub record Lendable (r : Invocation) (s : List ℕ) (o : Office) : Type 0 where
   pub sheet : Bytes s
@@ -259,6 +289,21 @@ pub record BoardRefuses (s : List ℕ) (o : Office) (items results : List ℕ) :
 pub record CloseRefuses (s : List ℕ) (o : Office) : Type 0 where
   pub accepted : (callOn s o close .number ≡ 0) ↔ AcceptedLent s o
   pub numbers : callOn s o close .number ≤ 10
+
+-- A swap's own refusals, where sheet, index and table are accepted: 11 exactly if one of its items is n or more; 12 exactly if both are in
+-- the sheet and one is a figure; 18, whatever its results would be, exactly if both are entries, and are one or the quantity is under 1; 13
+-- exactly if none of these holds and a result is beyond the range. There are no others.
+pub record SwapRefuses (s : List ℕ) (o : Office) (giver taker : ℕ) (quantity : ℤ) : Type 0 where
+  pub item-11 : (callOn s o (swap giver taker quantity) .number ≡ 11) ↔ AcceptedLent s o × (NoSuchItem (sheetOf s) giver ⊎ NoSuchItem (sheetOf s) taker)
+  pub figure-12 : (callOn s o (swap giver taker quantity) .number ≡ 12)
+      ↔ AcceptedLent s o × (giver < size (sheetOf s)) × (taker < size (sheetOf s)) × (ToFigure (sheetOf s) giver ⊎ ToFigure (sheetOf s) taker)
+  pub no-swap-18 : (callOn s o (swap giver taker quantity) .number ≡ 18)
+      ↔ AcceptedLent s o × IsEntry (sheetOf s) giver × IsEntry (sheetOf s) taker × NoSwap giver taker quantity
+  pub beyond-13 : (callOn s o (swap giver taker quantity) .number ≡ 13)
+      ↔ AcceptedLent s o × IsEntry (sheetOf s) giver × IsEntry (sheetOf s) taker × (¬ NoSwap giver taker quantity) × ResultBeyond (numbersIn (o .table)) giver taker quantity
+  pub accepted : (callOn s o (swap giver taker quantity) .number ≡ 0)
+      ↔ AcceptedLent s o × IsEntry (sheetOf s) giver × IsEntry (sheetOf s) taker × (¬ NoSwap giver taker quantity) × (¬ ResultBeyond (numbersIn (o .table)) giver taker quantity)
+  pub numbers : let k : ℕ = callOn s o (swap giver taker quantity) .number in (k ≤ 13) ⊎ (k ≡ 18)
 
 -- What the words above come to on the bytes of a sheet without a fault: n by the first field, parents below their items, figures
 -- by their tags, and the offsets in the index.

@@ -5,16 +5,16 @@ use Prim.Native.Nat.{ℕ, _*_, _/_, _<_}
 use mathlib.Core.Path.{_≡_}
 use mathlib.Core.Bool.{Bool, true, false}
 use mathlib.Core.List.{List, [], _∷_, _++_, map}
-use lib.IntN.{ℤ, pos}
+use lib.IntN.{ℤ, pos, _+ℤ_, _-ℤ_}
 use mathlib.Core.Logic.{_⊎_}
 use lib.ListN.{length, getD, take}
-use Rattle.circuit.specs.Value.{Value, kindOf, numberOf}
+use Rattle.circuit.specs.Value.{Value, num, kindOf, numberOf}
 use Rattle.circuit.specs.Rules.{Operation, apply}
 use Rattle.circuit.specs.Circuit.{Listed, IsSolution}
 use Rattle.circuit.specs.Sheet.{Sheet, Spread, figure, Ordered, Entries, size, itemAt, isFigure, parents, circuitOf}
-use Rattle.circuit.specs.Table.{Table, unmarked, notice, held, upd, noticeIf, valueIn}
+use Rattle.circuit.specs.Table.{Table, unmarked, notice, held, upd, noticeIf, valueIn, entriesOf}
 use Rattle.circuit.specs.Machine.{Looked, Gathered, gather, lookUp, workOut, tell, clearMark}
-use Rattle.circuit.specs.Call.{Call, post, keep, drop, step, ask, board, close, Opening, bare, full}
+use Rattle.circuit.specs.Call.{Call, post, keep, drop, step, ask, board, close, swap, Opening, bare, full}
 use Rattle.circuit.specs.Board.{listedWidth, resultWidth, listed}
 use Rattle.circuit.specs.Words.{CaughtUp}
 use Rattle.field.specs.Field.{Bytes, le16At}
@@ -28,7 +28,7 @@ use Rattle.table.specs.Rows.{row}
 use Rattle.table.specs.Record.{width, owedPlace, kindIn, markIn, numberIn, owedIn}
 use Rattle.table.specs.Bytes.{encodeTable, decodeTable}
 use Rattle.office.specs.Office.{Office, Given, callOn, resultsOf}
-use Rattle.office.specs.Demand1Words.{SomeChildLeans, AcceptedLent}
+use Rattle.office.specs.Demand1Words.{SomeChildLeans, numbersIn, AcceptedLent}
 
 -- ---- what a call answers
 
@@ -96,7 +96,7 @@ valueOf t k = valueIn (decodeTable t k)
 
 -- the values of the table's entries
 abbrev pub entriesIn : List ℕ → Entries
-entriesIn t = λ i. valueOf t i
+entriesIn t = entriesOf (decodeTable t)
 
 -- the only solution of the sheet's circuit under the entries E
 pub record OnlySolution (S : Sheet) (E : Entries) (values : ℕ → Value) : Type 0 where
@@ -224,6 +224,18 @@ pub record CloseLeaves (s : List ℕ) (t : List ℕ) (o : Office) : Type 0 where
   pub asked : (i : ℕ) → i < size (sheetOf s) → let g : Given = callOn s o (ask i) in (answerOf g ≡ readingIn (o .table) i) × (g .after ≡ o)
   pub again : callOn s o close .after ≡ o
 
+-- 02's swap, from what the office keeps, o, to what it then keeps, p: "the first loses it, the second gains it, NULL counting as 0, and both
+-- are stored as by posts, the giver first". (The number in the record of NULL is 0.)
+pub record SwapLeaves (s : List ℕ) (o : Office) (giver taker : ℕ) (quantity : ℤ) (p : Office) : Type 0 where
+  pub giver-is : Stores (p .table) giver (num (numbersIn (o .table) giver -ℤ quantity))
+  pub taker-is : Stores (p .table) taker (num (numbersIn (o .table) taker +ℤ quantity))
+  pub noticed : (markIn (row width (p .table) giver) ≡ 2) × (markIn (row width (p .table) taker) ≡ 2)
+  pub others : (j : ℕ) → j < size (sheetOf s) → ¬ (j ≡ giver) → ¬ (j ≡ taker) → row width (p .table) j ≡ row width (o .table) j
+  -- both posts are accepted, and leave the same
+  pub as-posts : let first : Given = callOn s o (post giver 3 (numbersIn (o .table) giver -ℤ quantity)) in
+      let second : Given = callOn s (first .after) (post taker 3 (numbersIn (o .table) taker +ℤ quantity)) in
+      (first .number ≡ 0) × (second .number ≡ 0) × (p ≡ second .after)
+
 -- What the calls leave of what an office keeps, where it is accepted: the index as it was, an accepted table, and of an accepted
 -- call the table of its sentence, in bytes.
 pub record CallsLeave (s : List ℕ) (o : Office) : Type 0 where
@@ -247,3 +259,5 @@ pub record CallsLeave (s : List ℕ) (o : Office) : Type 0 where
   pub board-quiet : (items results : List ℕ) → let g : Given = callOn s o (board items results) in
       g .number ≡ 0 → ¬ (items ≡ []) → NoMarkStands (sheetOf s) (g .after .table)
   pub closes : let g : Given = callOn s o close in g .number ≡ 0 → CloseLeaves s (o .table) (g .after)
+  pub swaps : (giver taker : ℕ) (quantity : ℤ) → let g : Given = callOn s o (swap giver taker quantity) in
+      g .number ≡ 0 → SwapLeaves s o giver taker quantity (g .after)

@@ -1,5 +1,5 @@
--- The three demands of document 01, with 02's board, season-close run, owed bytes and choice, a record for each, in its order; and a record
--- of 02's job 7, that catching up always finishes. They are demands on `openOn` and `callOn` (Office), which the contracts of the exported
+-- The three demands of document 01, with 02's board, season-close run, owed bytes, choice and swap, a record for each, in its order; and a
+-- record each of 02's job 7, that catching up always finishes, and of its job 8, swaps as one act. They are demands on `openOn` and `callOn` (Office), which the contracts of the exported
 -- functions cite: a function gives and leaves exactly what these say, for all lent bytes. That every call ends and touches only what it was
 -- lent is proved of each function by the language. Assumes nothing.
 use Prim.Native.Nat.{ℕ, _*_, _≤_}
@@ -7,23 +7,25 @@ use mathlib.Core.Path.{_≡_}
 use mathlib.Core.Bool.{true}
 use mathlib.Core.List.{List}
 use mathlib.Core.Logic.{_↔_}
-use lib.IntN.{pos}
+use lib.IntN.{ℤ, pos}
 use lib.ListN.{length}
 use Rattle.circuit.specs.Value.{Value, limit, kindOf, numberOf, wellFormed}
 use Rattle.circuit.specs.Sheet.{size}
 use Rattle.circuit.specs.Equations.{Equations}
-use Rattle.circuit.specs.Call.{Call, drop, board, close, Opening, bare}
+use Rattle.circuit.specs.Call.{Call, drop, board, close, swap, Opening, bare}
 use Rattle.circuit.specs.Calls.{drops}
+use Rattle.circuit.specs.Fresh.{blank}
 use Rattle.field.specs.Field.{Bytes}
 use Rattle.layout.specs.Layout.{machineSheet}
 use Rattle.layout.specs.Opened.{sheetOf}
 use Rattle.layout.specs.Causes.{Faultless}
 use Rattle.office.specs.Office.{Office, resultOf, callOn, openOn, runOn}
 use Rattle.office.specs.Demand1Words.{Invocation, serve, resultsLentTo, causesOf, First, ByNumber, Lowest, Refused, NoCause, Gets}
-use Rattle.office.specs.Demand1Words.{formerWidth, AcceptedUnder, AcceptedLent, BoardRefuses, CloseRefuses, SheetWords}
+use Rattle.office.specs.Demand1Words.{formerWidth, AcceptedUnder, AcceptedLent, BoardRefuses, CloseRefuses, SwapRefuses, SheetWords}
 use Rattle.office.specs.Demand2Words.{FollowsLayout, Writes, NoneStored, OnlySolution, entriesIn, Gives, NoMarkStands, ListWords, ResultWords, CallsLeave}
 use Rattle.office.specs.FinishWords.{StepsEnd, QuietRight, AnyOrder}
-use Rattle.office.specs.Demand3Words.{acceptedPosts, askAfter, freshFrom, SameAnswers, Retains, CountsAsAsks, ClosesRight, OfficeAccepted}
+use Rattle.office.specs.SwapWords.{Swapping, swapsOf, sumIn, SwapFollows, CountsAsPosts}
+use Rattle.office.specs.Demand3Words.{postingsOn, askAfter, freshEntries, freshFrom, SameAnswers, Retains, RetainsPost, CountsAsAsks, ClosesRight, OfficeAccepted}
 
 -- Demand 1. Each fault is refused by its number and nothing else is, and a refused call changes no lent byte.
 pub record Refuses : Type 0 where
@@ -44,13 +46,15 @@ pub record Refuses : Type 0 where
   pub boards : (s : List ℕ) (o : Office) (items results : List ℕ) → BoardRefuses s o items results
   -- of a season-close run: 1 to 10, and no others
   pub closes : (s : List ℕ) (o : Office) → CloseRefuses s o
+  -- of a swap: 18 comes after 12 and before 13
+  pub swaps : (s : List ℕ) (o : Office) (giver taker : ℕ) (quantity : ℤ) → SwapRefuses s o giver taker quantity
   -- what is accepted under a range with a lower limit, every other cause the same, is accepted
   pub older : (most : ℕ) → most ≤ limit → (s : List ℕ) (o : Office) → AcceptedUnder most s o → AcceptedLent s o
   -- 02's "old tables are opened anew": a table of the former width is given 8 by every opening and call, if the sheet has no fault
   pub former : (r : Invocation) (s : List ℕ) (o : Office) → Faultless s → length (o .table) ≡ formerWidth * size (sheetOf s)
       → (serve r s o .number ≡ 8) × (serve r s o .offset ≡ 0)
   -- each number has its cause (15 is the printer's, printer/specs/Causes, and 16 the day program's, day_meaning/specs/Causes)
-  pub each : Gets 1 × Gets 2 × Gets 3 × Gets 4 × Gets 5 × Gets 6 × Gets 7 × Gets 8 × Gets 9 × Gets 10 × Gets 11 × Gets 12 × Gets 13 × Gets 14 × Gets 17
+  pub each : Gets 1 × Gets 2 × Gets 3 × Gets 4 × Gets 5 × Gets 6 × Gets 7 × Gets 8 × Gets 9 × Gets 10 × Gets 11 × Gets 12 × Gets 13 × Gets 14 × Gets 17 × Gets 18
   -- the sheet's words in the causes are those of its bytes
   pub words : (s : List ℕ) → Faultless s → SheetWords s
 
@@ -81,15 +85,17 @@ pub record Means : Type 0 where
 
 -- Demand 3, about whole lists of calls.
 pub record Agrees : Type 0 where
-  -- Two offices open the same sheet, each bare or full, and call what they like; the accepted posts are the same, in the same
-  -- order. Then every ask and every board agrees, and is what the fresh office gives that is fed either list; and closed, both keep the
+  -- Two offices open the same sheet, each bare or full, and call what they like; the postings that accepted calls made are the same, in the
+  -- same order. Then every ask and every board agrees, and is what the fresh office gives that is fed either list; and closed, both keep the
   -- same bytes.
   pub agree : (s : List ℕ) (o p : Office) (first second : Opening)
       → openOn first s o .number ≡ 0 → openOn second s p .number ≡ 0
-      → (cs ds : List Call) → acceptedPosts s (openOn first s o .after) cs ≡ acceptedPosts s (openOn second s p .after) ds
+      → (cs ds : List Call) → postingsOn s (openOn first s o .after) cs ≡ postingsOn s (openOn second s p .after) ds
       → SameAnswers s (openOn first s o .after) cs (openOn second s p .after) ds
   -- And after a quiet table and one accepted post, what that entry does not lead to stays stored with its value.
-  pub retained : (s : List ℕ) (o : Office) (how : Opening) → openOn how s o .number ≡ 0 → Retains s (openOn how s o .after)
+  pub retained : (s : List ℕ) (o : Office) (how : Opening) → openOn how s o .number ≡ 0 → RetainsPost s (openOn how s o .after)
+  -- After a quiet table and any call, a swap too, so does what none of the entries posted to leads to.
+  pub retained-any : (s : List ℕ) (o : Office) (how : Opening) → openOn how s o .number ≡ 0 → Retains s (openOn how s o .after)
   -- A call drops a figure exactly if it is a drop that names it.
   pub dropped : (c : Call) (k : ℕ) → (drops c k ≡ true) ↔ (c ≡ drop k)
   -- In a list of calls an accepted board counts as the asks for its items.
@@ -102,7 +108,7 @@ pub record Agrees : Type 0 where
   -- 02's "later calls go on from its table", on any accepted table: whatever list follows the run, every ask gives what the fresh office
   -- gives that began with the entries which the table held.
   pub goes-on : (s : List ℕ) (o : Office) → Bytes (o .table) → AcceptedLent s o
-      → (cs : List Call) (i : ℕ) → askAfter s (callOn s o close .after) cs i ≡ freshFrom s (entriesIn (o .table)) cs i
+      → (cs : List Call) (i : ℕ) → askAfter s (callOn s o close .after) cs i ≡ freshFrom s (entriesIn (o .table)) (callOn s o close .after) cs i
   -- no list leads to a refusal of index or table
   pub never-refused : (s : List ℕ) (o : Office) (how : Opening) → openOn how s o .number ≡ 0
       → (cs : List Call) → OfficeAccepted s (openOn how s o .after) cs
@@ -118,8 +124,22 @@ pub record Finishes : Type 0 where
   pub any-order : (s : List ℕ) (o : Office) (how : Opening) → openOn how s o .number ≡ 0
       → (cs : List Call) (is : List ℕ) → AnyOrder s (runOn s (openOn how s o .after) cs) is
 
+-- 02's job 8: swaps as one act.
+pub record Swaps : Type 0 where
+  -- "Over any sequence of swaps alone the exact sum of all entries, NULL as 0, is unchanged": refused ones included, from any accepted table,
+  -- also one that no engine wrote.
+  pub sum-kept : (s : List ℕ) (o : Office) → AcceptedLent s o → (xs : List Swapping) → sumIn s (runOn s o (swapsOf xs) .table) ≡ sumIn s (o .table)
+  -- after any list of calls since an opening
+  pub follows : (s : List ℕ) (o : Office) (how : Opening) → openOn how s o .number ≡ 0
+      → (cs : List Call) → let begin : Office = openOn how s o .after in
+      (giver taker : ℕ) (quantity : ℤ) → SwapFollows s (runOn s begin cs) (freshEntries s blank begin cs) giver taker quantity
+  -- in a list of calls an accepted swap counts as its two posts
+  pub counts : (s : List ℕ) (o : Office) → Bytes (o .table) → (giver taker : ℕ) (quantity : ℤ) → callOn s o (swap giver taker quantity) .number ≡ 0
+      → (cs : List Call) → CountsAsPosts s o giver taker quantity cs
+
 pub record Demands : Type 0 where
   pub refuses : Refuses
   pub means : Means
   pub agrees : Agrees
   pub finishes : Finishes
+  pub swaps : Swaps

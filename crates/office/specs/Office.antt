@@ -9,7 +9,7 @@ use lib.IntN.{ℤ, pos}
 use lib.ListN.{length}
 use Rattle.circuit.specs.Value.{Value, kindOf, numberOf}
 use Rattle.circuit.specs.Sheet.{Sheet}
-use Rattle.circuit.specs.Call.{Call, post, keep, drop, step, ask, board, close, Opening}
+use Rattle.circuit.specs.Call.{Call, post, keep, drop, step, ask, board, close, swap, Opening}
 use Rattle.circuit.specs.Calls.{Test, test, firstCause, tests, Outcome, effect}
 use Rattle.circuit.specs.Table.{opened}
 use Rattle.layout.specs.Read.{Placed, SheetRead, opens, refused, readSheet}
@@ -37,6 +37,7 @@ resultsLent (step i) = []
 resultsLent (ask i) = []
 resultsLent (board items results) = results
 resultsLent close = []
+resultsLent (swap giver taker quantity) = []
 
 -- A value in a list of results: its kind (1 byte) and its number (8 bytes), as in the table.
 abbrev pub resultOf : ℕ → ℤ → List ℕ
