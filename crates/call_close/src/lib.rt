@@ -27,16 +27,6 @@ use table::Mark;
 use value::MAX_PARENTS;
 use value::Value;
 
-// The value of a stored cell; NULL for UNK, which the run never meets.
-fn value_in(cell: Cell) -> Value
-    ensures { λ r. ⌜ meaning r ≡ valueIn (cellMeaning cell) ⌝ }
-{
-    match cell {
-        Cell::Unk(_) => Value::NULL,
-        Cell::Held(value, _) => value,
-    }
-}
-
 // Gathers the value in the record of item p, as that of the parent in place k.
 fn gather(
     table: &[u8],
@@ -49,7 +39,7 @@ fn gather(
     ensures kind { λ _. ⌜ now (kinds .exit) ≡ set (now (kinds .entry)) k (kindOf (valueIn (decodeTable (now (table .entry)) p))) ⌝ }
     ensures amount { λ _. ⌜ now (amounts .exit) ≡ set (now (amounts .entry)) k (numberOf (valueIn (decodeTable (now (table .entry)) p))) ⌝ }
 {
-    let value = value_in(table::read_cell(table, p));
+    let value = table::value_in(table::read_cell(table, p));
     kinds[k] = value.kind();
     amounts[k] = value.number_or_zero();
 }
@@ -80,7 +70,7 @@ fn closed_value(sheet: &[u8], offsets: &[usize], table: &[u8], i: usize) -> Valu
     if item::is_figure(sheet, offsets[i]) {
         work_out(sheet, offsets, table, i)
     } else {
-        value_in(table::read_cell(table, i))
+        table::value_in(table::read_cell(table, i))
     }
 }
 

@@ -7,26 +7,23 @@ use mathlib.Core.List.{List, [], _∷_}
 use mathlib.Core.Option.{Option, none, some}
 use lib.IntN.{ℤ}
 use borrow.Author.Tests.{ne-eqb}
-use Rattle.circuit.specs.Value.{Value, same}
+use Rattle.circuit.specs.Value.{Value}
 use Rattle.circuit.specs.Sheet.{itemAt, isFigure}
-use Rattle.circuit.specs.Table.{Cell, notice, unk, held, isStored}
-use Rattle.circuit.specs.Machine.{storePosting, postCell}
+use Rattle.circuit.specs.Machine.{postCell}
 use Rattle.circuit.specs.Call.{post}
-use Rattle.circuit.specs.Calls.{test, firstCause, tests, effect, noItem, notPostable, isNone, postedValue, postIt}
+use Rattle.circuit.specs.Calls.{test, firstCause, tests, effect, noItem, notPostable, isNone, postedValue, postingOf, storePostings}
 use Rattle.layout.specs.Opened.{sheetOf}
 use Rattle.value.specs.Meaning.{partsOf}
 use Rattle.field.specs.Bytes.{Bytes}
 use Rattle.table.specs.Rows.{row, setRow}
-use Rattle.table.specs.Record.{width, encodeCell, decodeCell, mayHold}
+use Rattle.table.specs.Record.{width, encodeCell, decodeCell}
 use Rattle.table.specs.Bytes.{encodeTable, decodeTable, owedTrue}
-use Rattle.looking.proofs.Looking.{lent-holdable}
 use Rattle.looking.specs.Pass.{Lent}
 use Rattle.admission.specs.Admission.{callLent}
 use Rattle.admission.specs.Answers.{Answered, wrongItem}
 use Rattle.admission.specs.declared.Answer.{Answer}
-use Rattle.admission.proofs.Admitting.{item-refused, item-passed, item-low, refused-answer, accepted-answer, stored-encoded}
-
--- ---- post
+use Rattle.admission.proofs.Admitting.{item-refused, item-passed, item-low, refused-answer, accepted-answer}
+use Rattle.posting.proofs.Posting.{posting-encoded}
 
 pub posted-other : (kind : ℕ) (z : ℤ) (r : Option Value) → (kind ≡ 2 → ⊥) → r ≡ partsOf kind z → r ≡ postedValue kind z
 unfolding postedValue
@@ -38,16 +35,6 @@ unfolding firstCause
 second-false true b k e h = absurd (omega arith)
 second-false false true k e h = absurd (omega arith)
 second-false false false k e h = refl
-
--- an entry is stored before and after a posting, so that no owed byte changes
-posted-stored : (f : Bool) (c : Cell) (v : Value) → f ≡ false → mayHold f c ≡ true → isStored (postCell c v) ≡ isStored c
-posted-stored true c v e h = let bad : _≡_ {A = ℕ} 0 1 = cc e in absurd (omega arith)
-posted-stored false (unk b) v e h = let bad : _≡_ {A = ℕ} 0 1 = cc h in absurd (omega arith)
-posted-stored false (held w m) v e h = go (same w v)
-  where
-    go : (b : Bool) → isStored (cond b (held w m) (held v notice)) ≡ true
-    go true = refl
-    go false = refl
 
 module _ {s offsets t : List ℕ} (lent : Lent s offsets t) (bytes : Bytes t) (owes : owedTrue (sheetOf s) t ≡ true) (x : List ℕ) (item kind : ℕ) (z : ℤ) (cause : ℕ)
     (cause-is : cause ≡ firstCause (test 11 (noItem (sheetOf s) item) ∷ test 12 (wrongItem false (sheetOf s) item) ∷ [])) (r : Answer) (offset-is : r .offset ≡ 0) where
@@ -64,15 +51,12 @@ module _ {s offsets t : List ℕ} (lent : Lent s offsets t) (bytes : Bytes t) (o
   pub post-value : cause ≡ 0 → none ≡ postedValue kind z → r .number ≡ 13 → Answered (callLent (sheetOf s) x t (post item kind z)) r t
   post-value h e n = refused-answer (sheetOf s) x t (post item kind z) r 13 (value-test h none e) (λ q. omega arith) n offset-is
 
-  pub post-stored : cause ≡ 0 → (v : Value) → some v ≡ postedValue kind z → (t′ : List ℕ) (c : Cell)
-      → c ≡ postCell (decodeCell (row width t item)) v → t′ ≡ setRow width t item (encodeCell c) → r .number ≡ 0
+  pub post-stored : cause ≡ 0 → (v : Value) → some v ≡ postedValue kind z → (t′ : List ℕ)
+      → t′ ≡ setRow width t item (encodeCell (postCell (decodeCell (row width t item)) v)) → r .number ≡ 0
       → Answered (callLent (sheetOf s) x t (post item kind z)) r t′
-  unfolding tests effect storePosting
-  post-stored h v e t′ c f g n =
+  unfolding tests effect storePostings
+  post-stored h v e t′ g n =
       let low = item-low (sheetOf s) x t (post item kind z) false item (test 13 (notPostable kind z) ∷ []) refl cause cause-is h in
       accepted-answer (sheetOf s) x t t′ (post item kind z) r (value-test h (some v) e) n offset-is
-      (g ∙ ap (λ d. setRow width t item (encodeCell d)) f
-      ∙ stored-encoded lent bytes owes item _ low
-      (posted-stored (isFigure (itemAt (sheetOf s) item)) (decodeTable t item) v
-      (second-false (noItem (sheetOf s) item) (isFigure (itemAt (sheetOf s) item)) cause cause-is h) (lent-holdable lent item low))
-      ∙ ap (λ o. encodeTable (sheetOf s) (postIt (decodeTable t) item o)) e)
+      (posting-encoded lent bytes owes item low (second-false (noItem (sheetOf s) item) (isFigure (itemAt (sheetOf s) item)) cause cause-is h) v t′ g
+      ∙ ap (λ o. encodeTable (sheetOf s) (storePostings (decodeTable t) (postingOf item o))) e)

@@ -3,21 +3,17 @@ ghost use mathlib.Core.Path.{_≡_};
 ghost use mathlib.Core.Bool.{true, false};
 ghost use mathlib.Core.List.{List};
 ghost use Prim.Native.Nat.{ℕ};
-ghost use Rattle.circuit.specs.Machine as machine;
 ghost use Rattle.circuit.specs.Call as machine_call;
 ghost use Rattle.circuit.specs.Calls as machine_calls;
-ghost use Rattle.value.specs.Meaning.{meaning, partsMeaning};
+ghost use Rattle.value.specs.Meaning.{partsMeaning};
 ghost use Rattle.layout.specs.Opened.{sheetOf};
 ghost use Rattle.table.specs.Bytes.{owedTrue};
-ghost use Rattle.table.specs.Meaning.{cellMeaning};
 ghost use Rattle.office.specs.Office.{callOn, keeping};
 ghost use Rattle.admission.specs.Answers.{Answered};
 ghost use Rattle.admission.specs.Admission.{Placing, callLent};
 ghost use Rattle.looking.specs.Pass.{Lent};
 use admission::Admitted;
 use admission::Answer;
-use table::Cell;
-use table::Mark;
 use value::Parts;
 use value::Value;
 
@@ -29,22 +25,6 @@ fn posted(kind: u64, number: i64) -> Parts
         Parts::Unformed
     } else {
         Value::from_parts(kind, number)
-    }
-}
-
-// The cell after a posting: an equal value changes nothing.
-fn posted_cell(cell: Cell, value: Value) -> Cell
-    ensures { λ r. ⌜ cellMeaning r ≡ machine.postCell (cellMeaning cell) (meaning value) ⌝ }
-{
-    match cell {
-        Cell::Unk(_) => Cell::Held(value, Mark::Notice),
-        Cell::Held(old, mark) => {
-            if Value::same(old, value) {
-                Cell::Held(old, mark)
-            } else {
-                Cell::Held(value, Mark::Notice)
-            }
-        }
     }
 }
 
@@ -67,9 +47,7 @@ fn post_lent(
     match posted(kind, number) {
         Parts::Unformed => admission::give(13, 0),
         Parts::Formed(value) => {
-            let i = item as usize;
-            let cell = posted_cell(table::read_cell(table, i), value);
-            table::store_cell(table, i, cell);
+            posting::store_posting(table, item as usize, value);
             admission::give(0, 0)
         }
     }

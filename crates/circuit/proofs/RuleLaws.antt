@@ -14,7 +14,7 @@ use lib.IntN.{ℤ, pos, negsuc, natAbs, negℤ, sucℤ, subℕ, _+ℤ_, _-ℤ_, 
 use lib.Signed.{leZ, ltZ}
 use Rattle.circuit.specs.Rules.{Operation, sum, difference, smallest, largest, share, choice, count, atLeast, apply, anyOut, numbers, nth, ofNumbers, total, least, greatest, howMany}
 use Rattle.circuit.specs.Rules.{orZero, floorDiv, choiceOf, whole}
-use Rattle.circuit.specs.Value.{Value, null, out, num, limit, inRange, isNull, isOut, wellFormed, ranged, same, sameNumber}
+use Rattle.circuit.specs.Value.{Value, null, out, num, limit, inRange, isNull, isOut, wellFormed, ranged, same, sameNumber, numberOf}
 use Rattle.circuit.specs.WellFormed.{allWellFormed}
 
 -- ---- equal values
@@ -240,6 +240,12 @@ inRange-size z e = leb-true (natAbs z) limit e
 pub size-inRange : (z : ℤ) → natAbs z ≤ limit → inRange z ≡ true
 unfolding inRange
 size-inRange z h = le-leb (natAbs z) limit h
+
+-- the number of a well-formed value is within the range, 0 where there is none
+pub number-inRange : (v : Value) → wellFormed v ≡ true → inRange (numberOf v) ≡ true
+number-inRange null w = size-inRange (pos 0) (omega arith)
+number-inRange out w = size-inRange (pos 0) (omega arith)
+number-inRange (num z) w = w
 
 -- ---- a quotient rounded down
 

@@ -1,5 +1,4 @@
 -- What the rules of two and three parents ask, case by case, over plain variables. Assumes nothing.
-use Prim.Native.Nat.{zero-le}
 use mathlib.Core.Bool.{Bool, true, false, cond, _&&_, _||_}
 use mathlib.Core.List.{List, [], _∷_}
 use mathlib.Core.Path.{_≡_, refl, sym, ap, _∙_}
@@ -7,7 +6,7 @@ use lib.IntN.{ℤ, pos, _-ℤ_}
 use lib.Signed.{leZ, ltZ}
 use mir.Syntax.{w64}
 use mir.Val.{SFits}
-use Rattle.circuit.proofs.RuleLaws.{any-out, choice-null, choice-out, choice-picks, size-inRange}
+use Rattle.circuit.proofs.RuleLaws.{any-out, choice-null, choice-out, choice-picks, number-inRange}
 use Rattle.circuit.specs.Rules as rules
 use Rattle.circuit.specs.Value as circuit
 use Rattle.value.specs.declared.Amount.the-variants.{Null, Out, Number}
@@ -41,12 +40,7 @@ orZero-is (circuit.num z) = refl
 
 -- the number of a well-formed value is within the range
 pub number-fits : (v : circuit.Value) (x : ℤ) → SFits w64 x → x ≡ circuit.numberOf v → circuit.wellFormed v ≡ true → circuit.inRange (read x) ≡ true
-number-fits v x f e w = rw (back x f, e) (go v w)
-  where
-    go : (v : circuit.Value) → circuit.wellFormed v ≡ true → circuit.inRange (circuit.numberOf v) ≡ true
-    go circuit.null w = size-inRange (pos 0) zero-le
-    go circuit.out w = size-inRange (pos 0) zero-le
-    go (circuit.num z) w = w
+number-fits v x f e w = rw (back x f, e) (number-inRange v w)
 
 -- a rule that is NULL if either parent is, and else f of the two numbers
 abbrev bothRule : (ℤ → ℤ → circuit.Value) → List circuit.Value → circuit.Value

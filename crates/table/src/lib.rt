@@ -3,7 +3,8 @@ ghost use mathlib.Core.Path.{_≡_};
 ghost use Prim.Native.Nat.{_+_, _*_, _≤_};
 ghost use lib.ListN.{length};
 ghost use lib.Seq.{sets};
-ghost use Rattle.circuit.specs.Table.{markOf, isMarked, isNotice};
+ghost use Rattle.circuit.specs.Table.{valueIn, markOf, isMarked, isNotice};
+ghost use Rattle.value.specs.Meaning.{meaning};
 ghost use Rattle.table.specs.Rows.{row, setRow};
 ghost use Rattle.table.specs.Record.{width, recordOf, markCode, markCoded, cellCoded, encodeCell, decodeCell, codesForm, numberForm, recordForm};
 ghost use Rattle.table.specs.Bytes.{decodeTable, LowestMarked};
@@ -64,6 +65,16 @@ pub fn read_cell(table: &[u8], i: usize) -> Cell
 {
     let at = i * WIDTH;
     cell_coded(table[at], table[at + 1], word::read_i64(table, at + 2))
+}
+
+// The value of a stored cell, and NULL for UNK.
+pub fn value_in(cell: Cell) -> Value
+    ensures { λ r. ⌜ meaning r ≡ valueIn (cellMeaning cell) ⌝ }
+{
+    match cell {
+        Cell::Unk(_) => Value::NULL,
+        Cell::Held(value, _) => value,
+    }
 }
 
 // Whether item i is marked, by its kind and its mark.

@@ -3,8 +3,8 @@ use Rattle.value.specs.Meaning.{meaning}
 use Rattle.circuit.specs.Machine.{postCell}
 use mathlib.Core.Path.{sym, ap, _∙_}
 use borrow.Author.Needs.{needs}
-use Rattle.call_post.proofs.posted_cell.Statement.{statement}
-use Rattle.call_post.proofs.posted_cell.Tie as tie
+use Rattle.posting.proofs.posted_cell.Statement.{statement}
+use Rattle.posting.proofs.posted_cell.Tie as tie
 
 returns : tie.Need-returns
 returns c = let a = c .before .before .args in sym (ap (λ q. postCell (cellMeaning q) (meaning (a .value))) (c .enum-told .given .1))
