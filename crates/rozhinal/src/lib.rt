@@ -1,4 +1,4 @@
-// The functions that a C program calls: the openings, the seven calls and the printer, with numbers and byte slices. A slice is a
+// The functions that a C program calls: the openings, the eight calls and the printer, with numbers and byte slices. A slice is a
 // pointer and a length in C; include/rozhinal.h declares them. Each is one call of the function that does the work.
 ghost use Rattle.circuit.specs.Call as call;
 ghost use Rattle.circuit.specs.Call.{bare, full};
@@ -37,6 +37,20 @@ pub extern "C" fn rozhinal_post(
     ensures { λ r. ⌜ Answered (callOn (now (sheet .entry)) (keeping (now (index .entry)) (now (table .entry))) (call.post item kind number)) r (now (table .exit)) ⌝ }
 {
     call_post::post(sheet, index, table, item, kind, number)
+}
+
+#[no_mangle]
+pub extern "C" fn rozhinal_swap(
+    sheet: &[u8],
+    index: &[u8],
+    table: &mut [u8],
+    giver: u64,
+    taker: u64,
+    quantity: i64,
+) -> Answer
+    ensures { λ r. ⌜ Answered (callOn (now (sheet .entry)) (keeping (now (index .entry)) (now (table .entry))) (call.swap giver taker quantity)) r (now (table .exit)) ⌝ }
+{
+    call_swap::swap(sheet, index, table, giver, taker, quantity)
 }
 
 #[no_mangle]

@@ -3,7 +3,7 @@ use Rattle.value.proofs.Signed.{back}
 use Rattle.admission.proofs.Admitting.{cause-fits}
 use Rattle.call_post.proofs.Posting.{post-item, post-value, post-stored}
 use Rattle.field.proofs.Cutting.{slice-bytes}
-use Rattle.value.specs.Meaning.{meaning, partsMeaning}
+use Rattle.value.specs.Meaning.{partsMeaning}
 use mathlib.Core.Bool.{false}
 use mathlib.Core.Path.{sym, ap, _∙_}
 use borrow.Author.Needs.{needs}
@@ -19,19 +19,12 @@ returns c =
     let b = slice-bytes (a .table .now) (c .before .before .before .slice-known .given) in
     post-item (p .1 .0) b (p .1 .1) x (a .item) (a .kind) (a .number) (i .result) (i .ensures) (c .give .result) (c .give .ensures .1) (c .before .if1 .taken) (c .give .ensures .0)
 
-read-cell-requires : tie.Need-read-cell-requires
-read-cell-requires c κs =
+store-posting-requires : tie.Need-store-posting-requires
+store-posting-requires c κs =
     let a = c .before .before .before .before .before .before .before .before .before .before .args in
     let p = c .before .before .before .before .before .before .before .before .before .before .pre in
     let i = c .before .before .before .before .before .before .item-cause in
     cause-fits (a .sheet .now) (a .table .now) (a .item) (i .result) false (p .1 .0 .length-is) (i .ensures) (c .before .before .before .before .before .if1 .left)
-
-store-cell-requires : tie.Need-store-cell-requires
-store-cell-requires c κs =
-    let a = c .before .before .before .before .before .before .before .before .before .before .before .before .before .args in
-    let p = c .before .before .before .before .before .before .before .before .before .before .before .before .before .pre in
-    let i = c .before .before .before .before .before .before .before .before .before .item-cause in
-    cause-fits (a .sheet .now) (a .table .now) (a .item) (i .result) false (p .1 .0 .length-is) (i .ensures) (c .before .before .before .before .before .before .before .before .if1 .left)
 
 returns-2 : tie.Need-returns-2
 returns-2 c =
@@ -49,20 +42,14 @@ returns-2 c =
 returns-3 : tie.Need-returns-3
 returns-3 c =
     λ x.
-    let a = c .before .before .before .before .before .before .before .before .before .before .before .before .before .before .before .before .before .args in
-    let p = c .before .before .before .before .before .before .before .before .before .before .before .before .before .before .before .before .before .pre in
-    let i = c .before .before .before .before .before .before .before .before .before .before .before .before .before .item-cause in
-    let b = slice-bytes (a .table .now) (c .before .before .before .before .before .before .before .before .before .before .before .before .before .before .slice-known .given) in
+    let a = c .before .before .before .before .before .before .before .before .before .before .before .before .before .before .args in
+    let p = c .before .before .before .before .before .before .before .before .before .before .before .before .before .before .pre in
+    let i = c .before .before .before .before .before .before .before .before .before .before .item-cause in
+    let b = slice-bytes (a .table .now) (c .before .before .before .before .before .before .before .before .before .before .before .slice-known .given) in
     post-stored (p .1 .0) b (p .1 .1) x (a .item) (a .kind) (a .number) (i .result) (i .ensures) (c .give3 .result) (c .give3 .ensures .1)
-    (c .before .before .before .before .before .before .before .before .before .before .before .before .if1 .left) _
-    (sym (ap partsMeaning (c .before .before .before .before .before .before .before .before .before .value .given .1))
-    ∙ c .before .before .before .before .before .before .before .before .before .before .before .posted .ensures ∙ ap (postedValue (a .kind))
-    (back (a .number) (c .before .before .before .before .before .before .before .before .before .before .before .before .before .before .before .before .before .fits .number)))
-    _ _
-    (c .before .before .before .before .before .posted-cell .ensures ∙ ap
-    (λ q. Rattle.circuit.specs.Machine.postCell q (meaning (c .before .before .before .before .before .before .before .before .before .value .given .0 .0)))
-    (c .before .before .before .before .before .before .read-cell .ensures))
-    (c .before .before .before .store-cell .ensures) (c .give3 .ensures .0)
+    (c .before .before .before .before .before .before .before .before .before .if1 .left) _
+    (sym (ap partsMeaning (c .before .before .before .before .before .before .value .given .1)) ∙ c .before .before .before .before .before .before .before .before .posted .ensures ∙ ap (postedValue (a .kind)) (back (a .number) (c .before .before .before .before .before .before .before .before .before .before .before .before .before .before .fits .number)))
+    _ (c .before .before .before .store-posting .ensures) (c .give3 .ensures .0)
 
 pub post-lent-spec : {M : Type 1} → statement M
 post-lent-spec =
@@ -75,9 +62,7 @@ post-lent-spec =
     (λ c. search needs)
     (λ c κs. search needs)
     (λ c. search needs)
-    read-cell-requires
-    (λ c κs. search needs)
-    store-cell-requires
+    store-posting-requires
     (λ c κs. search needs)
     returns-2
     (λ c. search needs)
