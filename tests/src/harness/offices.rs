@@ -1,13 +1,23 @@
-//! Two offices with the same accepted posts in the same order agree, and the fresh office too.
+//! Two offices with the same postings in the same order agree, and the fresh office too.
 
 use super::boards::{plain_board, same_boards};
 use super::closes::{plain_close, refused_close, same_closes};
 use super::compare::{Comparison, Lent};
+use super::fixed::expect;
 use super::lists::{open, plain_call, Office};
-use crate::gen::{self, Shape};
+use super::swaps::{fresh_swap, plain_swap, BESIDE};
+use crate::gen::{self, Numbers, Shape};
 use crate::model::calls::{Call, Reply};
+use crate::model::fresh::FreshOffice;
 use crate::model::sheet::{read_sheet, Item};
+use crate::model::swap::Swap;
 use crate::model::table::{to_pair, RECORD};
+
+/// What both offices do: a post, or a swap that either may do as its two postings.
+enum Deed {
+    Post(Call),
+    Swap(Swap, Vec<Call>),
+}
 
 pub fn run_offices(c: &mut Comparison) -> Result<(), String> {
     let (shape, numbers) = (gen::shape(&mut c.rng), gen::choose_numbers(&mut c.rng));
@@ -19,10 +29,11 @@ pub fn run_offices(c: &mut Comparison) -> Result<(), String> {
         Shape::Small if c.rng.percent(5) => 150,
         _ => 15,
     };
-    let posts: Vec<Call> =
-        (0..c.rng.below(most)).map(|_| gen::good_post(&mut c.rng, &items, numbers)).collect();
-    let one = run_office(c, &sheet, &items, &posts)?;
-    let two = run_office(c, &sheet, &items, &posts)?;
+    let deeds = deeds(c, &items, numbers, most);
+    let (one, swapped) = run_office(c, &sheet, &items, &deeds)?;
+    let (two, others) = run_office(c, &sheet, &items, &deeds)?;
+    let beside = swapped.iter().zip(&others).filter(|(one, two)| one != two).count();
+    c.tally.swaps[BESIDE] += beside as u64;
     same_boards(c, &items, &one, &two)?;
     same_closes(c, &one, &two)?;
     let ((mut one, first), (mut two, second)) = (one, two);
@@ -44,6 +55,36 @@ pub fn run_offices(c: &mut Comparison) -> Result<(), String> {
     Ok(())
 }
 
+/// Fewer deeds than so many, all of them accepted.
+fn deeds(c: &mut Comparison, items: &[Item], numbers: Numbers, most: u64) -> Vec<Deed> {
+    let mut fresh = FreshOffice::new(items);
+    let mut deeds = Vec::new();
+    for _ in 0..c.rng.below(most) {
+        let held: Vec<i64> = fresh.all().into_iter().map(|value| to_pair(value).1).collect();
+        let swap = gen::good_swap(&mut c.rng, items, &held).filter(|_| c.rng.percent(40));
+        let deed = match swap {
+            Some(swap) => {
+                let made = fresh_swap(items, &fresh, &swap).1.into_iter();
+                let post = |(item, (kind, number))| Call::Post { item, kind: kind as u64, number };
+                Deed::Swap(swap, made.map(post).collect())
+            }
+            None => Deed::Post(gen::good_post(&mut c.rng, items, numbers)),
+        };
+        deed.posts().iter().for_each(|post| fresh.feed(post));
+        deeds.push(deed);
+    }
+    deeds
+}
+
+impl Deed {
+    fn posts(&self) -> &[Call] {
+        match self {
+            Deed::Post(post) => std::slice::from_ref(post),
+            Deed::Swap(_, posts) => posts,
+        }
+    }
+}
+
 /// The value of an ask; none for refusal 11.
 fn outcome(reply: &Reply) -> Option<(u8, i64)> {
     match reply.number {
@@ -53,32 +94,50 @@ fn outcome(reply: &Reply) -> Option<(u8, i64)> {
     }
 }
 
-/// An office with these accepted posts, and any other calls, boards and closes between them.
+/// An office with the postings of these deeds, and any other calls, boards and closes between them.
+/// Whether it swapped, for each deed.
 fn run_office<'i>(
     c: &mut Comparison,
     sheet: &[u8],
     items: &'i [Item],
-    posts: &[Call],
-) -> Result<(Lent, Office<'i>), String> {
+    deeds: &[Deed],
+) -> Result<((Lent, Office<'i>), Vec<bool>), String> {
     let (index, table) = (c.rng.bytes(4 * items.len()), c.rng.bytes(RECORD * items.len()));
     let mut lent = Lent { sheet: sheet.to_vec(), index, table };
     let mut office = Some(open(c, items, &mut lent)?);
-    let busy = c.rng.below(6);
-    for k in 0..=posts.len() {
-        for _ in 0..c.rng.below(busy + 1) {
-            between(c, items, &mut lent, &mut office)?;
+    let (busy, mut swapped) = (c.rng.below(6), Vec::new());
+    for deed in deeds {
+        let swap = match deed {
+            Deed::Swap(swap, _) if c.rng.percent(50) => Some(*swap),
+            _ => None,
+        };
+        swapped.push(swap.is_some());
+        if let Some(swap) = swap {
+            some_between(c, items, &mut lent, &mut office, busy)?;
+            expect("a swap", plain_swap(c, swap, &mut lent, &mut office)?.number, 0)?;
+            continue;
         }
-        if let Some(post) = posts.get(k) {
-            let reply = plain_call(c, *post, &mut lent, &mut office)?;
-            if reply.number != 0 {
-                return Err(format!("{post:?} is refused: {reply:?}"));
-            }
+        for post in deed.posts() {
+            some_between(c, items, &mut lent, &mut office, busy)?;
+            expect("a post", plain_call(c, *post, &mut lent, &mut office)?.number, 0)?;
         }
     }
-    Ok((lent, office.unwrap()))
+    some_between(c, items, &mut lent, &mut office, busy)?;
+    Ok(((lent, office.unwrap()), swapped))
 }
 
-/// Anything but an accepted post.
+/// Up to so many calls without a posting.
+fn some_between(
+    c: &mut Comparison,
+    items: &[Item],
+    lent: &mut Lent,
+    office: &mut Option<Office>,
+    most: u64,
+) -> Result<(), String> {
+    (0..c.rng.below(most + 1)).try_for_each(|_| between(c, items, lent, office))
+}
+
+/// Anything but an accepted post or swap.
 fn between(
     c: &mut Comparison,
     items: &[Item],
@@ -92,6 +151,7 @@ fn between(
         }
         12..=19 => return plain_close(c, lent, office),
         20..=21 => return refused_close(c, lent),
+        29..=35 => return refused_swap(c, items, lent, office),
         22..=28 => gen::bad_post(&mut c.rng, items),
         _ => gen::other_call(&mut c.rng, items, &lent.table),
     };
@@ -99,5 +159,20 @@ fn between(
     match (call, reply.number) {
         (Call::Post { .. }, 0) => Err(format!("{call:?} is accepted")),
         _ => Ok(()),
+    }
+}
+
+/// A swap that is refused for its arguments.
+fn refused_swap(
+    c: &mut Comparison,
+    items: &[Item],
+    lent: &mut Lent,
+    office: &mut Option<Office>,
+) -> Result<(), String> {
+    let held = gen::numbers_of(items, &lent.table);
+    let swap = gen::bad_swap(&mut c.rng, items, &held);
+    match plain_swap(c, swap, lent, office)?.number {
+        11 | 12 | 13 | 18 => Ok(()),
+        number => Err(format!("{swap:?} gives {number}")),
     }
 }
