@@ -13,12 +13,6 @@ use crate::model::sheet::{read_sheet, Item};
 use crate::model::swap::Swap;
 use crate::model::table::{to_pair, RECORD};
 
-/// What both offices do: a post, or a swap that either may do as its two postings.
-enum Deed {
-    Post(Call),
-    Swap(Swap, Vec<Call>),
-}
-
 pub fn run_offices(c: &mut Comparison) -> Result<(), String> {
     let (shape, numbers) = (gen::shape(&mut c.rng), gen::choose_numbers(&mut c.rng));
     let sheet = gen::write_sheet(&gen::sheet(&mut c.rng, shape));
@@ -29,10 +23,10 @@ pub fn run_offices(c: &mut Comparison) -> Result<(), String> {
         Shape::Small if c.rng.percent(5) => 150,
         _ => 15,
     };
-    let deeds = deeds(c, &items, numbers, most);
-    let (one, swapped) = run_office(c, &sheet, &items, &deeds)?;
-    let (two, others) = run_office(c, &sheet, &items, &deeds)?;
-    let beside = swapped.iter().zip(&others).filter(|(one, two)| one != two).count();
+    let posts = postings(c, &items, numbers, most);
+    let (one, swapped) = run_office(c, &sheet, &items, &posts)?;
+    let (two, others) = run_office(c, &sheet, &items, &posts)?;
+    let beside = (0..posts.len()).filter(|k| swapped.contains(k) != others.contains(k)).count();
     c.tally.swaps[BESIDE] += beside as u64;
     same_boards(c, &items, &one, &two)?;
     same_closes(c, &one, &two)?;
@@ -55,34 +49,38 @@ pub fn run_offices(c: &mut Comparison) -> Result<(), String> {
     Ok(())
 }
 
-/// Fewer deeds than so many, all of them accepted.
-fn deeds(c: &mut Comparison, items: &[Item], numbers: Numbers, most: u64) -> Vec<Deed> {
+/// The postings of both offices, as posts: of fewer accepted posts and swaps than so many.
+fn postings(c: &mut Comparison, items: &[Item], numbers: Numbers, most: u64) -> Vec<Call> {
     let mut fresh = FreshOffice::new(items);
-    let mut deeds = Vec::new();
+    let mut posts = Vec::new();
     for _ in 0..c.rng.below(most) {
         let held: Vec<i64> = fresh.all().into_iter().map(|value| to_pair(value).1).collect();
         let swap = gen::good_swap(&mut c.rng, items, &held).filter(|_| c.rng.percent(40));
-        let deed = match swap {
-            Some(swap) => {
-                let made = fresh_swap(items, &fresh, &swap).1.into_iter();
-                let post = |(item, (kind, number))| Call::Post { item, kind: kind as u64, number };
-                Deed::Swap(swap, made.map(post).collect())
-            }
-            None => Deed::Post(gen::good_post(&mut c.rng, items, numbers)),
+        let made = match swap {
+            Some(swap) => posts_of(items, &fresh, &swap),
+            None => vec![gen::good_post(&mut c.rng, items, numbers)],
         };
-        deed.posts().iter().for_each(|post| fresh.feed(post));
-        deeds.push(deed);
+        made.iter().for_each(|post| fresh.feed(post));
+        posts.extend(made);
     }
-    deeds
+    posts
 }
 
-impl Deed {
-    fn posts(&self) -> &[Call] {
-        match self {
-            Deed::Post(post) => std::slice::from_ref(post),
-            Deed::Swap(_, posts) => posts,
-        }
-    }
+/// The postings of a swap, as posts; none if it is refused.
+fn posts_of(items: &[Item], fresh: &FreshOffice, swap: &Swap) -> Vec<Call> {
+    let made = fresh_swap(items, fresh, swap).1.into_iter();
+    made.map(|(item, (kind, number))| Call::Post { item, kind: kind as u64, number }).collect()
+}
+
+/// The swap that makes the next two postings, if one does.
+fn as_swap(office: &Office, posts: &[Call]) -> Option<Swap> {
+    let &[Call::Post { item: giver, number, .. }, Call::Post { item: taker, .. }, ..] = posts
+    else {
+        return None;
+    };
+    let held = to_pair(office.fresh.asked(giver)?).1;
+    let swap = Swap { giver, taker, quantity: held - number };
+    (posts_of(office.items, &office.fresh, &swap) == posts[..2]).then_some(swap)
 }
 
 /// The value of an ask; none for refusal 11.
@@ -94,33 +92,30 @@ fn outcome(reply: &Reply) -> Option<(u8, i64)> {
     }
 }
 
-/// An office with the postings of these deeds, and any other calls, boards and closes between them.
-/// Whether it swapped, for each deed.
+/// An office with these postings, any two of them by one swap where that makes them, and any other
+/// calls, boards and closes between. The places of its swaps.
 fn run_office<'i>(
     c: &mut Comparison,
     sheet: &[u8],
     items: &'i [Item],
-    deeds: &[Deed],
-) -> Result<((Lent, Office<'i>), Vec<bool>), String> {
+    posts: &[Call],
+) -> Result<((Lent, Office<'i>), Vec<usize>), String> {
     let (index, table) = (c.rng.bytes(4 * items.len()), c.rng.bytes(RECORD * items.len()));
     let mut lent = Lent { sheet: sheet.to_vec(), index, table };
     let mut office = Some(open(c, items, &mut lent)?);
-    let (busy, mut swapped) = (c.rng.below(6), Vec::new());
-    for deed in deeds {
-        let swap = match deed {
-            Deed::Swap(swap, _) if c.rng.percent(50) => Some(*swap),
-            _ => None,
+    let (busy, mut k, mut swapped) = (c.rng.below(6), 0, Vec::new());
+    while k < posts.len() {
+        some_between(c, items, &mut lent, &mut office, busy)?;
+        let swap = as_swap(office.as_ref().unwrap(), &posts[k..]).filter(|_| c.rng.percent(50));
+        let reply = match swap {
+            Some(swap) => plain_swap(c, swap, &mut lent, &mut office)?,
+            None => plain_call(c, posts[k], &mut lent, &mut office)?,
         };
-        swapped.push(swap.is_some());
-        if let Some(swap) = swap {
-            some_between(c, items, &mut lent, &mut office, busy)?;
-            expect("a swap", plain_swap(c, swap, &mut lent, &mut office)?.number, 0)?;
-            continue;
+        expect("a posting", reply.number, 0)?;
+        if swap.is_some() {
+            swapped.push(k);
         }
-        for post in deed.posts() {
-            some_between(c, items, &mut lent, &mut office, busy)?;
-            expect("a post", plain_call(c, *post, &mut lent, &mut office)?.number, 0)?;
-        }
+        k += if swap.is_some() { 2 } else { 1 };
     }
     some_between(c, items, &mut lent, &mut office, busy)?;
     Ok(((lent, office.unwrap()), swapped))
@@ -174,5 +169,34 @@ fn refused_swap(
     match plain_swap(c, swap, lent, office)?.number {
         11 | 12 | 13 | 18 => Ok(()),
         number => Err(format!("{swap:?} gives {number}")),
+    }
+}
+
+#[cfg(test)]
+mod tests {
+    use super::super::fixed::post;
+    use super::*;
+    use crate::model::sheet::EXAMPLE;
+
+    /// Two postings are a swap if the second entry gains what the first loses, and not otherwise.
+    #[test]
+    fn postings_that_a_swap_makes() {
+        let items = read_sheet(&EXAMPLE).unwrap();
+        let mut office = Office::new(&items);
+        office.fresh.feed(&post(0, 7));
+        let null = Call::Post { item: 1, kind: 1, number: 0 };
+        let cases: [(&[Call], Option<i64>); 8] = [
+            (&[post(0, 5), post(1, 2)], Some(2)),
+            (&[post(1, -2), post(0, 9), post(0, 1)], Some(2)),
+            (&[post(0, 5), post(1, 3)], None),
+            (&[post(0, 8), post(1, -1)], None),
+            (&[post(0, 7), post(1, 0)], None),
+            (&[post(0, 5), post(0, 9)], None),
+            (&[post(0, 7), null], None),
+            (&[post(0, 5)], None),
+        ];
+        for (posts, right) in cases {
+            assert_eq!(as_swap(&office, posts).map(|swap| swap.quantity), right, "{posts:?}");
+        }
     }
 }
