@@ -345,8 +345,8 @@ mod tests {
     fn swaps_are_counted() {
         let items = read_sheet(&EXAMPLE).unwrap();
         let low = Some(-LIMIT);
-        let cases: [(_, (u64, u64, i64), u64, &[usize]); 22] = [
-            ([Some(1), Some(2), None], (0, 1, 1), 0, &[0]),
+        let cases = [
+            ([Some(1), Some(2), None], (0, 1, 1), 0, &[0][..]),
             ([Some(1), Some(2), None], (2, 1, 1), 0, &[1, 8]),
             ([Some(1), Some(2), None], (0, 2, 1), 0, &[2]),
             ([None, None, None], (0, 1, 1), 0, &[3]),

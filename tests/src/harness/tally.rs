@@ -316,6 +316,18 @@ impl Tally {
         )
     }
 
+    fn write_boards_and_closes(&self, f: &mut fmt::Formatter) -> fmt::Result {
+        writeln!(f, "boards by their lists: {}", named(&BOARDS, &self.boards))?;
+        writeln!(f, "boards held against asks one after another: {}", self.boards_as_asks)?;
+        writeln!(f, "closes by what they find and do: {}", named(&CLOSES, &self.closes))?;
+        writeln!(
+            f,
+            "closes held against asks for each item: {}; against steps and keeps: {}",
+            self.closes_as_asks, self.closes_as_keeps
+        )?;
+        writeln!(f, "tables of no opening closed, and gone on with: {}", self.closed_tables)
+    }
+
     fn write_swaps(&self, f: &mut fmt::Formatter) -> fmt::Result {
         let (accepted, refused) = (0..swaps::REFUSED, swaps::REFUSED..swaps::MET.len());
         let swaps = |part: Range<usize>| named(&swaps::MET[part.clone()], &self.swaps[part]);
@@ -379,15 +391,7 @@ impl fmt::Display for Tally {
         for ((name, _), given) in FUNCTIONS.iter().zip(&self.given) {
             writeln!(f, "  {name:9}{}", times(given))?;
         }
-        writeln!(f, "boards by their lists: {}", named(&BOARDS, &self.boards))?;
-        writeln!(f, "boards held against asks one after another: {}", self.boards_as_asks)?;
-        writeln!(f, "closes by what they find and do: {}", named(&CLOSES, &self.closes))?;
-        writeln!(
-            f,
-            "closes held against asks for each item: {}; against steps and keeps: {}",
-            self.closes_as_asks, self.closes_as_keeps
-        )?;
-        writeln!(f, "tables of no opening closed, and gone on with: {}", self.closed_tables)?;
+        self.write_boards_and_closes(f)?;
         self.write_owed(f)?;
         self.write_choices(f)?;
         self.write_swaps(f)?;
@@ -452,6 +456,18 @@ mod tests {
                 assert_eq!(tally.never_met(), [format!("{name} {number}")]);
             }
         }
+        for (at, (word, numbers)) in LINES.iter().enumerate() {
+            for &number in *numbers {
+                let mut tally = full();
+                tally.printed[at][number] = 0;
+                assert_eq!(tally.never_met(), [format!("{word} {number}")]);
+            }
+        }
+    }
+
+    /// The same of each sort of board, close, owed byte, swap and choice.
+    #[test]
+    fn each_sort_is_missed() {
         for (at, name) in BOARDS.iter().enumerate() {
             let mut tally = full();
             tally.boards[at] = 0;
@@ -477,13 +493,6 @@ mod tests {
                 let mut tally = full();
                 tally.choices[way][at] = 0;
                 assert_eq!(tally.never_met(), [format!("choice {does}, {name}")]);
-            }
-        }
-        for (at, (word, numbers)) in LINES.iter().enumerate() {
-            for &number in *numbers {
-                let mut tally = full();
-                tally.printed[at][number] = 0;
-                assert_eq!(tally.never_met(), [format!("{word} {number}")]);
             }
         }
     }
