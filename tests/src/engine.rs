@@ -2,6 +2,7 @@
 
 use crate::guarded::Guarded;
 use crate::model::calls::{Call, Reply};
+use crate::model::swap::Swap;
 
 pub trait Engine {
     fn open(
@@ -15,6 +16,14 @@ pub trait Engine {
     fn call(
         &mut self,
         call: &Call,
+        sheet: &mut Guarded,
+        index: &mut Guarded,
+        table: &mut Guarded,
+    ) -> Reply;
+
+    fn swap(
+        &mut self,
+        swap: &Swap,
         sheet: &mut Guarded,
         index: &mut Guarded,
         table: &mut Guarded,

@@ -3,6 +3,7 @@
 use crate::engine::Engine;
 use crate::guarded::Guarded;
 use crate::model::calls::{Call, Reply};
+use crate::model::swap::Swap;
 
 /// `rozhinal_answer`
 #[repr(C)]
@@ -49,6 +50,17 @@ extern "C" {
         item: u64,
         kind: u64,
         number: i64,
+    ) -> Answer;
+    fn rozhinal_swap(
+        sheet: *const u8,
+        sheet_len: usize,
+        index: *const u8,
+        index_len: usize,
+        table: *mut u8,
+        table_len: usize,
+        giver: u64,
+        taker: u64,
+        quantity: i64,
     ) -> Answer;
     fn rozhinal_keep(
         sheet: *const u8,
@@ -161,6 +173,21 @@ impl Engine for Linked {
                 }
             }
         }
+    }
+
+    fn swap(
+        &mut self,
+        swap: &Swap,
+        sheet: &mut Guarded,
+        index: &mut Guarded,
+        table: &mut Guarded,
+    ) -> Reply {
+        let (s, sl) = (sheet.pointer() as *const u8, sheet.length());
+        let (i, il) = (index.pointer() as *const u8, index.length());
+        let (t, tl) = (table.pointer(), table.length());
+        let Swap { giver, taker, quantity } = *swap;
+        // Safety: as above.
+        reply(unsafe { rozhinal_swap(s, sl, i, il, t, tl, giver, taker, quantity) })
     }
 
     fn close(&mut self, sheet: &mut Guarded, index: &mut Guarded, table: &mut Guarded) -> Reply {

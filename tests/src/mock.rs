@@ -9,12 +9,14 @@ mod older;
 mod owed;
 mod printer;
 mod step;
+mod swap;
 
 use crate::engine::{DayProgram, Engine};
 use crate::guarded::Guarded;
 use crate::model::calls::{self, Call, Reply};
 use crate::model::day::run_day;
 use crate::model::sheet::{read_sheet, Item, Spread};
+use crate::model::swap::Swap;
 use crate::model::table::{to_pair, Cell, Mark};
 use crate::model::value::{apply, in_range, Value, WHOLE};
 use choice::Where;
@@ -220,6 +222,53 @@ with_all! {
         TellsRenewOfEqual,
         TellsMarkedNothing,
         AskStepsEachOnce,
+        SwapTakesZero,
+        SwapTakesBelow0,
+        SwapTakesAmountBelow0,
+        SwapWants2,
+        SwapTakesSameEntry,
+        SwapTestsGiverOnly,
+        SwapTestsTakerOnly,
+        SwapTestsNothing,
+        SwapTestsQuantity,
+        SwapTestsGiverFirst,
+        SwapRefusesAtTheLimit,
+        SwapTakesOneBeyond,
+        SwapRefusesNull,
+        SwapRefusesDebt,
+        SwapRefusesMarked,
+        SwapInOlderRange,
+        SwapWrapsAt64Bits,
+        SwapCutsGiverTo32Bits,
+        SwapCutsTakerTo16Bits,
+        SwapCutsQuantityTo32Bits,
+        SwapToAbsentTaker,
+        SwapFromAbsentGiver,
+        SwapTakesFigureAsTaker,
+        SwapTakesFigureAsGiver,
+        SwapSays12Before11,
+        SwapSays18Before11,
+        SwapSays18Before12,
+        SwapSays13Before12,
+        SwapSays13Before18,
+        SwapSays18BeforeTheTable,
+        SwapGiverGains,
+        SwapLeavesNull,
+        SwapStoresGiverOnly,
+        SwapStoresTakerOnly,
+        SwapMarksGiverOnly,
+        SwapMarksTakerOnly,
+        SwapWithoutNotice,
+        SwapCatchesUp,
+        SwapTellsChildren,
+        SwapChangesSheet,
+        SwapChangesIndex,
+        SwapWritesPastTheTable,
+        RefusedSwapStoresGiver,
+        RefusedSwapStoresTaker,
+        RefusedSwapMarks,
+        RefusedSwapMakesNull0,
+        RefusedSwapClearsMarks,
     }
 }
 
@@ -499,6 +548,16 @@ impl Engine for Mock {
             _ => {}
         }
         reply
+    }
+
+    fn swap(
+        &mut self,
+        swap: &Swap,
+        sheet: &mut Guarded,
+        index: &mut Guarded,
+        table: &mut Guarded,
+    ) -> Reply {
+        self.give_swap(swap, sheet, index, table)
     }
 
     fn close(&mut self, sheet: &mut Guarded, index: &mut Guarded, table: &mut Guarded) -> Reply {

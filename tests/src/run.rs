@@ -12,6 +12,7 @@ use crate::harness::offices::run_offices;
 use crate::harness::older::run_older;
 use crate::harness::orders::run_orders;
 use crate::harness::shares::{run_pairs, BATCH};
+use crate::harness::swaps::run_swaps;
 use crate::harness::tally::Tally;
 use crate::rng::Rng;
 
@@ -33,6 +34,8 @@ pub struct Plan {
     pub choices: u64,
     /// Small sheets that are stepped in every order, each with larger ones.
     pub orders: u64,
+    /// Runs of swaps alone.
+    pub swaps: u64,
     pub days: u64,
     /// Slices are lent in blocks of their own, for a run under a memory checker.
     pub alone: bool,
@@ -53,6 +56,7 @@ const CLOSES: u64 = 6 << 40;
 const BEFORE: u64 = 7 << 40;
 const CHOICES: u64 = 8 << 40;
 const ORDERS: u64 = 9 << 40;
+const SWAPS: u64 = 10 << 40;
 
 /// Everything compared, or the first difference.
 pub fn run(
@@ -78,6 +82,7 @@ pub fn run(
         (BEFORE, plan.before),
         (CHOICES, plan.choices),
         (ORDERS, plan.orders),
+        (SWAPS, plan.swaps),
     ];
     for part in kinds.iter().flat_map(|&(first, count)| first..first + count) {
         run_part(plan, part, &mut c, &mut day)?;
@@ -120,6 +125,7 @@ fn run_part(
     c.rng = Rng::part(seed, part);
     let result = match (part, day) {
         (FIXED, _) => run_fixed(c),
+        (SWAPS.., _) => run_swaps(c),
         (ORDERS.., _) => run_orders(c, part - ORDERS),
         (CHOICES.., _) => run_choices(c),
         (BEFORE.., _) => run_before(c),
@@ -155,6 +161,7 @@ mod tests {
         before: 0,
         choices: 0,
         orders: 0,
+        swaps: 0,
         days: 0,
         alone: false,
         only: None,
@@ -177,6 +184,7 @@ mod tests {
             before: 300,
             choices: 300,
             orders: 5,
+            swaps: 300,
             days: 60,
             ..SHORT
         };
@@ -185,6 +193,7 @@ mod tests {
         assert!(tally.orders.tables > 10_000 && tally.orders.opened_tables > 3_000);
         assert_eq!((tally.pairs, tally.older_tables, tally.closed_tables), (2_000, 300, 300));
         assert_eq!((tally.before_lists, tally.strict_tables), (300, 300));
+        assert!(tally.swap_runs == 300 && tally.run_swaps > 3_000);
         assert!(
             tally.before_tables > 500 && tally.before_steps > 100 && tally.before_readings > 2_000
         );
@@ -274,6 +283,16 @@ mod tests {
         }
     }
 
+    /// Wrong swaps are found by runs of swaps alone, if they are wrong on bytes that are in form.
+    #[test]
+    fn wrong_swaps_are_found() {
+        let plan = Plan { calls: 0, offices: 0, swaps: 1_000, ..SHORT };
+        for wrong in Wrong::swaps().filter(|&wrong| wrong != Wrong::SwapSays18BeforeTheTable) {
+            let found = try_mock(&plan, wrong).unwrap_err();
+            assert!(found.contains("--seed 5 --part"), "{wrong:?}: {found}");
+        }
+    }
+
     /// Wrong steps are found by orders alone: by those of small sheets, and by those of an office.
     #[test]
     fn wrong_steps_are_found() {
@@ -328,6 +347,7 @@ mod tests {
             before: 300,
             choices: 300,
             orders: 5,
+            swaps: 300,
             ..SHORT
         };
         if let Err(difference) = run(&plan, &mut crate::ffi::Linked, None) {

@@ -10,8 +10,8 @@ use std::time::{Instant, SystemTime, UNIX_EPOCH};
 
 const USAGE: &str =
     "differential [--self] [--trace] [--alone] [--seed N] [--calls N] [--offices N] \
-     [--pairs N] [--older N] [--closes N] [--before N] [--choices N] [--orders N] [--days N] \
-     [--part N]";
+     [--pairs N] [--older N] [--closes N] [--before N] [--choices N] [--orders N] [--swaps N] \
+     [--days N] [--part N]";
 
 /// What a run compares unless it is told otherwise; its seed is then the clock's.
 const PLAN: Plan = Plan {
@@ -25,6 +25,7 @@ const PLAN: Plan = Plan {
     before: 5_000,
     choices: 5_000,
     orders: 216,
+    swaps: 5_000,
     days: 1_000,
     alone: false,
     only: None,
@@ -77,6 +78,7 @@ fn options() -> Result<Options, String> {
             "--before" => options.plan.before = number,
             "--choices" => options.plan.choices = number,
             "--orders" => options.plan.orders = number,
+            "--swaps" => options.plan.swaps = number,
             "--days" => options.plan.days = number,
             "--part" => options.plan.only = Some(number),
             _ => return Err(USAGE.to_string()),

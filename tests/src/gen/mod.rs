@@ -1,9 +1,10 @@
-//! Random sheets, tables, calls, boards and day logs, whole and damaged.
+//! Random sheets, tables, calls, swaps, boards and day logs, whole and damaged.
 
 mod boards;
 mod calls;
 mod damage;
 mod sheets;
+mod swaps;
 mod tables;
 mod write;
 
@@ -11,6 +12,7 @@ pub use boards::{any_board, board_of, good_board};
 pub use calls::{any_call, bad_post, day_field, day_log, good_post, other_call};
 pub use damage::{bad_sheet, damaged, damaged_sheet};
 pub use sheets::{guard_specs, shape, sheet, small_specs, Shape};
+pub use swaps::{any_swap, bad_swap, good_swap, numbers_of};
 pub use tables::{
     accepted_table, beyond, choose_numbers, damaged_index, damaged_table, make_owed_true, narrow,
     number, older_table, share_pair, Numbers, OLDER_LIMIT,

@@ -5,12 +5,14 @@ use super::closes::{fresh_of, table_of};
 use super::compare::{Act, Lent};
 use super::fixed::expect;
 use super::orders::{Acts, Explored};
+use super::swaps::fresh_swap;
 use crate::model::board::Board;
 use crate::model::calls::Call;
 use crate::model::field::i64_at;
 use crate::model::fresh::FreshOffice;
 use crate::model::sheet::{read_sheet, Item};
-use crate::model::table::{no_mark, to_pair, OWED, RECORD};
+use crate::model::swap::Swap;
+use crate::model::table::{from_pair, no_mark, to_pair, OWED, RECORD};
 use std::collections::HashSet;
 
 /// Kind and number of each item.
@@ -193,7 +195,38 @@ impl<'v> Since<'v> {
             }
             left.push(after.table);
         }
+        for swap in self.exchanges(&lent.table) {
+            left.push(self.exchanged(acts, lent, &swap)?);
+        }
         Ok(left)
+    }
+
+    /// What a swap leaves: the entries by its postings, which follow from those before.
+    fn exchanged(&self, acts: &mut dyn Acts, lent: &Lent, swap: &Swap) -> Result<Vec<u8>, String> {
+        let (mut after, mut fresh) = (lent.clone(), self.fresh(&lent.table));
+        expect("a swap", acts.act(&Act::Swap(*swap), &mut after)?.number, 0)?;
+        for (entry, (kind, number)) in fresh_swap(&self.items, &fresh, swap).1 {
+            fresh.posting(entry as usize, from_pair(kind as u64, number).unwrap());
+        }
+        match fresh.all() == self.fresh(&after.table).all() {
+            true => Ok(after.table),
+            false => Err(lent.dump(&format!("{swap:?} leaves other entries"))),
+        }
+    }
+
+    /// The swaps by which two entries exchange their numbers, so that no others come.
+    fn exchanges(&self, table: &[u8]) -> Vec<Swap> {
+        let entry = |i: usize| self.items[i].figure.is_none() && table[RECORD * i] == 3;
+        let entries: Vec<usize> = (0..self.items.len()).filter(|&i| entry(i)).collect();
+        let number = |i: usize| stored(table, i).1;
+        let exchange = |giver: usize, taker: usize| Swap {
+            giver: giver as u64,
+            taker: taker as u64,
+            quantity: number(giver) - number(taker),
+        };
+        let pairs = entries.iter().flat_map(|&giver| entries.iter().map(move |&t| (giver, t)));
+        let pairs = pairs.filter(|&(giver, taker)| number(giver) > number(taker));
+        pairs.map(|(giver, taker)| exchange(giver, taker)).collect()
     }
 
     /// Each post of one of the values, and each keep and drop.

@@ -7,6 +7,7 @@ use super::closes::plain_close;
 use super::compare::{Act, Comparison, Lent};
 use super::fixed::expect;
 use super::lists::{list_length, plain_call};
+use super::swaps::plain_swap;
 use crate::gen::{self, Numbers};
 use crate::model::before::Before;
 use crate::model::board::encode_results;
@@ -37,6 +38,7 @@ pub fn run_before(c: &mut Comparison) -> Result<(), String> {
         match c.rng.below(100) {
             0..=3 => sides.board(c)?,
             4..=5 => sides.close(c)?,
+            6..=11 => sides.swap(c)?,
             _ => {
                 let call = sides.next_call(&mut c.rng, numbers);
                 sides.give(c, &call)?;
@@ -72,6 +74,17 @@ impl Sides<'_> {
             _ => {}
         }
         Ok(())
+    }
+
+    fn swap(&mut self, c: &mut Comparison) -> Result<(), String> {
+        let held = gen::numbers_of(self.items, &self.lent.table);
+        let swap = gen::any_swap(&mut c.rng, self.items, &held);
+        let now = plain_swap(c, swap, &mut self.lent, &mut None)?;
+        let then = self.before.swap(&swap);
+        match now == then {
+            true => Ok(()),
+            false => Err(format!("{swap:?} gives {now:?}, and gave {then:?} before")),
+        }
     }
 
     fn board(&mut self, c: &mut Comparison) -> Result<(), String> {

@@ -3,6 +3,7 @@
 use super::choices;
 use super::closes::solves;
 use super::owed;
+use super::swaps;
 use super::tally::Tally;
 use crate::engine::Engine;
 use crate::guarded::Guarded;
@@ -10,6 +11,7 @@ use crate::model::board::{self, Board};
 use crate::model::calls::{self, Call, Reply};
 use crate::model::close;
 use crate::model::printer;
+use crate::model::swap::{self, Swap};
 use crate::rng::Rng;
 
 /// The bytes lent to a call.
@@ -24,6 +26,7 @@ pub struct Lent {
 pub enum Act {
     Open { full: bool },
     Give(Call),
+    Swap(Swap),
     Close,
     Board(Board),
 }
@@ -114,6 +117,7 @@ impl<'a> Comparison<'a> {
             Act::Board(board) => return self.board(&mut board.clone(), lent),
             Act::Open { full } => calls::open(*full, &lent.sheet, &mut lent.index, &mut lent.table),
             Act::Give(call) => calls::call(call, &lent.sheet, &lent.index, &mut lent.table),
+            Act::Swap(swap) => swap::swap(swap, &lent.sheet, &lent.index, &mut lent.table),
             Act::Close => close::close(&lent.sheet, &lent.index, &mut lent.table),
         };
         self.tally.count_act(act, reply.number);
@@ -121,6 +125,7 @@ impl<'a> Comparison<'a> {
         let Handed { sheet, index, table } = &mut handed;
         let given = match act {
             Act::Give(call) => self.engine.call(call, sheet, index, table),
+            Act::Swap(swap) => self.engine.swap(swap, sheet, index, table),
             Act::Close => self.engine.close(sheet, index, table),
             _ => self.engine.open(matches!(act, Act::Open { full: true }), sheet, index, table),
         };
@@ -137,9 +142,13 @@ impl<'a> Comparison<'a> {
         ))
     }
 
-    /// Sees to the owed bytes, and counts what was done with them, with choices and by steps.
+    /// Sees to the owed bytes and to swaps, and counts what was done with them, with choices and by
+    /// steps.
     fn judge(&mut self, act: &Act, number: u64, before: &Lent, after: &Lent) -> Result<(), String> {
         owed::judge(&mut self.tally.owed, act, number, before, after)?;
+        if let Act::Swap(swap) = act {
+            swaps::judge(&mut self.tally.swaps, swap, number, before, after)?;
+        }
         if number == 0 {
             choices::count(&mut self.tally.choices, act, before, after);
         }

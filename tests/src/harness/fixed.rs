@@ -9,6 +9,7 @@ use super::fixed_choices::run_fixed_choices;
 use super::fixed_closes::{closes_to, run_fixed_closes};
 use super::fixed_orders::run_fixed_orders;
 use super::fixed_owed::run_fixed_owed;
+use super::fixed_swaps::run_fixed_swaps;
 use super::lists::{plain_call, Office};
 use super::older::older_example;
 use super::prints::run_prints;
@@ -17,6 +18,7 @@ use crate::gen::{self, plain_chain, spec_figure, write_sheet, Spec};
 use crate::model::board::Board;
 use crate::model::calls::Call;
 use crate::model::sheet::{index_of, read_sheet, EXAMPLE, MAX_ITEMS, MAX_LEVEL};
+use crate::model::swap::Swap;
 use crate::model::table::{OWED, RECORD};
 use crate::model::value::LIMIT;
 
@@ -36,6 +38,7 @@ pub fn run_fixed(c: &mut Comparison) -> Result<(), String> {
     stale_ledgers(c)?;
     run_fixed_boards(c)?;
     run_fixed_closes(c)?;
+    run_fixed_swaps(c)?;
     run_fixed_owed(c)?;
     run_fixed_choices(c)?;
     run_fixed_orders(c)
@@ -45,14 +48,15 @@ pub fn post(item: u64, number: i64) -> Call {
     Call::Post { item, kind: 3, number }
 }
 
-/// The five calls, a board and a close, each accepted on the example after `busy_example`.
-pub fn acts() -> [Act; 7] {
+/// The five calls, a swap, a board and a close, each accepted on the example after `busy_example`.
+pub fn acts() -> [Act; 8] {
     [
         Act::Give(Call::Post { item: 1, kind: 1, number: 0 }),
         Act::Give(Call::Keep { item: 4 }),
         Act::Give(Call::Drop { item: 3 }),
         Act::Give(Call::Step { item: 0 }),
         Act::Give(Call::Ask { item: 4 }),
+        Act::Swap(Swap { giver: 1, taker: 2, quantity: 7 }),
         Act::Board(Board { items: vec![4, 0, 2, 0, 4, 0], results: vec![9; 27] }),
         Act::Close,
     ]
@@ -71,9 +75,8 @@ pub fn busy_example(c: &mut Comparison) -> Result<Lent, String> {
 /// Each byte of the example sheet as each value, and each shorter sheet.
 fn sheet_bytes(c: &mut Comparison) -> Result<(), String> {
     let busy = busy_example(c)?;
-    let (mut turn, acts) = (0, acts());
-    let mut both = |c: &mut Comparison, sheet: Vec<u8>| -> Result<(), String> {
-        turn += 1;
+    let acts = acts();
+    let both = |c: &mut Comparison, turn: usize, sheet: Vec<u8>| -> Result<(), String> {
         c.act(
             &Act::Open { full: turn % 2 == 0 },
             &mut Lent { sheet: sheet.clone(), ..busy.clone() },
@@ -85,11 +88,11 @@ fn sheet_bytes(c: &mut Comparison) -> Result<(), String> {
         for byte in 0..=255 {
             let mut sheet = EXAMPLE.to_vec();
             sheet[at] = byte;
-            both(c, sheet)?;
+            both(c, at + byte as usize, sheet)?;
         }
     }
     for length in 0..EXAMPLE.len() {
-        both(c, EXAMPLE[..length].to_vec())?;
+        both(c, length, EXAMPLE[..length].to_vec())?;
     }
     Ok(())
 }

@@ -3,13 +3,15 @@
 use super::boards::{fresh_board, plain_board};
 use super::closes::{fresh_of, plain_close, table_of};
 use super::compare::{hex, Act, Comparison, Lent};
+use super::swaps::{fresh_swap, made, plain_swap, STAYS};
 use crate::gen::{self, Numbers, Shape};
 use crate::model::board::Board;
 use crate::model::calls::{Call, Reply};
 use crate::model::field::i64_at;
 use crate::model::fresh::FreshOffice;
 use crate::model::sheet::{index_of, read_sheet, Item};
-use crate::model::table::{no_mark, to_pair, RECORD};
+use crate::model::swap::Swap;
+use crate::model::table::{from_pair, no_mark, to_pair, RECORD};
 use crate::rng::Rng;
 use std::fmt::Debug;
 
@@ -37,6 +39,11 @@ pub fn run_list(c: &mut Comparison, from_table: bool) -> Result<(), String> {
                 if office.is_none() && c.rng.percent(50) {
                     office = Some(Office::of_table(&items, &lent.table));
                 }
+            }
+            420..=479 => {
+                let held = gen::numbers_of(&items, &lent.table);
+                let swap = gen::any_swap(&mut c.rng, &items, &held);
+                plain_swap(c, swap, &mut lent, &mut office)?;
             }
             _ => {
                 let call = gen::any_call(&mut c.rng, &items, &lent.table, numbers);
@@ -150,6 +157,10 @@ fn changed_call(
         0..=19 => Act::Open { full: c.rng.percent(50) },
         20..=34 => Act::Board(gen::any_board(&mut c.rng, items)),
         35..=49 => Act::Close,
+        50..=64 => {
+            let held = gen::numbers_of(items, &lent.table);
+            Act::Swap(gen::any_swap(&mut c.rng, items, &held))
+        }
         _ => Act::Give(gen::any_call(&mut c.rng, items, &lent.table, Numbers::Any)),
     };
     let reply = c.act(&act, &mut changed)?;
@@ -217,12 +228,7 @@ impl<'i> Office<'i> {
         self.note(before);
         self.fresh.feed(call);
         match *call {
-            Call::Post { item, .. } if reply.number == 0 => {
-                for (stays, led) in self.stays.iter_mut().zip(led_to(self.items, item as usize)) {
-                    *stays = stays.filter(|_| !led);
-                }
-                self.stays[item as usize] = None;
-            }
+            Call::Post { item, .. } if reply.number == 0 => self.posted(item as usize),
             Call::Drop { item } if reply.number == 0 => self.stays[item as usize] = None,
             Call::Ask { item } => {
                 c.tally.judged += 1;
@@ -238,6 +244,41 @@ impl<'i> Office<'i> {
             _ => {}
         }
         self.still_stored(call, after)
+    }
+
+    /// After a posting to an entry, it and what it leads to need not stay.
+    fn posted(&mut self, entry: usize) {
+        for (stays, led) in self.stays.iter_mut().zip(led_to(self.items, entry)) {
+            *stays = stays.filter(|_| !led);
+        }
+        self.stays[entry] = None;
+    }
+
+    /// The number of a swap and its postings follow from what the fresh office holds, which is then fed
+    /// the postings that were made.
+    pub fn judge_swap(
+        &mut self,
+        c: &mut Comparison,
+        swap: &Swap,
+        reply: &Reply,
+        before: &[u8],
+        after: &[u8],
+    ) -> Result<(), String> {
+        self.note(before);
+        let right = fresh_swap(self.items, &self.fresh, swap);
+        let made = if reply.number == 0 { made(swap, after) } else { vec![] };
+        if (reply.number, &made) != (right.0, &right.1) {
+            return Err(format!("{swap:?} gives {reply:?}, by the fresh office {right:?}"));
+        }
+        c.tally.judged += made.len() as u64;
+        for &(entry, (kind, number)) in &made {
+            self.fresh.posting(entry as usize, from_pair(kind as u64, number).unwrap());
+            self.posted(entry as usize);
+        }
+        let mut figures = self.items.iter().zip(&self.stays).filter(|(i, _)| i.figure.is_some());
+        let stays = reply.number == 0 && no_mark(before) && figures.any(|(_, s)| s.is_some());
+        c.tally.swaps[STAYS] += stays as u64;
+        self.still_stored(swap, after)
     }
 
     /// A board posts and drops nothing. An empty one, or one refused, leaves the table as it was.
@@ -318,8 +359,8 @@ mod tests {
     use crate::engine::Engine;
     use crate::guarded::Guarded;
     use crate::mock::{Mock, Wrong};
-    use crate::model::table::{decode, from_pair};
-    use crate::model::value::Value;
+    use crate::model::table::decode;
+    use crate::model::value::{in_range, Value};
 
     /// Whether each cause from 8 to 10 is there on an accepted sheet, each tested as far as it goes.
     fn lent_tests(items: &[Item], index: &[u8], table: &[u8]) -> Vec<(usize, bool)> {
@@ -373,12 +414,32 @@ mod tests {
         [lent_tests(items, index, table), own.to_vec()].concat()
     }
 
+    /// The same of a swap, from 8 to 13 in the order of the tests.
+    fn swap_tests(swap: &Swap, items: &[Item], index: &[u8], table: &[u8]) -> Vec<(usize, bool)> {
+        let sides = [swap.giver, swap.taker];
+        let figure = |i: u64| items.get(i as usize).is_some_and(|item| item.figure.is_some());
+        let beyond = |i: u64, change: i128| {
+            let record = table.chunks_exact(RECORD).nth(i as usize % 4096);
+            let number = record.map_or(0, |record| i64_at(record, 2) as i128);
+            record.is_some() && !in_range(number + change)
+        };
+        let quantity = swap.quantity as i128;
+        let own = [
+            (11, sides.iter().any(|&i| i >= items.len() as u64)),
+            (12, sides.iter().any(|&i| figure(i))),
+            (18, swap.giver == swap.taker || swap.quantity < 1),
+            (13, beyond(swap.giver, -quantity) || beyond(swap.taker, quantity)),
+        ];
+        [lent_tests(items, index, table), own.to_vec()].concat()
+    }
+
     /// How often one call has two causes, the given one first.
-    type Pairs = [[u64; 18]; 18];
+    type Pairs = [[u64; 19]; 19];
 
     struct Recorder {
         met: Pairs,
-        /// Of closes alone.
+        /// Of swaps alone, and of closes.
+        swaps: Pairs,
         closes: Pairs,
     }
 
@@ -412,6 +473,18 @@ mod tests {
             let items = read_sheet(sheet.bytes()).ok();
             let tests = items.map(|i| call_tests(call, &i, index.bytes(), table.bytes()));
             record(&mut self.met, Mock(Wrong::Nothing).call(call, sheet, index, table), tests)
+        }
+
+        fn swap(
+            &mut self,
+            swap: &Swap,
+            sheet: &mut Guarded,
+            index: &mut Guarded,
+            table: &mut Guarded,
+        ) -> Reply {
+            let items = read_sheet(sheet.bytes()).ok();
+            let tests = items.map(|i| swap_tests(swap, &i, index.bytes(), table.bytes()));
+            record(&mut self.swaps, Mock(Wrong::Nothing).swap(swap, sheet, index, table), tests)
         }
 
         fn close(
@@ -448,7 +521,8 @@ mod tests {
     /// Calls with two causes are met, so that the order of the numbers is compared.
     #[test]
     fn pairs_of_causes_are_met() {
-        let mut recorder = Recorder { met: [[0; 18]; 18], closes: [[0; 18]; 18] };
+        let none = [[0; 19]; 19];
+        let mut recorder = Recorder { met: none, swaps: none, closes: none };
         for list in 0..1_500 {
             let mut c = Comparison::new(&mut recorder, Rng::part(7, list));
             run_list(&mut c, list % 5 == 0).unwrap();
@@ -466,6 +540,12 @@ mod tests {
         for (first, second) in [(12, 13), (8, 17), (9, 17), (10, 17), (17, 11)] {
             let met = recorder.met[first][second];
             assert!(met >= 3, "{first} with {second}: {met}");
+        }
+        let swaps = [8, 9, 10].map(|first| [11, 12, 18, 13].map(|second| (first, second))).concat();
+        let own = [(11, 12), (11, 18), (11, 13), (12, 18), (12, 13), (18, 13)];
+        for (first, second) in swaps.into_iter().chain(own) {
+            let met = recorder.swaps[first][second];
+            assert!(met >= 3, "a swap, {first} with {second}: {met}");
         }
         for (first, second) in [(8, 9), (8, 10), (9, 10)] {
             let met = recorder.closes[first][second];

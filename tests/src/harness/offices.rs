@@ -1,12 +1,16 @@
-//! Two offices with the same accepted posts in the same order agree, and the fresh office too.
+//! Two offices with the same postings in the same order agree, and the fresh office too.
 
 use super::boards::{plain_board, same_boards};
 use super::closes::{plain_close, refused_close, same_closes};
 use super::compare::{Comparison, Lent};
+use super::fixed::expect;
 use super::lists::{open, plain_call, Office};
-use crate::gen::{self, Shape};
+use super::swaps::{fresh_swap, plain_swap, BESIDE};
+use crate::gen::{self, Numbers, Shape};
 use crate::model::calls::{Call, Reply};
+use crate::model::fresh::FreshOffice;
 use crate::model::sheet::{read_sheet, Item};
+use crate::model::swap::Swap;
 use crate::model::table::{to_pair, RECORD};
 
 pub fn run_offices(c: &mut Comparison) -> Result<(), String> {
@@ -19,10 +23,11 @@ pub fn run_offices(c: &mut Comparison) -> Result<(), String> {
         Shape::Small if c.rng.percent(5) => 150,
         _ => 15,
     };
-    let posts: Vec<Call> =
-        (0..c.rng.below(most)).map(|_| gen::good_post(&mut c.rng, &items, numbers)).collect();
-    let one = run_office(c, &sheet, &items, &posts)?;
-    let two = run_office(c, &sheet, &items, &posts)?;
+    let posts = postings(c, &items, numbers, most);
+    let (one, swapped) = run_office(c, &sheet, &items, &posts)?;
+    let (two, others) = run_office(c, &sheet, &items, &posts)?;
+    let beside = (0..posts.len()).filter(|k| swapped.contains(k) != others.contains(k)).count();
+    c.tally.swaps[BESIDE] += beside as u64;
     same_boards(c, &items, &one, &two)?;
     same_closes(c, &one, &two)?;
     let ((mut one, first), (mut two, second)) = (one, two);
@@ -44,6 +49,40 @@ pub fn run_offices(c: &mut Comparison) -> Result<(), String> {
     Ok(())
 }
 
+/// The postings of both offices, as posts: of fewer accepted posts and swaps than so many.
+fn postings(c: &mut Comparison, items: &[Item], numbers: Numbers, most: u64) -> Vec<Call> {
+    let mut fresh = FreshOffice::new(items);
+    let mut posts = Vec::new();
+    for _ in 0..c.rng.below(most) {
+        let held: Vec<i64> = fresh.all().into_iter().map(|value| to_pair(value).1).collect();
+        let swap = gen::good_swap(&mut c.rng, items, &held).filter(|_| c.rng.percent(40));
+        let made = match swap {
+            Some(swap) => posts_of(items, &fresh, &swap),
+            None => vec![gen::good_post(&mut c.rng, items, numbers)],
+        };
+        made.iter().for_each(|post| fresh.feed(post));
+        posts.extend(made);
+    }
+    posts
+}
+
+/// The postings of a swap, as posts; none if it is refused.
+fn posts_of(items: &[Item], fresh: &FreshOffice, swap: &Swap) -> Vec<Call> {
+    let made = fresh_swap(items, fresh, swap).1.into_iter();
+    made.map(|(item, (kind, number))| Call::Post { item, kind: kind as u64, number }).collect()
+}
+
+/// The swap that makes the next two postings, if one does.
+fn as_swap(office: &Office, posts: &[Call]) -> Option<Swap> {
+    let &[Call::Post { item: giver, number, .. }, Call::Post { item: taker, .. }, ..] = posts
+    else {
+        return None;
+    };
+    let held = to_pair(office.fresh.asked(giver)?).1;
+    let swap = Swap { giver, taker, quantity: held - number };
+    (posts_of(office.items, &office.fresh, &swap) == posts[..2]).then_some(swap)
+}
+
 /// The value of an ask; none for refusal 11.
 fn outcome(reply: &Reply) -> Option<(u8, i64)> {
     match reply.number {
@@ -53,32 +92,47 @@ fn outcome(reply: &Reply) -> Option<(u8, i64)> {
     }
 }
 
-/// An office with these accepted posts, and any other calls, boards and closes between them.
+/// An office with these postings, any two of them by one swap where that makes them, and any other
+/// calls, boards and closes between. The places of its swaps.
 fn run_office<'i>(
     c: &mut Comparison,
     sheet: &[u8],
     items: &'i [Item],
     posts: &[Call],
-) -> Result<(Lent, Office<'i>), String> {
+) -> Result<((Lent, Office<'i>), Vec<usize>), String> {
     let (index, table) = (c.rng.bytes(4 * items.len()), c.rng.bytes(RECORD * items.len()));
     let mut lent = Lent { sheet: sheet.to_vec(), index, table };
     let mut office = Some(open(c, items, &mut lent)?);
-    let busy = c.rng.below(6);
-    for k in 0..=posts.len() {
-        for _ in 0..c.rng.below(busy + 1) {
-            between(c, items, &mut lent, &mut office)?;
+    let (busy, mut k, mut swapped) = (c.rng.below(6), 0, Vec::new());
+    while k < posts.len() {
+        some_between(c, items, &mut lent, &mut office, busy)?;
+        let swap = as_swap(office.as_ref().unwrap(), &posts[k..]).filter(|_| c.rng.percent(50));
+        let reply = match swap {
+            Some(swap) => plain_swap(c, swap, &mut lent, &mut office)?,
+            None => plain_call(c, posts[k], &mut lent, &mut office)?,
+        };
+        expect("a posting", reply.number, 0)?;
+        if swap.is_some() {
+            swapped.push(k);
         }
-        if let Some(post) = posts.get(k) {
-            let reply = plain_call(c, *post, &mut lent, &mut office)?;
-            if reply.number != 0 {
-                return Err(format!("{post:?} is refused: {reply:?}"));
-            }
-        }
+        k += if swap.is_some() { 2 } else { 1 };
     }
-    Ok((lent, office.unwrap()))
+    some_between(c, items, &mut lent, &mut office, busy)?;
+    Ok(((lent, office.unwrap()), swapped))
 }
 
-/// Anything but an accepted post.
+/// Up to so many calls without a posting.
+fn some_between(
+    c: &mut Comparison,
+    items: &[Item],
+    lent: &mut Lent,
+    office: &mut Option<Office>,
+    most: u64,
+) -> Result<(), String> {
+    (0..c.rng.below(most + 1)).try_for_each(|_| between(c, items, lent, office))
+}
+
+/// Anything but an accepted post or swap.
 fn between(
     c: &mut Comparison,
     items: &[Item],
@@ -92,6 +146,7 @@ fn between(
         }
         12..=19 => return plain_close(c, lent, office),
         20..=21 => return refused_close(c, lent),
+        29..=35 => return refused_swap(c, items, lent, office),
         22..=28 => gen::bad_post(&mut c.rng, items),
         _ => gen::other_call(&mut c.rng, items, &lent.table),
     };
@@ -99,5 +154,49 @@ fn between(
     match (call, reply.number) {
         (Call::Post { .. }, 0) => Err(format!("{call:?} is accepted")),
         _ => Ok(()),
+    }
+}
+
+/// A swap that is refused for its arguments.
+fn refused_swap(
+    c: &mut Comparison,
+    items: &[Item],
+    lent: &mut Lent,
+    office: &mut Option<Office>,
+) -> Result<(), String> {
+    let held = gen::numbers_of(items, &lent.table);
+    let swap = gen::bad_swap(&mut c.rng, items, &held);
+    match plain_swap(c, swap, lent, office)?.number {
+        11 | 12 | 13 | 18 => Ok(()),
+        number => Err(format!("{swap:?} gives {number}")),
+    }
+}
+
+#[cfg(test)]
+mod tests {
+    use super::super::fixed::post;
+    use super::*;
+    use crate::model::sheet::EXAMPLE;
+
+    /// Two postings are a swap if the second entry gains what the first loses, and not otherwise.
+    #[test]
+    fn postings_that_a_swap_makes() {
+        let items = read_sheet(&EXAMPLE).unwrap();
+        let mut office = Office::new(&items);
+        office.fresh.feed(&post(0, 7));
+        let null = Call::Post { item: 1, kind: 1, number: 0 };
+        let cases: [(&[Call], Option<i64>); 8] = [
+            (&[post(0, 5), post(1, 2)], Some(2)),
+            (&[post(1, -2), post(0, 9), post(0, 1)], Some(2)),
+            (&[post(0, 5), post(1, 3)], None),
+            (&[post(0, 8), post(1, -1)], None),
+            (&[post(0, 7), post(1, 0)], None),
+            (&[post(0, 5), post(0, 9)], None),
+            (&[post(0, 7), null], None),
+            (&[post(0, 5)], None),
+        ];
+        for (posts, right) in cases {
+            assert_eq!(as_swap(&office, posts).map(|swap| swap.quantity), right, "{posts:?}");
+        }
     }
 }

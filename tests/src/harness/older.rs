@@ -83,7 +83,7 @@ pub fn opened_anew(c: &mut Comparison, items: &[Item], older: &Lent) -> Result<L
     Ok(posted)
 }
 
-/// Any call, any board and a close on a random older table of a small sheet: without its owed bytes,
+/// Any call, any swap, any board and a close on a random older table of a small sheet: without its owed bytes,
 /// and with them, when it is never refused for the table.
 pub fn run_older(c: &mut Comparison) -> Result<(), String> {
     let sheet = gen::write_sheet(&gen::small_specs(&mut c.rng));
@@ -97,11 +97,13 @@ pub fn run_older(c: &mut Comparison) -> Result<(), String> {
     takes(c, &lent, &acts)
 }
 
-/// Any call, an ask, any board and a close.
-pub fn any_acts(c: &mut Comparison, items: &[Item], table: &[u8]) -> [Act; 4] {
+/// Any call, an ask, any swap, any board and a close.
+pub fn any_acts(c: &mut Comparison, items: &[Item], table: &[u8]) -> [Act; 5] {
     let call = gen::any_call(&mut c.rng, items, table, gen::Numbers::Any);
     let board = gen::any_board(&mut c.rng, items);
-    [Act::Give(call), Act::Give(Call::Ask { item: 0 }), Act::Board(board), Act::Close]
+    let swap = gen::any_swap(&mut c.rng, items, &gen::numbers_of(items, table));
+    let ask = Act::Give(Call::Ask { item: 0 });
+    [Act::Give(call), ask, Act::Swap(swap), Act::Board(board), Act::Close]
 }
 
 /// None of the acts is refused for what it is lent.

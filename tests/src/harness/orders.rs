@@ -338,6 +338,7 @@ mod tests {
             let reply = match act {
                 Act::Open { full } => self.0.open(*full, sheet, index, table),
                 Act::Give(call) => self.0.call(call, sheet, index, table),
+                Act::Swap(swap) => self.0.swap(swap, sheet, index, table),
                 Act::Close => self.0.close(sheet, index, table),
                 Act::Board(board) => return self.board(&mut board.clone(), lent),
             };

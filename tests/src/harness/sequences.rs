@@ -8,6 +8,7 @@ use super::fixed::{expect, opened, post};
 use super::fixed_owed::{entry, sum};
 use super::lists::{list_length, open, plain_call, Office};
 use super::orders::{LARGE, ORDERS};
+use super::swaps::plain_swap;
 use crate::gen::{self, write_sheet, Shape, Spec};
 use crate::model::calls::Call;
 use crate::model::fresh::FreshOffice;
@@ -111,7 +112,7 @@ pub fn run_sequences(c: &mut Comparison) -> Result<(), String> {
     Ok(())
 }
 
-/// An opening, a list, and then posts, so that marks stand. Of a wide sheet all is stored, and much
+/// An opening, a list, and then posts and swaps, so that marks stand. Of a wide sheet all is stored, and much
 /// is posted.
 fn busy_office<'i>(
     c: &mut Comparison,
@@ -134,8 +135,14 @@ fn busy_office<'i>(
         _ => c.rng.between(1, 5),
     };
     for _ in 0..posts {
-        let post = gen::good_post(&mut c.rng, items, numbers);
-        plain_call(c, post, &mut lent, &mut office)?;
+        let held = gen::numbers_of(items, &lent.table);
+        match gen::good_swap(&mut c.rng, items, &held).filter(|_| c.rng.percent(20)) {
+            Some(swap) => plain_swap(c, swap, &mut lent, &mut office)?,
+            None => {
+                let post = gen::good_post(&mut c.rng, items, numbers);
+                plain_call(c, post, &mut lent, &mut office)?
+            }
+        };
     }
     Ok((lent, office))
 }

@@ -5,6 +5,7 @@ use super::compare::Act;
 use super::orders::{self, power, DONE, LARGE, ORDERS};
 use super::owed;
 use super::prints::MOST_DIGITS;
+use super::swaps;
 use crate::model::board::{Board, ITEM, MOST_ITEMS, RESULT};
 use crate::model::calls::Call;
 use crate::model::sheet::{Item, MAX_ITEMS, MAX_LEVEL};
@@ -14,7 +15,7 @@ use std::fmt;
 use std::ops::Range;
 
 /// The functions compared, and the refusals that each can give.
-pub const FUNCTIONS: [(&str, &[usize]); 10] = [
+pub const FUNCTIONS: [(&str, &[usize]); 11] = [
     ("open bare", &[1, 2, 3, 4, 5, 6, 7, 8]),
     ("open full", &[1, 2, 3, 4, 5, 6, 7, 8]),
     ("post", &[1, 2, 3, 4, 5, 6, 7, 8, 9, 10, 11, 12, 13]),
@@ -24,12 +25,14 @@ pub const FUNCTIONS: [(&str, &[usize]); 10] = [
     ("ask", &[1, 2, 3, 4, 5, 6, 7, 8, 9, 10, 11]),
     ("board", &[1, 2, 3, 4, 5, 6, 7, 8, 9, 10, 17, 11]),
     ("close", &[1, 2, 3, 4, 5, 6, 7, 8, 9, 10]),
+    ("swap", &[1, 2, 3, 4, 5, 6, 7, 8, 9, 10, 11, 12, 18, 13]),
     ("print", &[10, 15]),
 ];
 
 const BOARD: usize = 7;
 const CLOSE: usize = 8;
-const PRINT: usize = 9;
+const SWAP: usize = 9;
+const PRINT: usize = 10;
 
 /// The lists of boards that must be met: of accepted ones, then of those refused with 17.
 pub const BOARDS: [&str; 8] = [
@@ -74,13 +77,20 @@ pub const LINES: [(&str, &[usize]); 3] =
 #[derive(Default, Clone, Debug)]
 pub struct Tally {
     /// How often each function gave each number; 0 is accepted.
-    pub given: [[u64; 18]; FUNCTIONS.len()],
+    pub given: [[u64; 19]; FUNCTIONS.len()],
     /// Printed numbers of each of `DIGITS` by how many digits they have.
     pub digits: [[u64; MOST_DIGITS + 1]; 2],
     /// How often each of `BOARDS` was met.
     pub boards: [u64; BOARDS.len()],
     /// Accepted boards held against asks one after another.
     pub boards_as_asks: u64,
+    /// How often each of `swaps::MET` was met.
+    pub swaps: swaps::Times,
+    /// Accepted swaps held against two posts.
+    pub swaps_as_posts: u64,
+    /// Runs of swaps alone, and the swaps in them.
+    pub swap_runs: u64,
+    pub run_swaps: u64,
     /// How often each of `CLOSES` was met.
     pub closes: [u64; CLOSES.len()],
     /// Closes held against asks for each item, before and after.
@@ -137,6 +147,7 @@ impl Tally {
             Act::Give(Call::Drop { .. }) => 4,
             Act::Give(Call::Step { .. }) => 5,
             Act::Give(Call::Ask { .. }) => 6,
+            Act::Swap(_) => SWAP,
             Act::Board(_) => BOARD,
             Act::Close => CLOSE,
         };
@@ -223,8 +234,8 @@ impl Tally {
     }
 
     /// The refusals that some function can give, or a day print, the lists of boards, the tables and
-    /// sheets of closes, what is done to owed bytes and false ones, the parents of choices, what steps
-    /// do and their orders, and numbers of each length in print, that were never met; also products of
+    /// sheets of closes, what is done to owed bytes and false ones, the entries and causes of swaps,
+    /// the parents of choices, what steps do and their orders, and numbers of each length in print, that were never met; also products of
     /// shares beyond a signed 64-bit number, and values of the choice of before, if they were fewer than
     /// one in twenty.
     pub fn never_met(&self) -> Vec<String> {
@@ -238,6 +249,7 @@ impl Tally {
             ("board", &BOARDS[..], &self.boards[..]),
             ("close", &CLOSES, &self.closes),
             ("owed", &owed::MET, &self.owed),
+            ("swap", &swaps::MET, &self.swaps),
         ] {
             for (name, _) in names.iter().zip(met).filter(|(_, &times)| times == 0) {
                 missing.push(format!("{what}, {name}"));
@@ -304,6 +316,28 @@ impl Tally {
         )
     }
 
+    fn write_boards_and_closes(&self, f: &mut fmt::Formatter) -> fmt::Result {
+        writeln!(f, "boards by their lists: {}", named(&BOARDS, &self.boards))?;
+        writeln!(f, "boards held against asks one after another: {}", self.boards_as_asks)?;
+        writeln!(f, "closes by what they find and do: {}", named(&CLOSES, &self.closes))?;
+        writeln!(
+            f,
+            "closes held against asks for each item: {}; against steps and keeps: {}",
+            self.closes_as_asks, self.closes_as_keeps
+        )?;
+        writeln!(f, "tables of no opening closed, and gone on with: {}", self.closed_tables)
+    }
+
+    fn write_swaps(&self, f: &mut fmt::Formatter) -> fmt::Result {
+        let (accepted, refused) = (0..swaps::REFUSED, swaps::REFUSED..swaps::MET.len());
+        let swaps = |part: Range<usize>| named(&swaps::MET[part.clone()], &self.swaps[part]);
+        writeln!(f, "swaps compared: {}", self.given[SWAP].iter().sum::<u64>())?;
+        writeln!(f, "swaps accepted: {} ({})", self.given[SWAP][0], swaps(accepted))?;
+        writeln!(f, "swaps refused, by their cause: {}", swaps(refused))?;
+        writeln!(f, "swaps held against two posts: {}", self.swaps_as_posts)?;
+        writeln!(f, "runs of swaps alone: {} ({} swaps)", self.swap_runs, self.run_swaps)
+    }
+
     fn write_orders(&self, f: &mut fmt::Formatter) -> fmt::Result {
         let o = &self.orders;
         writeln!(f, "tables stepped in every order: {} of {} small sheets", o.tables, o.sheets)?;
@@ -357,17 +391,10 @@ impl fmt::Display for Tally {
         for ((name, _), given) in FUNCTIONS.iter().zip(&self.given) {
             writeln!(f, "  {name:9}{}", times(given))?;
         }
-        writeln!(f, "boards by their lists: {}", named(&BOARDS, &self.boards))?;
-        writeln!(f, "boards held against asks one after another: {}", self.boards_as_asks)?;
-        writeln!(f, "closes by what they find and do: {}", named(&CLOSES, &self.closes))?;
-        writeln!(
-            f,
-            "closes held against asks for each item: {}; against steps and keeps: {}",
-            self.closes_as_asks, self.closes_as_keeps
-        )?;
-        writeln!(f, "tables of no opening closed, and gone on with: {}", self.closed_tables)?;
+        self.write_boards_and_closes(f)?;
         self.write_owed(f)?;
         self.write_choices(f)?;
+        self.write_swaps(f)?;
         self.write_orders(f)?;
         writeln!(
             f,
@@ -403,7 +430,7 @@ mod tests {
     fn full() -> Tally {
         let mut tally = Tally { days: 1, ..Tally::default() };
         (tally.boards, tally.closes) = ([1; BOARDS.len()], [1; CLOSES.len()]);
-        tally.owed = [1; owed::MET.len()];
+        (tally.owed, tally.swaps) = ([1; owed::MET.len()], [1; swaps::MET.len()]);
         tally.choices.iter_mut().for_each(|met| met.fill(1));
         let orders = &mut tally.orders;
         (orders.done, orders.ended) = ([1; DONE.len()], [1; ORDERS.len()]);
@@ -429,6 +456,18 @@ mod tests {
                 assert_eq!(tally.never_met(), [format!("{name} {number}")]);
             }
         }
+        for (at, (word, numbers)) in LINES.iter().enumerate() {
+            for &number in *numbers {
+                let mut tally = full();
+                tally.printed[at][number] = 0;
+                assert_eq!(tally.never_met(), [format!("{word} {number}")]);
+            }
+        }
+    }
+
+    /// The same of each sort of board, close, owed byte, swap and choice.
+    #[test]
+    fn each_sort_is_missed() {
         for (at, name) in BOARDS.iter().enumerate() {
             let mut tally = full();
             tally.boards[at] = 0;
@@ -444,18 +483,16 @@ mod tests {
             tally.owed[at] = 0;
             assert_eq!(tally.never_met(), [format!("owed, {name}")]);
         }
+        for (at, name) in swaps::MET.iter().enumerate() {
+            let mut tally = full();
+            tally.swaps[at] = 0;
+            assert_eq!(tally.never_met(), [format!("swap, {name}")]);
+        }
         for (way, does) in choices::WAYS.iter().enumerate() {
             for (at, name) in choices::PARENTS.iter().enumerate() {
                 let mut tally = full();
                 tally.choices[way][at] = 0;
                 assert_eq!(tally.never_met(), [format!("choice {does}, {name}")]);
-            }
-        }
-        for (at, (word, numbers)) in LINES.iter().enumerate() {
-            for &number in *numbers {
-                let mut tally = full();
-                tally.printed[at][number] = 0;
-                assert_eq!(tally.never_met(), [format!("{word} {number}")]);
             }
         }
     }
@@ -532,7 +569,7 @@ mod tests {
         let mut numbers: Vec<usize> = tables.flat_map(|t| t.1).copied().collect();
         numbers.sort();
         numbers.dedup();
-        assert_eq!(numbers, (1..=17).collect::<Vec<usize>>());
+        assert_eq!(numbers, (1..=18).collect::<Vec<usize>>());
     }
 
     /// Each of the lists counts as what it is, and as nothing else.

@@ -5,6 +5,7 @@ use super::calls::{opened, perform, reply_of, Call, Reply};
 use super::close::run;
 use super::machine::{Machine, Telling};
 use super::sheet::Item;
+use super::swap::{perform_swap, Swap};
 use super::table::{Cell, Mark};
 use super::value::Value;
 
@@ -30,6 +31,11 @@ impl<'a> Before<'a> {
     /// What one of 01's five calls gives.
     pub fn give(&mut self, call: &Call) -> Reply {
         reply_of(perform(call, self.items, &mut self.machine))
+    }
+
+    /// What a swap gives.
+    pub fn swap(&mut self, swap: &Swap) -> Reply {
+        reply_of(perform_swap(swap, self.items, &mut self.machine).map(|_| None))
     }
 
     /// The values of a board of these items, which are not none.

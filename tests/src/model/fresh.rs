@@ -32,6 +32,11 @@ impl<'a> FreshOffice<'a> {
         self.entries[item as usize] = Some(value);
     }
 
+    /// A posting that a call made, of any value. Nothing is tested.
+    pub fn posting(&mut self, entry: usize, value: Value) {
+        self.entries[entry] = Some(value);
+    }
+
     /// The value of each item, lowest first: parents come before their figures.
     pub fn all(&self) -> Vec<Value> {
         let mut values: Vec<Value> = Vec::new();
@@ -88,5 +93,7 @@ mod tests {
         assert_eq!(office.asked(4), Some(Value::Number(500)));
         assert_eq!(office.asked(5), None);
         assert_eq!(office.asked(u64::MAX), None);
+        office.posting(2, Value::Number(100));
+        assert_eq!(office.asked(4), Some(Value::Number(800)));
     }
 }

@@ -10,5 +10,6 @@ pub mod fresh;
 pub mod machine;
 pub mod printer;
 pub mod sheet;
+pub mod swap;
 pub mod table;
 pub mod value;

@@ -11,6 +11,7 @@ mod model;
 use model::board::board;
 use model::calls::{call, open, Call, Reply};
 use model::close::close;
+use model::swap::{swap, Swap};
 use std::slice::{from_raw_parts, from_raw_parts_mut};
 
 /// `rozhinal_answer`
@@ -91,6 +92,22 @@ pub unsafe extern "C" fn rozhinal_post(
 ) -> Answer {
     let (index, table) = (read(index, index_len), write(table, table_len));
     answer(call(&Call::Post { item, kind, number }, read(sheet, sheet_len), index, table))
+}
+
+#[no_mangle]
+pub unsafe extern "C" fn rozhinal_swap(
+    sheet: *const u8,
+    sheet_len: usize,
+    index: *const u8,
+    index_len: usize,
+    table: *mut u8,
+    table_len: usize,
+    giver: u64,
+    taker: u64,
+    quantity: i64,
+) -> Answer {
+    let (index, table) = (read(index, index_len), write(table, table_len));
+    answer(swap(&Swap { giver, taker, quantity }, read(sheet, sheet_len), index, table))
 }
 
 /// The calls that take an item alone and give an answer.
