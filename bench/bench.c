@@ -13,14 +13,14 @@
 #include <string.h>
 #include <valgrind/callgrind.h>
 
-enum call_kind { OPEN_BARE, OPEN_FULL, POST, KEEP, DROP, STEP, ASK, BOARD, CLOSE, PRINT };
+enum call_kind { OPEN_BARE, OPEN_FULL, POST, SWAP, KEEP, DROP, STEP, ASK, BOARD, CLOSE, PRINT };
 enum { BOARD_ITEMS = ROZHINAL_MAX_BOARD };
 
 struct call {
     enum call_kind kind;
-    uint64_t item;
-    uint64_t posted; /* the kind that is posted or printed, and the number */
-    int64_t number;
+    uint64_t item;   /* of a swap the giver */
+    uint64_t posted; /* the kind that is posted or printed; of a swap the taker */
+    int64_t number;  /* of a swap the quantity */
 };
 
 /* One of the two, with its own copies of what is lent. */
@@ -29,6 +29,8 @@ struct side {
     rozhinal_answer (*open_bare)(const uint8_t *, size_t, uint8_t *, size_t, uint8_t *, size_t);
     rozhinal_answer (*open_full)(const uint8_t *, size_t, uint8_t *, size_t, uint8_t *, size_t);
     rozhinal_answer (*post)(const uint8_t *, size_t, const uint8_t *, size_t, uint8_t *, size_t,
+                            uint64_t, uint64_t, int64_t);
+    rozhinal_answer (*swap)(const uint8_t *, size_t, const uint8_t *, size_t, uint8_t *, size_t,
                             uint64_t, uint64_t, int64_t);
     rozhinal_answer (*keep)(const uint8_t *, size_t, const uint8_t *, size_t, uint8_t *, size_t,
                             uint64_t);
@@ -53,6 +55,7 @@ static struct side library = {
     .open_bare = rozhinal_open_bare,
     .open_full = rozhinal_open_full,
     .post = rozhinal_post,
+    .swap = rozhinal_swap,
     .keep = rozhinal_keep,
     .drop = rozhinal_drop,
     .step = rozhinal_step,
@@ -67,6 +70,7 @@ static struct side plain = {
     .open_bare = plain_open_bare,
     .open_full = plain_open_full,
     .post = plain_post,
+    .swap = plain_swap,
     .keep = plain_keep,
     .drop = plain_drop,
     .step = plain_step,
@@ -81,8 +85,8 @@ static uint8_t board_items[ROZHINAL_ITEMS_BYTES(BOARD_ITEMS)];
 static const char *workload = "preparing";
 enum { LABEL_BYTES = 128 };
 
-/* Grams posted to one entry; a prime, for what is posted to all of them on each of DAYS days. */
-enum { POSTED = 4321098, PRIME = 7919003, DAYS = 2 };
+/* Grams posted to one entry, and swapped; a prime, for what all are posted on each of DAYS days. */
+enum { POSTED = 4321098, SWAPPED = 1234567, PRIME = 7919003, DAYS = 2 };
 enum { RATES_WITHIN = 500 }; /* of the whole, the rates by which amounts at the limit are shared */
 
 /* ---- Calls ----------------------------------------------------------------------------------- */
@@ -110,10 +114,10 @@ static rozhinal_reading reading_of(rozhinal_answer answer)
     sheet.bytes, sheet.length, side->index, ROZHINAL_INDEX_BYTES(sheet.count), side->table,      \
         ROZHINAL_TABLE_BYTES(sheet.count)
 
-static rozhinal_reading make_call(struct side *side, const struct call *call)
+/* A call that gives an answer. */
+static rozhinal_answer make_answering(struct side *side, const struct call *call)
 {
     rozhinal_answer answer = { 0, 0 };
-    rozhinal_reading reading = { 0, 0, 0, 0 };
     switch (call->kind) {
     case OPEN_BARE:
         COUNTED(answer = side->open_bare(LENT));
@@ -124,6 +128,9 @@ static rozhinal_reading make_call(struct side *side, const struct call *call)
     case POST:
         COUNTED(answer = side->post(LENT, call->item, call->posted, call->number));
         break;
+    case SWAP:
+        COUNTED(answer = side->swap(LENT, call->item, call->posted, call->number));
+        break;
     case KEEP:
         COUNTED(answer = side->keep(LENT, call->item));
         break;
@@ -133,9 +140,6 @@ static rozhinal_reading make_call(struct side *side, const struct call *call)
     case STEP:
         COUNTED(answer = side->step(LENT, call->item));
         break;
-    case ASK:
-        COUNTED(reading = side->ask(LENT, call->item));
-        return reading;
     case BOARD:
         COUNTED(answer = side->board(LENT, board_items, sizeof board_items, side->results,
                                      sizeof side->results));
@@ -143,12 +147,23 @@ static rozhinal_reading make_call(struct side *side, const struct call *call)
     case CLOSE:
         COUNTED(answer = side->close(LENT));
         break;
-    case PRINT:
+    default:
+        fail("no such call");
+    }
+    return answer;
+}
+
+static rozhinal_reading make_call(struct side *side, const struct call *call)
+{
+    rozhinal_reading reading = { 0, 0, 0, 0 };
+    if (call->kind == ASK)
+        COUNTED(reading = side->ask(LENT, call->item));
+    else if (call->kind == PRINT)
         COUNTED(reading.value = side->print(call->posted, call->number, side->scratch,
                                             sizeof side->scratch));
-        return reading;
-    }
-    return reading_of(answer);
+    else
+        reading = reading_of(make_answering(side, call));
+    return reading;
 }
 
 /* Both sides have given the same, and have the same bytes. */
@@ -214,6 +229,11 @@ static struct call call_of(enum call_kind kind, size_t item)
 static struct call post_of(size_t item, int64_t number)
 {
     return (struct call){ POST, item, ROZHINAL_NUMBER, number };
+}
+
+static struct call swap_of(size_t giver, size_t taker, int64_t quantity)
+{
+    return (struct call){ SWAP, giver, taker, quantity };
 }
 
 /* What is posted to an entry on a day: the same in every group. */
@@ -374,6 +394,16 @@ static void count_small_calls(size_t groups)
     make_ledger(&sheet, groups, 0);
     settle(OPEN_BARE);
     count("keep, nothing stored", call_of(KEEP, sheet.top));
+}
+
+/* Between two entries, after one where nothing is recorded. */
+static void count_swap(size_t groups)
+{
+    make_ledger(&sheet, groups, 1);
+    prepare(call_of(OPEN_FULL, 0));
+    prepare(swap_of(2, 0, SWAPPED));
+    settle(OPEN_FULL);
+    count("swap", swap_of(0, 2, SWAPPED));
 }
 
 /* A call in a state that leaves it something to catch up with. */
@@ -578,6 +608,7 @@ int main(void)
     enum { MOST_GROUPS = 8 };
     count_openings(MOST_GROUPS);
     count_small_calls(MOST_GROUPS);
+    count_swap(MOST_GROUPS);
     for (size_t groups = MOST_GROUPS; groups > 0; groups /= 2)
         for (size_t k = 0; k < STATES; k++)
             count_ask(&states[k], groups);

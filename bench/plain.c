@@ -680,6 +680,35 @@ rozhinal_answer plain_post(const uint8_t *sheet, size_t sheet_len,
     return accepted;
 }
 
+rozhinal_answer plain_swap(const uint8_t *sheet, size_t sheet_len,
+                           const uint8_t *index, size_t index_len,
+                           uint8_t *table, size_t table_len,
+                           uint64_t giver, uint64_t taker, int64_t quantity)
+{
+    struct layout layout;
+    rozhinal_answer answer =
+        enter(sheet, sheet_len, index, index_len, table, table_len, &layout);
+    if (answer.number != 0)
+        return answer;
+    if (giver >= layout.count || taker >= layout.count)
+        return refuse(ROZHINAL_REFUSED_ITEM, 0);
+    if (is_figure(sheet, &layout, (size_t)giver) || is_figure(sheet, &layout, (size_t)taker))
+        return refuse(ROZHINAL_REFUSED_SORT, 0);
+    if (giver == taker || quantity < 1)
+        return refuse(ROZHINAL_REFUSED_SWAP, 0);
+    /* No giver has more than twice the limit to give; with any other quantity nothing overflows. */
+    if (quantity > 2 * ROZHINAL_LIMIT)
+        return refuse(ROZHINAL_REFUSED_POSTED, 0);
+    uint8_t *from = record_of(table, (size_t)giver), *to = record_of(table, (size_t)taker);
+    struct value less = number_value(stored(from).number - quantity);
+    struct value more = number_value(stored(to).number + quantity);
+    if (less.kind == ROZHINAL_OUT || more.kind == ROZHINAL_OUT)
+        return refuse(ROZHINAL_REFUSED_POSTED, 0);
+    store(from, less, ROZHINAL_MARK_NOTICE);
+    store(to, more, ROZHINAL_MARK_NOTICE);
+    return accepted;
+}
+
 rozhinal_answer plain_keep(const uint8_t *sheet, size_t sheet_len,
                            const uint8_t *index, size_t index_len,
                            uint8_t *table, size_t table_len,

@@ -17,6 +17,10 @@ rozhinal_answer plain_post(const uint8_t *sheet, size_t sheet_len,
                            const uint8_t *index, size_t index_len,
                            uint8_t *table, size_t table_len,
                            uint64_t item, uint64_t kind, int64_t number);
+rozhinal_answer plain_swap(const uint8_t *sheet, size_t sheet_len,
+                           const uint8_t *index, size_t index_len,
+                           uint8_t *table, size_t table_len,
+                           uint64_t giver, uint64_t taker, int64_t quantity);
 rozhinal_answer plain_keep(const uint8_t *sheet, size_t sheet_len,
                            const uint8_t *index, size_t index_len,
                            uint8_t *table, size_t table_len,

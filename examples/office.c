@@ -5,12 +5,13 @@
  *
  * Opens the sheet, bare or with -f full, and keeps index and table in the file BOOK, which a later
  * run goes on from. Commands come from standard input, one a line; `help` lists them. A command is
- * answered once its change is in the file. While `work` catches up, each step is in the file before
- * its count is shown, and Ctrl-C stops it between two steps; the office takes the next command.
+ * answered once its change is in the file; a swap changes both entries by one save. While `work`
+ * catches up, each step is in the file before its count is shown, and Ctrl-C stops it between two
+ * steps; the office takes the next command.
  *
  * A book from before version 4.0.0 may hold choices, and what leans on them, that are OUT for the
- * branch that was not taken: its figures are worked out anew, the same ones stay stored, and the book is written in its new
- * form. No entry changes.
+ * branch that was not taken: its figures are worked out anew, the same ones stay stored, and the
+ * book is written in its new form. No entry changes.
  *
  * A book from before version 3.0.0 has records without an owed byte: the sheet is opened anew, the
  * entries of the book are posted again, lowest first, and the book is written in its new form.
@@ -188,7 +189,18 @@ static bool find_item(const struct office *office, const char *word, uint64_t *i
     return false;
 }
 
-/* A posted value: null, or a number of 64 bits. The library tests the range. */
+/* A number of 64 bits. The library tests the range. */
+static bool read_number(const char *word, int64_t *number)
+{
+    if (!is_digits(word[0] == '-' || word[0] == '+' ? word + 1 : word))
+        return false;
+    errno = 0;
+    long long value = strtoll(word, NULL, 10);
+    *number = value;
+    return errno == 0;
+}
+
+/* A posted value: null, or a number. */
 static bool read_value(const char *word, uint64_t *kind, int64_t *number)
 {
     *kind = ROZHINAL_NULL;
@@ -196,15 +208,19 @@ static bool read_value(const char *word, uint64_t *kind, int64_t *number)
     if (strcmp(word, "null") == 0)
         return true;
     *kind = ROZHINAL_NUMBER;
-    if (is_digits(word[0] == '-' || word[0] == '+' ? word + 1 : word)) {
-        errno = 0;
-        long long value = strtoll(word, NULL, 10);
-        *number = value;
-        if (errno == 0)
-            return true;
-    }
+    if (read_number(word, number))
+        return true;
     print_word(word);
     puts(" is neither null nor a number of 64 bits");
+    return false;
+}
+
+static bool read_quantity(const char *word, int64_t *quantity)
+{
+    if (read_number(word, quantity))
+        return true;
+    print_word(word);
+    puts(" is no number of 64 bits");
     return false;
 }
 
@@ -230,6 +246,36 @@ static void post(struct office *office, uint64_t item, const char *word)
     int64_t number;
     if (read_value(word, &kind, &number))
         done(office, rozhinal_post(LENT(&office->book), item, kind, number), item);
+}
+
+/* What is wrong with a swap, of which neither entry has moved. */
+static const char *swap_words(uint64_t number)
+{
+    switch (number) {
+    case ROZHINAL_REFUSED_SORT:
+        return "only entries give and take";
+    case ROZHINAL_REFUSED_POSTED:
+        return "an entry would be beyond the range, and neither has moved";
+    default:
+        return refusal_words(number);
+    }
+}
+
+/* Both entries change in one call, and are in the file by one save. */
+static void swap(struct office *office, char **words)
+{
+    uint64_t giver, taker;
+    int64_t quantity;
+    if (!find_item(office, words[0], &giver) || !find_item(office, words[1], &taker)
+        || !read_quantity(words[2], &quantity))
+        return;
+    rozhinal_answer answer = rozhinal_swap(LENT(&office->book), giver, taker, quantity);
+    if (answer.number != ROZHINAL_ACCEPTED) {
+        printf("refused with %" PRIu64 ": %s\n", answer.number, swap_words(answer.number));
+    } else if (save(office)) {
+        show_item(office, (size_t)giver);
+        show_item(office, (size_t)taker);
+    }
 }
 
 static void ask(struct office *office, uint64_t item)
@@ -439,7 +485,7 @@ static void work(struct office *office)
 
 /* ---- Verbs ---- */
 
-enum verb { POST, ASK, BOARD, CLOSE, KEEP, DROP, STEP, WORK, LIST, HELP, QUIT, VERBS };
+enum verb { POST, SWAP, ASK, BOARD, CLOSE, KEEP, DROP, STEP, WORK, LIST, HELP, QUIT, VERBS };
 
 static const struct {
     const char *word, *arguments;
@@ -447,6 +493,7 @@ static const struct {
     const char *help;
 } verbs[VERBS] = {
     [POST] = { "post", "ITEM NUMBER", 3, 3, "post grams, or `null` for nothing recorded" },
+    [SWAP] = { "swap", "FROM TO QUANTITY", 4, 4, "move grams from one entry to another" },
     [ASK] = { "ask", "ITEM", 2, 2, "catch up, and read an item" },
     [BOARD] = { "board", "ITEM...", 2, SIZE_MAX, "catch up once, and read up to 64 items" },
     [CLOSE] = { "close", "", 1, 1, "work out and store every figure, and show all items" },
@@ -455,14 +502,14 @@ static const struct {
     [STEP] = { "step", "ITEM", 2, 2, "do the work of an item's mark" },
     [WORK] = { "work", "", 1, 1, "step marked items until none is left; Ctrl-C stops it" },
     [LIST] = { "list", "[ITEM]", 1, 2, "show all items, or one" },
-    [HELP] = { "help", "", 1, 1, "show this; ITEM is a name, or # and a number" },
+    [HELP] = { "help", "", 1, 1, "show this; ITEM, FROM or TO is a name, or # and a number" },
     [QUIT] = { "quit", "", 1, 1, "end" },
 };
 
 static void help(void)
 {
     for (size_t k = 0; k < VERBS; k++)
-        printf("%-5s %-12s %s\n", verbs[k].word, verbs[k].arguments, verbs[k].help);
+        printf("%-5s %-17s %s\n", verbs[k].word, verbs[k].arguments, verbs[k].help);
 }
 
 /* The verb of a command with a right number of words; VERBS if there is none, and says so. */
@@ -509,6 +556,8 @@ static bool command(struct office *office, char **words, size_t count)
     enum verb verb = verb_of(words, count);
     if (verb == HELP)
         help();
+    else if (verb == SWAP)
+        swap(office, words + 1);
     else if (verb == BOARD)
         board(office, words + 1, count - 1);
     else if (verb == CLOSE)

@@ -73,6 +73,7 @@ const char *refusal_words(uint64_t number)
         "the scratch is too small",
         "a field of the day log is wrong",
         "the list of a board or of its results has the wrong length",
+        "giver and taker are one entry, or the quantity is under 1",
     };
     return number < sizeof words / sizeof *words ? words[number] : "an unknown refusal";
 }

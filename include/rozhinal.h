@@ -1,5 +1,5 @@
 /*
- * Rozhinal 4.1.0: an engine for quota ledgers.
+ * Rozhinal 4.2.0: an engine for quota ledgers.
  *
  * A sheet is a circuit of items. An entry is posted; a figure is worked out from earlier items, its
  * parents, by one of eight rules. The caller lends three slices of bytes to each call:
@@ -52,9 +52,9 @@ extern "C" {
 #endif
 
 #define ROZHINAL_VERSION_MAJOR 4
-#define ROZHINAL_VERSION_MINOR 1
+#define ROZHINAL_VERSION_MINOR 2
 #define ROZHINAL_VERSION_PATCH 0
-#define ROZHINAL_VERSION "4.1.0"
+#define ROZHINAL_VERSION "4.2.0"
 
 /* ---- Limits ---------------------------------------------------------------------------------- */
 
@@ -181,7 +181,7 @@ enum rozhinal_mark {
  * field at fault, and the number the lowest that applies to it. For a field that is absent the
  * offset is the sheet's length; for bytes after the last field it is where they begin. With every
  * other number the offset is 0. After the sheet the tests come in the order of their numbers, with
- * 17 between 10 and 11; the first that applies is given.
+ * 17 between 10 and 11 and 18 between 12 and 13; the first that applies is given.
  */
 enum rozhinal_refusal {
     ROZHINAL_ACCEPTED = 0,
@@ -200,15 +200,19 @@ enum rozhinal_refusal {
                                     owed byte is false */
     /* faults of the arguments */
     ROZHINAL_REFUSED_ITEM = 11,     /* there is no item with this number */
-    ROZHINAL_REFUSED_SORT = 12,     /* a post to a figure, or a keep or drop of an entry */
-    ROZHINAL_REFUSED_POSTED = 13,   /* neither NULL with number 0 nor a number within the range */
+    ROZHINAL_REFUSED_SORT = 12,     /* a post to a figure, a swap with one, or a keep or drop of an
+                                       entry */
+    ROZHINAL_REFUSED_POSTED = 13,   /* neither NULL with number 0 nor a number within the range, or
+                                       a result of a swap is beyond it */
     ROZHINAL_REFUSED_UNMARKED = 14, /* a step of an item that has no mark */
     ROZHINAL_REFUSED_SCRATCH = 15,  /* the printer's scratch is under ROZHINAL_PRINT_BYTES */
     /* the day program's alone; no function gives it */
     ROZHINAL_REFUSED_DAY = 16, /* a field of the day log is wrong */
     /* faults of the lists of a board; tested before 11 */
-    ROZHINAL_REFUSED_LISTS = 17 /* items_len is odd or for over ROZHINAL_MAX_BOARD items, or
-                                   results_len is not the size for so many items */
+    ROZHINAL_REFUSED_LISTS = 17, /* items_len is odd or for over ROZHINAL_MAX_BOARD items, or
+                                    results_len is not the size for so many items */
+    /* faults of a swap; tested before 13 */
+    ROZHINAL_REFUSED_SWAP = 18 /* one entry on both sides, or a quantity under 1 */
 };
 
 /* The answer of a call. Accepted: number 0 and offset 0. */
@@ -257,6 +261,20 @@ rozhinal_answer rozhinal_post(const uint8_t *sheet, size_t sheet_len,
                               uint64_t item, uint64_t kind, int64_t number);
 
 /*
+ * Moves a quantity from one entry to another, as one act: the giver loses it and the taker gains
+ * it, NULL counting as 0. Both results are stored as by posts, the giver's first, so that both
+ * entries are then numbers, marked notice. The sum of all entries, NULL as 0, stays what it was.
+ * Refuses with 11 if either is no item, with 12 if either is a figure, with 18 if they are one
+ * entry or the quantity is under 1, and last with 13 if either result is beyond the range; then
+ * neither entry moves. A quantity may be anything to INT64_MAX: only the results, which are exact,
+ * are held to the range.
+ */
+rozhinal_answer rozhinal_swap(const uint8_t *sheet, size_t sheet_len,
+                              const uint8_t *index, size_t index_len,
+                              uint8_t *table, size_t table_len,
+                              uint64_t giver, uint64_t taker, int64_t quantity);
+
+/*
  * Looks a figure up and stores it, whatever its keep byte. A stored figure is untouched. Refuses
  * with 11 and 12 besides.
  */
@@ -293,8 +311,8 @@ rozhinal_answer rozhinal_step(const uint8_t *sheet, size_t sheet_len,
 
 /*
  * Steps the lowest marked item until none is marked, then looks the item up and gives its value:
- * the right one for what was last posted, whatever was stored, dropped or stepped before. Refuses
- * with 11 besides.
+ * the right one for what was last posted and swapped, whatever was stored, dropped or stepped
+ * before. Refuses with 11 besides.
  */
 rozhinal_reading rozhinal_ask(const uint8_t *sheet, size_t sheet_len,
                               const uint8_t *index, size_t index_len,
@@ -340,9 +358,9 @@ rozhinal_answer rozhinal_board(const uint8_t *sheet, size_t sheet_len,
  * byte, gets what its rule gives for its parents as they then stand in the table; no mark is left,
  * and each item that has a child is owed.
  * On a table that only the engine has written since an opening each record then holds what an ask
- * for the item gives, and may be read from the table until the next post, drop or opening. On any
- * table that is accepted the values are the right ones for the entries that it holds. A second run
- * changes nothing. Refuses with 1 to 10 as every call, and with no other number.
+ * for the item gives, and may be read from the table until the next post, swap, drop or opening. On
+ * any table that is accepted the values are the right ones for the entries that it holds. A second
+ * run changes nothing. Refuses with 1 to 10 as every call, and with no other number.
  */
 rozhinal_answer rozhinal_close(const uint8_t *sheet, size_t sheet_len,
                                const uint8_t *index, size_t index_len,

@@ -18,10 +18,11 @@ _Static_assert(ROZHINAL_INDEX_BYTES(5) == 20 && ROZHINAL_TABLE_BYTES(5) == 55, "
 _Static_assert(ROZHINAL_REFUSED_DAY == 16 && ROZHINAL_REFUSED_SIZES == 8, "refusals");
 _Static_assert(ROZHINAL_REFUSED_LISTS == 17 && ROZHINAL_MAX_BOARD == 64, "the board");
 _Static_assert(ROZHINAL_ITEMS_BYTES(64) == 128 && ROZHINAL_RESULTS_BYTES(64) == 576, "its lists");
+_Static_assert(ROZHINAL_REFUSED_SWAP == 18, "the swap");
 _Static_assert(ROZHINAL_LIMIT == INT64_C(1000000000000000) && ROZHINAL_WHOLE == 10000, "the range");
 _Static_assert(ROZHINAL_NUMBER == 3 && ROZHINAL_MARK_NOTICE == 2, "kinds and marks");
 
-enum { ITEMS = 5, INDEX = 4 * ITEMS, TABLE = 11 * ITEMS, SHEET = 46, RULE_OF_3 = 22 };
+enum { ITEMS = 5, ENTRIES = 3, INDEX = 4 * ITEMS, TABLE = 11 * ITEMS, SHEET = 46, RULE_OF_3 = 22 };
 enum { RECORD = ROZHINAL_RECORD_BYTES, OWED = 10, KEPT = RECORD * 3, NOT_KEPT = RECORD * 4 };
 enum { MOST = ROZHINAL_MAX_BOARD, OVER = MOST + 1, PAIR = 2, RESULT = 9 };
 
@@ -271,6 +272,111 @@ static void other_refusals(void)
     int64_t small = rozhinal_print(ROZHINAL_NULL, 0, now.scratch, ROZHINAL_PRINT_BYTES - 1);
     printf("print into 19 bytes: %" PRId64 "\n", small);
     require(memcmp(&now, &before, sizeof now) == 0, "a refused print changed a lent byte");
+}
+
+/* ---- Swaps ---- */
+
+/* The sum of the entries, NULL as 0. */
+static int64_t sum_of_entries(void)
+{
+    int64_t sum = 0;
+    for (size_t i = 0; i < ENTRIES; i++)
+        sum += number_at(now.table + RECORD * i + 2);
+    return sum;
+}
+
+static rozhinal_answer post_held(const struct lent *lent, uint64_t item)
+{
+    return rozhinal_post(LENT, item, ROZHINAL_NUMBER, number_at(lent->table + RECORD * item + 2));
+}
+
+/* A swap, with the giver's kind, mark and number afterwards, then the taker's. */
+static void show_swap(const char *what, uint64_t giver, uint64_t taker, int64_t quantity)
+{
+    int64_t sum = sum_of_entries();
+    rozhinal_answer a = rozhinal_swap(LENT, giver, taker, quantity);
+    const uint8_t *records[] = { now.table + RECORD * giver, now.table + RECORD * taker };
+    printf("swap %s: %" PRIu64 " %" PRIu64, what, a.number, a.offset);
+    for (size_t k = 0; k < 2; k++)
+        printf(", %u %u %" PRId64, (unsigned)records[k][0], (unsigned)records[k][1],
+               number_at(records[k] + 2));
+    putchar('\n');
+    require(sum_of_entries() == sum, "the sum of the entries after a swap");
+    struct lent swapped = now;
+    now = before;
+    require(post_held(&swapped, giver).number == 0 && post_held(&swapped, taker).number == 0
+                && memcmp(&now, &swapped, sizeof now) == 0,
+            "a swap leaves what its two posts leave");
+    before = now;
+}
+
+static void the_swap(void)
+{
+    start();
+    accepted("open bare", rozhinal_open_bare(LENT));
+    show_swap("of 1 from NULL to NULL", 1, 0, 1);
+    show_swap("of 1 back", 0, 1, 1);
+    accepted("post 0 1000", rozhinal_post(LENT, 0, ROZHINAL_NUMBER, 1000));
+    accepted("post 1 300", rozhinal_post(LENT, 1, ROZHINAL_NUMBER, 300));
+    ask(4);
+    show_swap("of 400 from 0 to 2", 0, 2, 400);
+    ask(4);
+    show_swap("of 250 from 0 to 1", 0, 1, 250);
+    ask(4);
+    accepted("close", rozhinal_close(LENT));
+    show_swap("of 401 from 2 to 0", 2, 0, 401);
+    show_swap("of 549 from 1 to 2", 1, 2, 549);
+    ask(3);
+    ask(4);
+    post_number("post 0 limit", ROZHINAL_LIMIT);
+    accepted("post 1 -limit", rozhinal_post(LENT, 1, ROZHINAL_NUMBER, -ROZHINAL_LIMIT));
+    show_swap("from limit to -limit", 0, 1, 2 * ROZHINAL_LIMIT);
+    show_swap("and back", 1, 0, 2 * ROZHINAL_LIMIT);
+}
+
+static void swap_faults(void)
+{
+    refused("swap, 5 gives", rozhinal_swap(LENT, ITEMS, 0, 1));
+    refused("swap, 2^64 - 1 takes", rozhinal_swap(LENT, 0, UINT64_MAX, 1));
+    refused("swap, 5 takes 0 from a figure", rozhinal_swap(LENT, 3, ITEMS, 0));
+    refused("swap, 5 gives -1 to itself", rozhinal_swap(LENT, ITEMS, ITEMS, -1));
+    refused("swap, a figure gives", rozhinal_swap(LENT, 4, 0, 1));
+    refused("swap, a figure takes", rozhinal_swap(LENT, 0, 3, 1));
+    refused("swap, a figure gives 0 to itself", rozhinal_swap(LENT, 3, 3, 0));
+    refused("swap, a figure takes the most", rozhinal_swap(LENT, 0, 4, INT64_MAX));
+    refused("swap, an entry gives to itself", rozhinal_swap(LENT, 0, 0, 1));
+    refused("swap of 0", rozhinal_swap(LENT, 0, 1, 0));
+    refused("swap of -1", rozhinal_swap(LENT, 0, 1, -1));
+    refused("swap of the least", rozhinal_swap(LENT, 0, 1, INT64_MIN));
+    refused("swap, an entry gives the most to itself", rozhinal_swap(LENT, 2, 2, INT64_MAX));
+    refused("swap of the most", rozhinal_swap(LENT, 0, 1, INT64_MAX));
+    refused("swap of the most from NULL", rozhinal_swap(LENT, 2, 0, INT64_MAX));
+    refused("swap, the giver one beyond", rozhinal_swap(LENT, 0, 2, ROZHINAL_LIMIT + 1001));
+    refused("swap, the taker one beyond", rozhinal_swap(LENT, 0, 1, 11));
+}
+
+static void swap_refusals(void)
+{
+    start();
+    accepted("open bare", rozhinal_open_bare(LENT));
+    post_number("post 0 1000", 1000);
+    accepted("post 1 limit - 10", rozhinal_post(LENT, 1, ROZHINAL_NUMBER, ROZHINAL_LIMIT - 10));
+    swap_faults();
+    show_swap("of 10 to the limit", 0, 1, 10);
+    refused("swap of 1 above it", rozhinal_swap(LENT, 2, 1, 1));
+    post_number("post 0 -limit", -ROZHINAL_LIMIT);
+    refused("swap of 1 below it", rozhinal_swap(LENT, 0, 2, 1));
+    now.table[NOT_KEPT + 1] = ROZHINAL_MARK_REFRESH;
+    before = now;
+    refused("swap, an unstored figure marked refresh", rozhinal_swap(LENT, ITEMS, ITEMS, 0));
+    now.index[4]++;
+    before = now;
+    refused("swap, a changed index besides", rozhinal_swap(LENT, ITEMS, ITEMS, 0));
+    refused("swap, a table of 54 bytes besides",
+            rozhinal_swap(SHEET_SLICE, now.index, INDEX, now.table, TABLE - 1, 0, 2, 1));
+    now.sheet[11] = 5;
+    before = now;
+    refused("swap, a tag of 5 besides", rozhinal_swap(LENT, 0, 2, 1));
 }
 
 /* ---- The board ---- */
@@ -524,6 +630,7 @@ static void refused_by_all(void)
 {
     uint64_t numbers[] = {
         rozhinal_post(LENT, 0, ROZHINAL_NUMBER, 1).number,
+        rozhinal_swap(LENT, 0, 0, 1).number,
         rozhinal_keep(LENT, 4).number,
         rozhinal_drop(LENT, 4).number,
         rozhinal_step(LENT, 0).number,
@@ -593,6 +700,9 @@ static void null_pointers(void)
     refused("no index and no table", answer_of(rozhinal_ask(SHEET_SLICE, NULL, 0, NULL, 0, 4)));
     printf("print into nothing: %" PRId64 "\n", rozhinal_print(ROZHINAL_NULL, 0, NULL, 0));
     refused("a board of nothing", rozhinal_board(NULL, 0, NULL, 0, NULL, 0, NULL, 0, NULL, 0));
+    refused("a swap of nothing", rozhinal_swap(NULL, 0, NULL, 0, NULL, 0, 0, 1, 1));
+    refused("a swap without a table",
+            rozhinal_swap(SHEET_SLICE, now.index, INDEX, NULL, 0, 0, 1, 1));
     refused("a close of nothing", rozhinal_close(NULL, 0, NULL, 0, NULL, 0));
     refused("a close without a table", rozhinal_close(SHEET_SLICE, now.index, INDEX, NULL, 0));
     accepted("open bare", rozhinal_open_bare(LENT));
@@ -607,6 +717,8 @@ int main(void)
     the_range();
     sheet_refusals();
     other_refusals();
+    the_swap();
+    swap_refusals();
     the_board();
     board_refusals();
     the_close();

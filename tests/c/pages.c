@@ -46,6 +46,15 @@ static void only_read(uint8_t *bytes)
 #define LENT sheet, sizeof example, index, INDEX, table, TABLE
 #define LISTS items, 2 * LISTED, results, 9 * LISTED
 
+/* Entry 0 has 1000, and entry 2 nothing. */
+static void check_swaps(const uint8_t *sheet, const uint8_t *index, uint8_t *table)
+{
+    require(rozhinal_swap(LENT, 0, 2, 400).number == 0, "swap");
+    require(table[2] == (600 & 0xFF) && table[2 * 11 + 2] == (400 & 0xFF), "entries 0 and 2");
+    require(rozhinal_swap(LENT, 2, 2, 1).number == 18, "a swap of an entry with itself");
+    require(rozhinal_swap(LENT, 0, 2, INT64_MAX).number == 13, "a swap beyond the range");
+}
+
 static void run(int at_end)
 {
     uint8_t *sheet = slice(sizeof example, at_end), *index = slice(INDEX, at_end);
@@ -67,6 +76,7 @@ static void run(int at_end)
     require(results[0] == ROZHINAL_NUMBER && results[9 * 63 + 1] == (1000 & 0xFF), "results");
     require(rozhinal_drop(LENT, 4).number == 0, "drop");
     require(rozhinal_post(LENT, 1, ROZHINAL_NUMBER, 300).number == 0, "post");
+    check_swaps(sheet, index, table);
     require(rozhinal_board(LENT, beyond, 2 * LISTED, results, 9 * LISTED).number == 11, "item 5");
     require(rozhinal_board(LENT, items, 2 * LISTED - 1, results, 9 * LISTED).number == 17, "odd");
     require(rozhinal_board(LENT, items, 0, results, 0).number == 0, "an empty board");

@@ -1,6 +1,6 @@
 /*
- * Runs the board, the close, the catching up, the working out anew and the taking over of an older
- * table of docs/USE.md: the page's C is included, with its main under another name.
+ * Runs the board, the swap, the close, the catching up, the working out anew and the taking over of
+ * an older table of docs/USE.md: the page's C is included, with its main under another name.
  */
 #define main page
 #include "use.c"
@@ -108,6 +108,7 @@ int main(void)
         || rozhinal_post(LENT, 1, ROZHINAL_NUMBER, 300).number != ROZHINAL_ACCEPTED)
         return 1;
     if (show_board(index, index_len, table, table_len) != ROZHINAL_ACCEPTED
+        || swap_quota() != ROZHINAL_ACCEPTED
         || close_season(index, index_len, table, table_len) != ROZHINAL_ACCEPTED)
         return 1;
     if (!catches_up(index, index_len, table) || !works_out_anew(index, index_len))

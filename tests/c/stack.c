@@ -61,6 +61,7 @@ static void nothing(void) { number = 0; }
 static void open_bare(void) { number = rozhinal_open_bare(LENT).number; }
 static void open_full(void) { number = rozhinal_open_full(LENT).number; }
 static void post(void) { number = rozhinal_post(LENT, 0, ROZHINAL_NUMBER, ++posted).number; }
+static void swap(void) { number = rozhinal_swap(LENT, 0, ENTRIES - 1, 1).number; }
 static void keep(void) { number = rozhinal_keep(LENT, LAST).number; }
 static void drop(void) { number = rozhinal_drop(LENT, LAST).number; }
 static void step(void) { number = rozhinal_step(LENT, 0).number; }
@@ -128,7 +129,8 @@ static const struct {
     { "post", post },           { "board", board },                 { "post", post },
     { "close", close_run },     { "drop", drop }, { "post", post }, { "step", step },
     { "close", close_run },     { "open_bare", open_bare },         { "close", close_run },
-    { "print", print },
+    { "swap", swap },           { "ask", ask },   { "swap", swap }, { "open_full", open_full },
+    { "swap", swap },           { "step", step }, { "print", print },
 };
 enum { CALLS = sizeof calls / sizeof *calls };
 
