@@ -1,5 +1,5 @@
 -- Worked cases, computed by the definitions: a chain of two figures that is caught up in part, and closed; a figure that its own
--- telling stores; a stored NULL; a guarded share; steps on a ladder and on a pair; the example day.
+-- telling stores; a stored NULL; a guarded share; steps on a ladder and on a pair; the example day; a swap of NULL.
 -- Assumes nothing.
 use Prim.Native.Nat.{ℕ}
 use mathlib.Core.Path.{_≡_, refl}
@@ -14,7 +14,7 @@ use Rattle.circuit.specs.Table.{Table, unk, held, unmarked, notice, open
 use Rattle.circuit.specs.Machine.{Looked, gather, workOutBy, lookFor, lookUp, workOut, storePosting, keepFigure, dropFigure, tellChild, tellBelow, tell, clearMark, stepItem, lowestMarked}
 use Rattle.circuit.specs.Machine.{catchUpIn, catchUp}
 use Rattle.circuit.specs.Owed.{anyBelow, owedFor, owed}
-use Rattle.circuit.specs.Call.{Call, post, keep, drop, step, ask, close}
+use Rattle.circuit.specs.Call.{Call, post, keep, drop, step, ask, close, swap}
 use Rattle.circuit.specs.Closing.{closedValue, closeItem, closeBelow, closeAll}
 use Rattle.circuit.specs.Calls.{Outcome, perform, run, tests, firstCause, effect, postedValue, storePostings}
 use Rattle.circuit.specs.Swap.{noSwap, resultsBeyond}
@@ -183,3 +183,21 @@ pub day-lines : lines daySheet (openBare daySheet) dayCalls
     ≡ line 0 none ∷ line 0 none ∷ line 0 (some (num (pos 700))) ∷ line 0 none ∷ line 0 (some (num (pos 500))) ∷ line 12 none ∷ line 11 none ∷ []
 unfolding machine daySheet dayCalls lines
 day-lines = refl
+
+-- A swap between two entries that hold NULL, which counts as 0; what is lost is gained. And back again: both hold 0.
+unfoldable pub twoEntries : Sheet
+twoEntries = entry ∷ entry ∷ []
+
+unfoldable pub swappedOnce : Table
+swappedOnce = run twoEntries (openBare twoEntries) (swap 0 1 (pos 3) ∷ [])
+
+pub swap-of-null : (perform twoEntries (openBare twoEntries) (swap 0 1 (pos 3)) .number ≡ 0)
+    × (swappedOnce 0 ≡ held (num (negsuc 2)) notice)
+    × (swappedOnce 1 ≡ held (num (pos 3)) notice)
+unfolding machine twoEntries swappedOnce run
+swap-of-null = (refl, refl, refl)
+
+pub swap-back : (run twoEntries swappedOnce (swap 1 0 (pos 3) ∷ []) 0 ≡ held (num (pos 0)) notice)
+    × (run twoEntries swappedOnce (swap 1 0 (pos 3) ∷ []) 1 ≡ held (num (pos 0)) notice)
+unfolding machine twoEntries swappedOnce run
+swap-back = (refl, refl)

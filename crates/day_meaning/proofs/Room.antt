@@ -10,7 +10,7 @@ use lib.Dec.{eqb}
 use lib.ListN.{length, take, getD, length-append, length-take}
 use lib.ListN
 use lib.Seq.{getD-take, getD-drop, take-all, length-take-le}
-use Rattle.circuit.specs.Call.{bare, Call, post, keep, drop, step, ask, board, close}
+use Rattle.circuit.specs.Call.{bare, Call, post, keep, drop, step, ask, board, close, swap}
 use Rattle.circuit.specs.Calls.{Test, test, firstCause, tests, Outcome, effect}
 use Rattle.field.specs.Field.{cutAt, Bytes}
 use Rattle.field.specs.declared.Cut.{Cut}
@@ -50,6 +50,7 @@ itemOf (step i) = i
 itemOf (ask i) = i
 itemOf (board items results) = 0
 itemOf close = 0
+itemOf (swap giver taker quantity) = 0
 
 -- a field that orders a call has at least 2 bytes, the first of which are the item
 pub record Ordering (content : List ℕ) (c : Call) : Type 0 where
@@ -130,6 +131,8 @@ number-at-most s x t c edition ps r = rw r (given (firstCause (callTests (sheetR
     own (ask i) = cause-at-most 11 _ _ (omega arith) no-cause
     own (board items results) = cause-at-most 17 _ _ (omega arith) (cause-at-most 11 _ _ (omega arith) no-cause)
     own close = no-cause
+    own (swap giver taker quantity) =
+        cause-at-most 11 _ _ (omega arith) (cause-at-most 12 _ _ (omega arith) (cause-at-most 18 _ _ (omega arith) (cause-at-most 13 _ _ (omega arith) no-cause)))
 
     all : (c : Call) → firstCause (callTests (sheetRead edition ps) ps (keeping x t) c) ≤ 99
     all c = cause-at-most 8 _ _ (omega arith) (cause-at-most 9 _ _ (omega arith) (cause-at-most 10 _ _ (omega arith) (own c)))
@@ -164,6 +167,7 @@ line-short (drop i) g h k = answer-short (g .number) h
 line-short (step i) g h k = answer-short (g .number) h
 line-short (board items results) g h k = answer-short (g .number) h
 line-short close g h k = answer-short (g .number) h
+line-short (swap giver taker quantity) g h k = answer-short (g .number) h
 line-short (ask i) g h k = reading-short i (g .number) _ k (text-small (g .kind) (g .value)) h
 
 -- a last line: its word, a number of at most two digits and an offset of at most five

@@ -8,7 +8,7 @@ use mathlib.Core.Option.{Option, none, some}
 use lib.Dec.{ltb}
 use lib.ListN.{length, take}
 use lib.ListN
-use Rattle.circuit.specs.Call.{Call, post, keep, drop, step, ask, board, close, bare}
+use Rattle.circuit.specs.Call.{Call, post, keep, drop, step, ask, board, close, swap, bare}
 use Rattle.field.specs.Field.{cutAt}
 use Rattle.field.specs.declared.Cut.{Cut}
 use Rattle.field.specs.declared.Cut.the-variants.{Field, Short, Absent}
@@ -32,7 +32,7 @@ abbrev pub readingLine : ℕ → ℕ → List ℕ → List ℕ
 readingLine item zero text = askLine item text
 readingLine item (suc k) text = noLine (suc k)
 
--- the line of a call, by what the call gave (no field of a day log orders a board or a season-close run)
+-- the line of a call, by what the call gave (no field of a day log orders a board, a season-close run or a swap)
 abbrev pub lineOf : Call → Given → List ℕ
 lineOf (post i kind z) g = answerLine (g .number)
 lineOf (keep i) g = answerLine (g .number)
@@ -40,6 +40,7 @@ lineOf (drop i) g = answerLine (g .number)
 lineOf (step i) g = answerLine (g .number)
 lineOf (board items results) g = answerLine (g .number)
 lineOf close g = answerLine (g .number)
+lineOf (swap giver taker quantity) g = answerLine (g .number)
 lineOf (ask i) g = readingLine i (g .number) (textOf (partsOf (g .kind) (g .value)))
 
 -- the number of a fault of the day log

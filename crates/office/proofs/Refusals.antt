@@ -477,8 +477,8 @@ module _ (s : List ℕ) (kept : Office) (c : Call) where
   own-accepted = (
     λ e. (accepted-lent s kept c e, turned-back (calling c) s kept .accepted .0 e .lent .1 .1 .1),
     λ h.
-    let all = h .0 .lent in
-    turned-back (calling c) s kept .accepted .1 (record { sheet = h .0 .sheet; lent = (all .0, (all .1 .0, (all .1 .1 .0, h .1))) }),
+        let all = h .0 .lent in
+        turned-back (calling c) s kept .accepted .1 (record { sheet = h .0 .sheet; lent = (all .0, (all .1 .0, (all .1 .1 .0, h .1))) }),
   )
 
 -- A board's own refusals, in their order.
