@@ -132,6 +132,13 @@ past-two true b ts k e h = absurd (omega arith)
 past-two false true ts k e h = absurd (omega arith)
 past-two false false ts k e h = (refl, refl)
 
+-- neither of them holds
+pub second-false : (a b : Bool) (k : ℕ) → k ≡ firstCause (test 11 a ∷ test 12 b ∷ []) → k ≡ 0 → b ≡ false
+unfolding firstCause
+second-false true b k e h = absurd (omega arith)
+second-false false true k e h = absurd (omega arith)
+second-false false false k e h = refl
+
 -- ---- the answer of a call
 
 pub refused-answer : (S : Sheet) (x t : List ℕ) (c : Call) (r : Answer) (k : ℕ) → firstCause (tests S (decodeTable t) c) ≡ k → (k ≡ 0 → ⊥)

@@ -15,7 +15,6 @@ ghost use Rattle.value.specs.Meaning.{meaning};
 ghost use Rattle.layout.specs.Opened.{sheetOf};
 ghost use Rattle.table.specs.Record.{width};
 ghost use Rattle.table.specs.Bytes.{decodeTable};
-ghost use Rattle.table.specs.Meaning.{cellMeaning};
 ghost use Rattle.office.specs.Office.{callOn, keeping};
 ghost use Rattle.admission.specs.Answers.{Answered, Left};
 ghost use Rattle.admission.specs.Admission.{Placing, callLent};

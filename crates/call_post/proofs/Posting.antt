@@ -22,19 +22,12 @@ use Rattle.looking.specs.Pass.{Lent}
 use Rattle.admission.specs.Admission.{callLent}
 use Rattle.admission.specs.Answers.{Answered, wrongItem}
 use Rattle.admission.specs.declared.Answer.{Answer}
-use Rattle.admission.proofs.Admitting.{item-refused, item-passed, item-low, refused-answer, accepted-answer}
+use Rattle.admission.proofs.Admitting.{item-refused, item-passed, item-low, second-false, refused-answer, accepted-answer}
 use Rattle.posting.proofs.Posting.{posting-encoded}
 
 pub posted-other : (kind : ℕ) (z : ℤ) (r : Option Value) → (kind ≡ 2 → ⊥) → r ≡ partsOf kind z → r ≡ postedValue kind z
 unfolding postedValue
 posted-other kind z r h e = e ∙ rw (ne-eqb kind 2 h)
-
--- the second test does not hold
-second-false : (a b : Bool) (k : ℕ) → k ≡ firstCause (test 11 a ∷ test 12 b ∷ []) → k ≡ 0 → b ≡ false
-unfolding firstCause
-second-false true b k e h = absurd (omega arith)
-second-false false true k e h = absurd (omega arith)
-second-false false false k e h = refl
 
 module _ {s offsets t : List ℕ} (lent : Lent s offsets t) (bytes : Bytes t) (owes : owedTrue (sheetOf s) t ≡ true) (x : List ℕ) (item kind : ℕ) (z : ℤ) (cause : ℕ)
     (cause-is : cause ≡ firstCause (test 11 (noItem (sheetOf s) item) ∷ test 12 (wrongItem false (sheetOf s) item) ∷ [])) (r : Answer) (offset-is : r .offset ≡ 0) where

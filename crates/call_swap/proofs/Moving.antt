@@ -2,8 +2,8 @@
 -- Assumes nothing.
 use Prim.Native.Nat.{ℕ, zero, suc, _+_, _*_, _<_, _≤_}
 use native.Mathlib.Omega.{arith}
-use mathlib.Core.Path.{_≡_, refl, sym, ap, ap₂, _∙_}
-use mathlib.Core.Bool.{Bool, true, false, cond, not, _&&_}
+use mathlib.Core.Path.{_≡_, sym, ap, ap₂, _∙_}
+use mathlib.Core.Bool.{Bool, true, false, not}
 use lib.IntN.{ℤ, pos, negsuc, natAbs, negℤ, _+ℤ_, _-ℤ_, +ℤ-comm, +ℤ-negℤ-cancel}
 use lib.Signed.{ltZ}
 use borrow.Author.Tests.{ltb-true, ltb-false, lt-leb, not-true, not-false}
@@ -14,8 +14,7 @@ use Rattle.circuit.specs.Rules.{maxParents}
 use Rattle.circuit.specs.Swap.{counted}
 use Rattle.circuit.proofs.RuleLaws.{add-size, neg-size, inRange-size, number-inRange}
 use Rattle.value.proofs.Signed.{fits, back, read}
-use Rattle.call_swap.specs.Results.{resultsOf}
-use Rattle.call_swap.specs.declared.Results.{Results}
+use Rattle.call_swap.specs.Results.{swapResults}
 use Rattle.call_swap.specs.declared.Results.the-variants.{Within, Beyond}
 
 -- ---- quantities on both sides of a limit
@@ -46,13 +45,13 @@ far x q e h = lt-leb (natAbs (x -ℤ q)) limit (omega (arith, sum, neg-size q, n
         let whole : (x -ℤ q) -ℤ x ≡ negℤ q = ap (λ y. y -ℤ x) (+ℤ-comm x (negℤ q)) ∙ +ℤ-negℤ-cancel (negℤ q) x in
         omega (arith, add-size (x -ℤ q) (negℤ x), ap natAbs whole)
 
-results-far : (a b : Value) (q : ℤ) → wellFormed a ≡ true → 2 * limit < natAbs q → Beyond ≡ resultsOf a b q
+results-far : (a b : Value) (q : ℤ) → wellFormed a ≡ true → 2 * limit < natAbs q → Beyond ≡ swapResults a b q
 results-far a b q formed h = rw (far (counted a) q (number-inRange a formed) h)
 
-pub results-low : (a b : Value) (q : ℤ) → SFits w64 q → wellFormed a ≡ true → ltZ (read q) (negℤ (pos (2 * limit))) ≡ true → Beyond ≡ resultsOf a b q
+pub results-low : (a b : Value) (q : ℤ) → SFits w64 q → wellFormed a ≡ true → ltZ (read q) (negℤ (pos (2 * limit))) ≡ true → Beyond ≡ swapResults a b q
 results-low a b q f formed e = results-far a b q formed (low-size (2 * limit) q (rw (back q f) at e))
 
-pub results-high : (a b : Value) (q : ℤ) → SFits w64 q → wellFormed a ≡ true → ltZ (pos (2 * limit)) (read q) ≡ true → Beyond ≡ resultsOf a b q
+pub results-high : (a b : Value) (q : ℤ) → SFits w64 q → wellFormed a ≡ true → ltZ (pos (2 * limit)) (read q) ≡ true → Beyond ≡ swapResults a b q
 results-high a b q f formed e = results-far a b q formed (high-size (2 * limit) q (rw (back q f) at e))
 
 -- ---- the two results
@@ -72,7 +71,7 @@ module _ (a b : Value) (x q : ℤ) (fx : SFits w64 x) (fq : SFits w64 q) (ex : x
   left-is : read (read x -ℤ read q) ≡ counted a -ℤ q
   left-is = rw (back x fx, back q fq) (back (x -ℤ q) exact-left ∙ ap (λ z. z -ℤ q) ex)
 
-  pub left-beyond : (r : Bool) → r ≡ inRange (read (read x -ℤ read q)) → not r ≡ true → Beyond ≡ resultsOf a b q
+  pub left-beyond : (r : Bool) → r ≡ inRange (read (read x -ℤ read q)) → not r ≡ true → Beyond ≡ swapResults a b q
   left-beyond r e h = rw (ap inRange (sym left-is) ∙ sym e ∙ not-true r h)
 
   module _ (y : ℤ) (fy : SFits w64 y) (ey : y ≡ numberOf b) where
@@ -87,10 +86,10 @@ module _ (a b : Value) (x q : ℤ) (fx : SFits w64 x) (fq : SFits w64 q) (ex : x
     come-is = rw (back y fy, back q fq) (back (y +ℤ q) exact-come ∙ ap (λ z. z +ℤ q) ey)
 
     module _ (l : Bool) (el : l ≡ inRange (read (read x -ℤ read q))) (left-in : not l ≡ false) (r : Bool) (er : r ≡ inRange (read (read y +ℤ read q))) where
-      pub come-beyond : not r ≡ true → Beyond ≡ resultsOf a b q
+      pub come-beyond : not r ≡ true → Beyond ≡ swapResults a b q
       come-beyond h = rw (ap inRange (sym left-is) ∙ sym el ∙ not-false l left-in, ap inRange (sym come-is) ∙ sym er ∙ not-true r h)
 
-      pub both-within : not r ≡ false → Within (read (read x -ℤ read q)) (read (read y +ℤ read q)) ≡ resultsOf a b q
+      pub both-within : not r ≡ false → Within (read (read x -ℤ read q)) (read (read y +ℤ read q)) ≡ swapResults a b q
       both-within h =
           ap₂ Within left-is come-is
           ∙ rw (ap inRange (sym left-is) ∙ sym el ∙ not-false l left-in, ap inRange (sym come-is) ∙ sym er ∙ not-false r h)

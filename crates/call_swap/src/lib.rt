@@ -1,12 +1,11 @@
 // The call swap.
 ghost use mathlib.Core.Path.{_≡_};
-ghost use mathlib.Core.Bool.{true, false, _||_};
-ghost use mathlib.Core.List.{List, [], _∷_};
+ghost use mathlib.Core.Bool.{true};
+ghost use mathlib.Core.List.{List};
 ghost use Prim.Native.Nat.{ℕ};
 ghost use Rattle.circuit.specs.Value.{wellFormed};
 ghost use Rattle.circuit.specs.Swap as machine_swap;
 ghost use Rattle.circuit.specs.Call as machine_call;
-ghost use Rattle.circuit.specs.Calls.{firstCause, test, noItem, notEntry};
 ghost use Rattle.value.specs.Meaning.{meaning};
 ghost use Rattle.layout.specs.Opened.{sheetOf};
 ghost use Rattle.table.specs.Bytes.{owedTrue};
@@ -14,7 +13,7 @@ ghost use Rattle.office.specs.Office.{callOn, keeping};
 ghost use Rattle.admission.specs.Answers.{Answered};
 ghost use Rattle.admission.specs.Admission.{Placing, callLent};
 ghost use Rattle.looking.specs.Pass.{Lent};
-ghost use Rattle.call_swap.specs.Results.{resultsOf};
+ghost use Rattle.call_swap.specs.Results.{itemsCause, swapResults};
 use admission::Admitted;
 use admission::Answer;
 use value::Value;
@@ -33,7 +32,7 @@ const LEAST: i64 = -MOST;
 // 11 where either item is n or more, 12 where either is a figure; 0 otherwise.
 fn items_cause(sheet: &[u8], offsets: &[usize], n: usize, giver: u64, taker: u64) -> u64
     requires { ⌜ Placing (now sheet) (now offsets) n ⌝ }
-    ensures { λ r. ⌜ r ≡ firstCause (test 11 (noItem (sheetOf (now (sheet .entry))) giver || noItem (sheetOf (now (sheet .entry))) taker) ∷ test 12 (notEntry (sheetOf (now (sheet .entry))) giver || notEntry (sheetOf (now (sheet .entry))) taker) ∷ []) ⌝ }
+    ensures { λ r. ⌜ r ≡ itemsCause (sheetOf (now (sheet .entry))) giver taker ⌝ }
 {
     let first = admission::item_cause(sheet, offsets, n, giver, false);
     let second = admission::item_cause(sheet, offsets, n, taker, false);
@@ -62,7 +61,7 @@ fn no_swap(giver: u64, taker: u64, quantity: i64) -> bool
 // The results of a swap, by the values that the entries hold. No quantity overflows.
 fn swap_results(giver: Value, taker: Value, quantity: i64) -> Results
     requires { ⌜ wellFormed (meaning giver) ≡ true ⌝ ∗ ⌜ wellFormed (meaning taker) ≡ true ⌝ }
-    ensures { λ r. ⌜ r ≡ resultsOf (meaning giver) (meaning taker) quantity ⌝ }
+    ensures { λ r. ⌜ r ≡ swapResults (meaning giver) (meaning taker) quantity ⌝ }
 {
     if quantity < LEAST {
         return Results::Beyond;
@@ -102,9 +101,9 @@ fn swap_lent(
     }
     let i = giver as usize;
     let j = taker as usize;
-    let given = table::value_in(table::read_cell(table, i));
-    let taken = table::value_in(table::read_cell(table, j));
-    match swap_results(given, taken, quantity) {
+    let giver_holds = table::value_in(table::read_cell(table, i));
+    let taker_holds = table::value_in(table::read_cell(table, j));
+    match swap_results(giver_holds, taker_holds, quantity) {
         Results::Beyond => admission::give(13, 0),
         Results::Within { left, come } => {
             posting::store_posting(table, i, Value::number(left));

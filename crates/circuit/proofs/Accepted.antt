@@ -1,7 +1,7 @@
 -- What an accepted call has passed, and what it does. Assumes nothing.
 use Prim.Native.Nat.{ℕ, zero, suc, _<_}
 use mathlib.Core.Path.{_≡_, refl, ap}
-use mathlib.Core.Bool.{Bool, true, false}
+use mathlib.Core.Bool.{Bool, true, false, _&&_}
 use mathlib.Core.List.{List, [], _∷_}
 use native.Mathlib.Omega.{arith}
 use lib.IntN.{ℤ}
@@ -45,6 +45,15 @@ effect-number S T (board items results) = go (listed items)
     go (i ∷ is) = refl
 effect-number S T close = refl
 effect-number S T (swap giver taker quantity) = refl
+
+-- a call's number is its first cause
+pub perform-number : (S : Sheet) (T : Table) (c : Call) → perform S T c .number ≡ firstCause (tests S T c)
+unfolding perform
+perform-number S T c = go (firstCause (tests S T c))
+  where
+    go : (k : ℕ) → effectUnless k S T c .number ≡ k
+    go zero = effect-number S T c
+    go (suc k) = refl
 
 -- a call that met no cause has its effect
 pub accepted-effect : (S : Sheet) (T : Table) (c : Call) → firstCause (tests S T c) ≡ 0 → perform S T c ≡ effect S T c
@@ -111,7 +120,7 @@ tests-passed S E giver taker quantity e =
     let third = no-cause 17 _ _ (second .1) in
     let low = or-false _ _ (first .0) in
     let entries = or-false _ _ (second .0) in
-    let both = not-false _ (no-cause 12 _ _ (third .1) .0) in
+    let both : (inRange (leftWith E giver quantity) && inRange (comesTo E taker quantity)) ≡ true = not-false _ (no-cause 12 _ _ (third .1) .0) in
     record {
       giver-low = leb-false (size S) giver (low .0);
       taker-low = leb-false (size S) taker (low .1);

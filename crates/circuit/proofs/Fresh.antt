@@ -12,9 +12,9 @@ use lib.IntN.{ℤ, pos, negsuc, natAbs}
 use borrow.Author.Tests.{eqb-true, ne-eqb}
 use Rattle.circuit.specs.Value.{Value, null, out, num, inRange, sameNumber, partsOf}
 use Rattle.circuit.specs.Sheet.{Sheet, Entries, itemAt, isFigure, beyond}
-use Rattle.circuit.specs.Table.{Table, entriesOf}
+use Rattle.circuit.specs.Table.{Table}
 use Rattle.circuit.specs.Call.{Call, post, keep, drop, step, ask, board, close, swap, Posting}
-use Rattle.circuit.specs.Calls.{postedValue, isNone, tests, firstCause, effect, effectUnless, perform, postingOf, postingsBy, ifAccepted, postingsMade, postings}
+use Rattle.circuit.specs.Calls.{postedValue, isNone, tests, firstCause, effect, effectUnless, perform, postingOf, ifAccepted, postingsMade, postings}
 use Rattle.circuit.specs.Fresh.{Event, called, posted, fed, setEntry, postable, postedAs, hasCause, hear, hearAll}
 use Rattle.circuit.specs.Events.{events, freshRun}
 

@@ -1,25 +1,25 @@
--- Swaps. Over any of them, refused ones included, the sum of the entries stays (`swaps-sum`). On a sound table a swap's tests and postings
--- follow from the values that the fresh office holds (`swap-tests`, `swap-posts`). Assumes nothing.
+-- A swap, refused or not, keeps the sum of the entries (`swap-sum`); its number and postings follow from the values that the entries hold
+-- (`swap-number`, `swap-made`). Assumes nothing.
 use Prim.Native.Nat.{ℕ, zero, suc, _<_, _≤_}
 use native.Mathlib.Omega.{arith}
-use mathlib.Core.Path.{_≡_, refl, sym, ap, subst, _∙_}
-use mathlib.Core.Bool.{Bool, true, false, cond, not, _&&_, _||_}
-use mathlib.Core.List.{List, [], _∷_, map}
+use mathlib.Core.Path.{_≡_, refl, sym, ap, _∙_}
+use mathlib.Core.Bool.{Bool, true, false, cond, _||_}
+use mathlib.Core.List.{[], _∷_}
 use lib.Dec.{eqb}
 use lib.IntN.{ℤ, pos, negsuc, negℤ, _+ℤ_, _-ℤ_, +ℤ-assoc, +ℤ-comm, +ℤ-invr, +ℤ-negℤ-cancel, -ℤ-+ℤ-cancel}
 use lib.Signed.{ltZ}
-use borrow.Author.Tests.{eqb-true, eqb-false, eq-eqb, ne-eqb, leb-false}
-use Rattle.circuit.specs.Value.{Value, num, inRange}
+use borrow.Author.Tests.{eqb-true, eqb-false, ne-eqb, leb-false}
+use Rattle.circuit.specs.Value.{Value, num}
 use Rattle.circuit.specs.Sheet.{Sheet, Entries, size, itemAt, isFigure}
 use Rattle.circuit.specs.Table.{Table, entriesOf}
-use Rattle.circuit.specs.Call.{Call, swap, Posting}
+use Rattle.circuit.specs.Call.{swap}
 use Rattle.circuit.specs.Swap.{counted, leftWith, comesTo, noSwap, resultsBeyond, swapPostings, sumBelow, sumOf}
-use Rattle.circuit.specs.Calls.{test, noItem, notEntry, swapTests, tests, firstCause, effect, effectUnless, perform}
+use Rattle.circuit.specs.Calls.{noItem, notEntry, test, swapTests, tests, firstCause, effect, effectUnless, perform, ifAccepted, postingsMade}
 use Rattle.circuit.specs.Fresh.{setEntry}
 use Rattle.circuit.specs.Words.{Holds}
 use Rattle.circuit.proofs.RuleLaws.{or-false}
 use Rattle.circuit.proofs.Fresh.{entered}
-use Rattle.circuit.proofs.Accepted.{SwapPassed, swap-passed, tests-passed}
+use Rattle.circuit.proofs.Accepted.{perform-number, SwapPassed, tests-passed, swap-passed}
 use Rattle.circuit.proofs.Postings.{postings-entries}
 
 -- a number and another of 1 or more come to another number
@@ -34,8 +34,8 @@ moved x d some-d e = positive d some-d (sym (+ℤ-negℤ-cancel d x) ∙ ap (λ 
 -- ---- the sum
 
 -- what is added to the sum for item j
-abbrev share : Sheet → Entries → ℕ → ℤ
-share S E j = cond (isFigure (itemAt S j)) (pos 0) (counted (E j))
+abbrev addend : Sheet → Entries → ℕ → ℤ
+addend S E j = cond (isFigure (itemAt S j)) (pos 0) (counted (E j))
 
 -- a sum that does not reach e
 sum-beyond : (S : Sheet) (E : Entries) (e : ℕ) (v : Value) (k : ℕ) → k ≤ e → sumBelow S (setEntry E e v) k ≡ sumBelow S E k
@@ -51,7 +51,8 @@ unfolding sumBelow
 sum-set S E e v d entry by zero low = absurd (omega arith)
 sum-set S E e v d entry by (suc k) low = go (sum-set S E e v d entry by k) (eqb k e) refl
   where
-    go : (e < k → sumBelow S (setEntry E e v) k ≡ sumBelow S E k +ℤ d) → (b : Bool) → eqb k e ≡ b → sumBelow S (setEntry E e v) k +ℤ share S (setEntry E e v) k ≡ (sumBelow S E k +ℤ share S E k) +ℤ d
+    go : (e < k → sumBelow S (setEntry E e v) k ≡ sumBelow S E k +ℤ d) → (b : Bool) → eqb k e ≡ b
+        → sumBelow S (setEntry E e v) k +ℤ addend S (setEntry E e v) k ≡ (sumBelow S E k +ℤ addend S E k) +ℤ d
     go below true q =
         let here : k ≡ e = eqb-true k e q in
         let at : isFigure (itemAt S k) ≡ false = ap (λ j. isFigure (itemAt S j)) here ∙ entry in
@@ -59,7 +60,7 @@ sum-set S E e v d entry by (suc k) low = go (sum-set S E e v d entry by k) (eqb 
         (ap (λ j. sumBelow S E k +ℤ (counted (E j) +ℤ d)) (sym here) ∙ sym (+ℤ-assoc (sumBelow S E k) (counted (E k)) d))
     go below false q =
         let other : k ≡ e → ⊥ = eqb-false k e q in
-        let x : ℤ = share S E k in
+        let x : ℤ = addend S E k in
         rw (below (omega arith), q)
         (+ℤ-assoc (sumBelow S E k) d x ∙ ap (λ y. sumBelow S E k +ℤ y) (+ℤ-comm d x) ∙ sym (+ℤ-assoc (sumBelow S E k) x d))
 
@@ -93,13 +94,13 @@ swap-sum S T giver taker quantity = go (firstCause (tests S T (swap giver taker 
         ∙ swap-entered S (entriesOf T) giver taker quantity (swap-passed S T giver taker quantity e)
     go (suc k) e = refl
 
--- ---- by the fresh office's values
+-- ---- by the values that the entries hold
 
 module _ (S : Sheet) (T : Table) (E : Entries) (holds : Holds S T E) (giver taker : ℕ) (quantity : ℤ) where
-  -- the tests of a swap are those by the values that the entries hold
-  pub swap-tests : firstCause (tests S T (swap giver taker quantity)) ≡ firstCause (swapTests S E giver taker quantity)
+  -- a swap's number is that of its tests by these values
+  pub swap-number : perform S T (swap giver taker quantity) .number ≡ firstCause (swapTests S E giver taker quantity)
   unfolding tests firstCause resultsBeyond
-  swap-tests = go (noItem S giver || noItem S taker) (notEntry S giver || notEntry S taker) refl refl
+  swap-number = perform-number S T (swap giver taker quantity) ∙ go (noItem S giver || noItem S taker) (notEntry S giver || notEntry S taker) refl refl
     where
       go : (a b : Bool) → (noItem S giver || noItem S taker) ≡ a → (notEntry S giver || notEntry S taker) ≡ b
           → firstCause (test 11 a ∷ test 12 b ∷ test 18 (noSwap giver taker quantity) ∷ test 13 (resultsBeyond (entriesOf T) giver taker quantity) ∷ [])
@@ -111,8 +112,14 @@ module _ (S : Sheet) (T : Table) (E : Entries) (holds : Holds S T E) (giver take
           let entries = or-false _ _ f in
           rw (holds giver (leb-false (size S) giver (low .0)) (entries .0), holds taker (leb-false (size S) taker (low .1)) (entries .1))
 
-  -- and so are the postings of one that is accepted
-  pub swap-posts : firstCause (tests S T (swap giver taker quantity)) ≡ 0 → swapPostings (entriesOf T) giver taker quantity ≡ swapPostings E giver taker quantity
-  swap-posts e =
-      let passed = swap-passed S T giver taker quantity e in
-      rw (holds giver (passed .giver-low) (passed .giver-entry), holds taker (passed .taker-low) (passed .taker-entry))
+  -- and so are the postings that it makes
+  pub swap-made : postingsMade S T (swap giver taker quantity) ≡ ifAccepted (firstCause (swapTests S E giver taker quantity)) (swapPostings E giver taker quantity)
+  unfolding postingsMade
+  swap-made = go (firstCause (swapTests S E giver taker quantity)) refl
+    where
+      go : (k : ℕ) → firstCause (swapTests S E giver taker quantity) ≡ k
+          → ifAccepted (perform S T (swap giver taker quantity) .number) (swapPostings (entriesOf T) giver taker quantity) ≡ ifAccepted k (swapPostings E giver taker quantity)
+      go (suc k) e = rw (swap-number ∙ e)
+      go zero e =
+          let passed = tests-passed S E giver taker quantity e in
+          rw (swap-number ∙ e, holds giver (passed .giver-low) (passed .giver-entry), holds taker (passed .taker-low) (passed .taker-entry))

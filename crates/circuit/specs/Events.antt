@@ -6,7 +6,7 @@ use Rattle.circuit.specs.Call.{Call}
 use Rattle.circuit.specs.Calls.{perform, postingsMade}
 use Rattle.circuit.specs.Fresh.{Event, fed, hearAll}
 
--- of a list of calls on the table T: of each call what it is fed of it, with the postings that the call made
+-- of a list of calls on the table T: what it is fed of each, by the postings that the call made
 unfoldable pub events : Sheet → Table → List Call → List Event
 events S T [] = []
 events S T (c ∷ cs) = fed c (postingsMade S T c) ++ events S (perform S T c .table) cs

@@ -7,19 +7,21 @@ use mathlib.Core.List.{List, [], _∷_}
 use mathlib.Core.Logic.{inl, inr}
 use mathlib.Core.Option.{Option, none, some}
 use lib.Dec.{eqb, ltb}
+use lib.IntN.{ℤ}
 use lib.ListN.{length, length-map}
 use borrow.Author.Tests.{lt-ltb, le-ltb}
 use Rattle.circuit.specs.Value.{Value}
 use Rattle.circuit.specs.Circuit.{Listed, LeadsTo}
 use Rattle.circuit.specs.Sheet.{Sheet, Ordered, Entries, size, itemAt, isFigure, circuitOf}
 use Rattle.circuit.specs.Table.{Table, Mark, unmarked, unk, held, isStored, valueIn, opened}
-use Rattle.circuit.specs.Call.{Call, post, ask, board, close, postedTo, Opening, bare, full}
-use Rattle.circuit.specs.Calls.{Outcome, firstCause, tests, effect, perform, run, postingsMade, postings, postingOf, postedValue, ifAccepted}
+use Rattle.circuit.specs.Call.{Call, post, ask, board, close, swap, postedTo, Opening, bare, full}
+use Rattle.circuit.specs.Swap.{swapPostings}
+use Rattle.circuit.specs.Calls.{Outcome, firstCause, tests, swapTests, effect, perform, run, postingsMade, postings, postingOf, postedValue, ifAccepted}
 use Rattle.circuit.specs.Board.{listed, listsWrong}
 use Rattle.circuit.specs.Fresh.{blank, hearAll, give, freshAsk, freshAsks}
 use Rattle.circuit.specs.Events.{freshRun}
 use Rattle.circuit.specs.Closing.{closeAll}
-use Rattle.circuit.specs.Words.{droppedIn}
+use Rattle.circuit.specs.Words.{Holds, droppedIn}
 use Rattle.circuit.proofs.Solution.{figure-below}
 use Rattle.circuit.proofs.Offices.{Agree, Answers, Shows, two-offices, opened-sound}
 use Rattle.circuit.proofs.Retention.{Retained, call-retention}
@@ -28,6 +30,7 @@ use Rattle.circuit.proofs.View.{result-below}
 use Rattle.circuit.proofs.Invariant.{Justified, exact, due, awaits}
 use Rattle.circuit.proofs.Closing.{close-at}
 use Rattle.circuit.proofs.Sound.{Sound, run-sound}
+use Rattle.circuit.proofs.Swaps.{swap-number, swap-made}
 use Rattle.layout.specs.Read.{Placed, Scan, going, stopped, placeField, goOn, judge, itemTests, lastTests, headTests, scanItem, scan, scanEnd, afterLast, scanLast, scanSheet, conclude}
 use Rattle.layout.specs.Read.{headContent, SheetRead, opens, refused, readSheet, layoutOf}
 use Rattle.layout.specs.Content.{editionIn, countIn}
@@ -44,7 +47,7 @@ use Rattle.table.specs.Bytes.{encodeTable, Holdable}
 use Rattle.table.proofs.Tables.{encoded-kind, encoded-number, encodeTable-ext, bare-holdable, full-holdable}
 use Rattle.office.specs.Office.{Office, keeping, Given, resultsLent, accepted, openingTests, unlessRefused, callOn, openRead, openOn, runOn, kindRead, numberRead}
 use Rattle.office.specs.Demand2Words.{answerOf}
-use Rattle.office.specs.Demand3Words.{madeOn, postingsOn, freshAnswer, freshEntries, freshAfter, SameReading, Shown, shown, boardAfter, freshShown, freshBoard, SameBoard, SameAnswers}
+use Rattle.office.specs.Demand3Words.{madeOn, postingsOn, freshAnswer, freshEntries, freshAfter, SameReading, Shown, shown, boardAfter, freshShown, freshBoard, SameBoard, SameSwap, SameAnswers}
 use Rattle.office.specs.Demand3Words.{storedIn, StaysStored, Retains, RetainsPost}
 use Rattle.office.proofs.Cells.{kind-cell, parts-same, quiet-encoded}
 use Rattle.office.proofs.Holdable.{run-holdable, perform-holdable}
@@ -266,7 +269,7 @@ module _ (s : List ℕ) (edition : ℕ) (ps : List Placed) (reads : readSheet s 
   offices-same : (o p : Opening) (cs ds : List Call)
       → postingsOn s (at (start o)) cs ≡ postingsOn s (at (start p)) ds
       → SameAnswers s (at (start o)) cs (at (start p)) ds
-  offices-same o p cs ds equal = record { asks = same-reading; boards = same-board; closes = same-closed }
+  offices-same o p cs ds equal = record { asks = same-reading; boards = same-board; swaps = same-swap; closes = same-closed }
     where
       X : Sheet
       X = sheetRead edition ps
@@ -340,9 +343,37 @@ module _ (s : List ℕ) (edition : ℕ) (ps : List Placed) (reads : readSheet s 
               ap shownBy (called-after ds (start p) (board items results) (start-holdable p) (start-within p))
               ∙ shown-fresh X x results wrong _ _ (both .shows-other items results)
 
+      held-at : (how : Opening) (es : List Call) → Holds X (run X (start how) es) (freshRun X blank (start how) es)
+      held-at how es = run-sound X ordered es blank (start how) (start-sound how) .holds
+
+      -- a swap's number and postings, by the fresh office's values
+      swapped : (how : Opening) (es : List Call) (giver taker : ℕ) (quantity : ℤ) → let E : Entries = freshRun X blank (start how) es in
+          let k : ℕ = firstCause (swapTests X E giver taker quantity) in
+          (callOn s (runOn s (at (start how)) es) (swap giver taker quantity) .number ≡ k)
+          × (madeOn s (runOn s (at (start how)) es) (swap giver taker quantity) ≡ ifAccepted k (swapPostings E giver taker quantity))
+      swapped how es giver taker quantity =
+          let T : Table = run X (start how) es in
+          let E : Entries = freshRun X blank (start how) es in
+          let c : Call = swap giver taker quantity in (
+            ap (λ g. g .number) (called-after es (start how) c (start-holdable how) (start-within how)) ∙ swap-number X T E (held-at how es) giver taker quantity,
+            ap (λ q. madeOn s q c) (runs es (start how) (start-holdable how) (start-within how))
+                ∙ made T c (run-holdable X ordered es (start how) (start-holdable how)) (run-within X ordered es (start how) (start-within how))
+                ∙ swap-made X T E (held-at how es) giver taker quantity,
+          )
+
+      same-swap : (giver taker : ℕ) (quantity : ℤ) → SameSwap s (at (start o)) cs (at (start p)) ds (swap giver taker quantity)
+      same-swap giver taker quantity =
+          let one = swapped o cs giver taker quantity in
+          let two = swapped p ds giver taker quantity in
+          record {
+            number = one .0 ∙ ap (λ E. firstCause (swapTests X E giver taker quantity)) (both .heard) ∙ sym (two .0);
+            made =
+                one .1 ∙ ap (λ E. ifAccepted (firstCause (swapTests X E giver taker quantity)) (swapPostings E giver taker quantity)) (both .heard) ∙ sym (two .1);
+          }
+
       -- what the run leaves at an office is the fresh office's values
       closed-cell : (how : Opening) (es : List Call) (i : ℕ) → i < size X → closeAll X (run X (start how) es) i ≡ held (give X (freshRun X blank (start how) es) i) unmarked
-      closed-cell how es = close-at X ordered (freshRun X blank (start how) es) (run X (start how) es) (run-sound X ordered es blank (start how) (start-sound how) .holds)
+      closed-cell how es = close-at X ordered (freshRun X blank (start how) es) (run X (start how) es) (held-at how es)
 
       same-closed : callOn s (runOn s (at (start o)) cs) close .after ≡ callOn s (runOn s (at (start p)) ds) close .after
       same-closed =

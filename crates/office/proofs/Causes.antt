@@ -272,7 +272,7 @@ unfolding noSwap
 tells-no-swap giver taker quantity = tells-or (tells-eq giver taker) (tells-is (ltZ quantity (pos 1)))
 
 -- the number in a record in form is its value's, NULL as 0
-pub number-counted : (figure : Bool) (r : List ℕ) → ¬ RecordBroken limit figure (kindIn r) (markIn r) (numberIn r) → numberIn r ≡ counted (valueIn (decodeCell r))
+number-counted : (figure : Bool) (r : List ℕ) → ¬ RecordBroken limit figure (kindIn r) (markIn r) (numberIn r) → numberIn r ≡ counted (valueIn (decodeCell r))
 unfolding decodeCell
 number-counted figure r form = go _ _ (tells-eq k 0) (tells-eq k 1) (tells-eq k 2)
   where
@@ -296,6 +296,9 @@ number-counted figure r form = go _ _ (tells-eq k 0) (tells-eq k 1) (tells-eq k 
     go m l (fails p) (fails q) (holds w) = zero-number (λ e. omega arith)
     go m l (fails p) (fails q) (fails w) = refl
 
+pub item-number : (S : Sheet) (t : List ℕ) → ¬ TableBroken S t → (i : ℕ) → i < size S → numbersIn t i ≡ counted (valueIn (decodeTable t i))
+item-number S t form i low = number-counted (isFigure (itemAt S i)) (row width t i) (λ b. form (i, low, inl b))
+
 -- 13, of a swap whose items are in the sheet, where the table is not broken
 pub tells-results : (S : Sheet) (t : List ℕ) → ¬ TableBroken S t → (giver taker : ℕ) (quantity : ℤ) → ¬ (NoSuchItem S giver ⊎ NoSuchItem S taker)
     → Tells (ResultBeyond (numbersIn t) giver taker quantity) (resultsBeyond (entriesOf (decodeTable t)) giver taker quantity)
@@ -305,4 +308,4 @@ tells-results S t form giver taker quantity inside =
     (tells-not (refutes-and (refutes-range (counted (valueIn (decodeTable t giver)) -ℤ quantity)) (refutes-range (counted (valueIn (decodeTable t taker)) +ℤ quantity))))
   where
     number : (i : ℕ) → ¬ NoSuchItem S i → numbersIn t i ≡ counted (valueIn (decodeTable t i))
-    number i low = number-counted (isFigure (itemAt S i)) (row width t i) (λ b. form (i, omega (arith, low), inl b))
+    number i low = item-number S t form i (omega (arith, low))

@@ -17,7 +17,9 @@ use Rattle.word.specs.Word.{leAt, leBytes, bytes64}
 use Rattle.circuit.specs.Value.{limit, inRange, partsOf}
 use Rattle.circuit.specs.Call.{Call, post, keep, drop, step, ask, board, close, swap, bare, full}
 use Rattle.circuit.specs.Board.{listed, listsOff}
-use Rattle.circuit.specs.Swap.{noSwap, resultsBeyond}
+use Rattle.circuit.specs.Swap.{noSwap, resultsBeyond, sumBelow}
+use Rattle.layout.specs.Opened.{sheetOf}
+use Rattle.office.specs.SwapWords.{sumIn}
 use Rattle.circuit.specs.Calls.{firstCause, tests, someNoItem, postedValue, effect}
 use Rattle.circuit.specs.Sheet.{Sheet, member}
 use Rattle.circuit.specs.Table.{Table}
@@ -346,6 +348,12 @@ pub example-swap-back : runOn exampleBytes (keeping exampleIndex bareTable) (pos
     (unowed (3 ∷ 2 ∷ bytes64 (pos 1000)) ++ unowed (3 ∷ 2 ∷ bytes64 (pos 0)) ++ unowed nullRecord ++ unowed unkRecord ++ unowed unkRecord)
 unfolding calls machine runOn exampleBytes exampleIndex bareTable
 example-swap-back = refl
+
+-- The sum of the entries: of 1000, -200 and NULL it is 800, whatever the figures hold, and a swap leaves it.
+pub example-sum : (sumIn exampleBytes (runOn exampleBytes (keeping exampleIndex bareTable) (post 0 3 (pos 1000) ∷ post 2 3 (negsuc 199) ∷ ask 4 ∷ []) .table) ≡ pos 800)
+    × (sumIn exampleBytes (runOn exampleBytes (keeping exampleIndex bareTable) (post 0 3 (pos 1000) ∷ post 2 3 (negsuc 199) ∷ ask 4 ∷ swap 0 1 (pos 40) ∷ []) .table) ≡ pos 800)
+unfolding calls machine runOn exampleBytes exampleIndex bareTable sheetOf sumBelow
+example-sum = (refl, refl)
 
 -- A chain of sums: entry A, figures B, C and D of the item before each; B and C renew, D defers.
 unfoldable pub chainBytes : List ℕ

@@ -39,7 +39,7 @@ use Rattle.office.proofs.OwedBytes.{unfalse-right}
 use Rattle.office.proofs.Holdable.{perform-holdable}
 use Rattle.office.proofs.Lent.{ordered as lent-ordered, holdable as lent-holdable, within, encoded}
 use Rattle.office.proofs.Bridge.{Within, posting-within, decode-within}
-use Rattle.office.proofs.Causes.{refutes-range, number-counted}
+use Rattle.office.proofs.Causes.{refutes-range, item-number}
 use Rattle.office.proofs.Boards.{board-leaves, board-asks}
 use Rattle.office.proofs.Closes.{close-leaves}
 use Rattle.office.proofs.Cells.{held-kind, held-number, unk-kind, unk-number, mark-cell, stored-encoded, encoded-quiet}
@@ -453,7 +453,7 @@ posted-number z inside = go (refutes-range z)
     go (wrong h) = absurd (inside h)
 
 -- What a swap leaves: what two posts leave, the giver's and then the taker's.
-module _ (s : List ℕ) (kept : Office) (lent : AcceptedLent s kept) (bytes : Bytes (kept .table)) (giver taker : ℕ) (quantity : ℤ)
+module _ (s : List ℕ) (kept : Office) (lent : AcceptedLent s kept) (giver taker : ℕ) (quantity : ℤ)
     (accepts : callOn s kept (swap giver taker quantity) .number ≡ 0) where
   abbrev before : ℕ → ℤ
   before = numbersIn (kept .table)
@@ -489,11 +489,11 @@ module _ (s : List ℕ) (kept : Office) (lent : AcceptedLent s kept) (bytes : By
   second-accepted : second .number ≡ 0
   second-accepted = post-accepted (first .after) second-lent taker _ (parts .2) (λ h. parts .4 (inr h))
 
-  first-left : PostLeaves (size (sheetOf s)) (kept .table) giver 3 (before giver -ℤ quantity) (first .after .table)
-  first-left = post-leaves s kept lent bytes giver 3 _ first-accepted
+  first-left : Bytes (kept .table) → PostLeaves (size (sheetOf s)) (kept .table) giver 3 (before giver -ℤ quantity) (first .after .table)
+  first-left bytes = post-leaves s kept lent bytes giver 3 _ first-accepted
 
-  second-left : PostLeaves (size (sheetOf s)) (first .after .table) taker 3 (before taker +ℤ quantity) (second .after .table)
-  second-left =
+  second-left : Bytes (kept .table) → PostLeaves (size (sheetOf s)) (first .after .table) taker 3 (before taker +ℤ quantity) (second .after .table)
+  second-left bytes =
       post-leaves s (first .after) second-lent (stays-bytes s kept lent bytes (post giver 3 (numbersIn (kept .table) giver -ℤ quantity))) taker 3 _ second-accepted
 
   -- the machine's two postings, in bytes
@@ -517,7 +517,7 @@ module _ (s : List ℕ) (kept : Office) (lent : AcceptedLent s kept) (bytes : By
       b = before taker +ℤ quantity
 
       number-of : (e : ℕ) → IsEntry S e → before e ≡ counted (valueIn (T e))
-      number-of e entry = number-counted (isFigure (itemAt S e)) (row width (kept .table) e) (λ h. lent .lent .1 .1 .0 (e, entry .0, inl h))
+      number-of e entry = item-number S (kept .table) (lent .lent .1 .1 .0) e (entry .0)
 
       numbers-are : storePosting (storePosting T giver (num (counted (valueIn (T giver)) -ℤ quantity))) taker (num (counted (valueIn (T taker)) +ℤ quantity))
           ≡ storePosting (storePosting T giver (num a)) taker (num b)
@@ -558,22 +558,22 @@ module _ (s : List ℕ) (kept : Office) (lent : AcceptedLent s kept) (bytes : By
   two e = parts .3 (inl (sym e))
 
   -- the taker's record is not the giver's
-  taker-row : row width (first .after .table) taker ≡ row width (kept .table) taker
-  taker-row = first-left .others taker (parts .2 .0) two
+  taker-row : Bytes (kept .table) → row width (first .after .table) taker ≡ row width (kept .table) taker
+  taker-row bytes = first-left bytes .others taker (parts .2 .0) two
 
-  giver-row : row width (second .after .table) giver ≡ row width (first .after .table) giver
-  giver-row = second-left .others giver (parts .1 .0) (λ e. two (sym e))
+  giver-row : Bytes (kept .table) → row width (second .after .table) giver ≡ row width (first .after .table) giver
+  giver-row bytes = second-left bytes .others giver (parts .1 .0) (λ e. two (sym e))
 
-  two-leave : SwapLeaves s kept giver taker quantity (second .after)
-  two-leave =
+  two-leave : Bytes (kept .table) → SwapLeaves s kept giver taker quantity (second .after)
+  two-leave bytes =
       record {
-        giver-is = (ap kindIn giver-row ∙ first-left .kind-is, ap numberIn giver-row ∙ first-left .number-is);
-        taker-is = (second-left .kind-is, second-left .number-is);
+        giver-is = (ap kindIn (giver-row bytes) ∙ first-left bytes .kind-is, ap numberIn (giver-row bytes) ∙ first-left bytes .number-is);
+        taker-is = (second-left bytes .kind-is, second-left bytes .number-is);
         noticed = (
-          ap markIn giver-row ∙ first-left .noticed (λ h. given-up (sym (h .1))),
-          second-left .noticed (λ h. moved (before taker) quantity some-quantity (sym (ap numberIn (sym taker-row) ∙ h .1))),
+          ap markIn (giver-row bytes) ∙ first-left bytes .noticed (λ h. given-up (sym (h .1))),
+          second-left bytes .noticed (λ h. moved (before taker) quantity some-quantity (sym (ap numberIn (sym (taker-row bytes)) ∙ h .1))),
         );
-        others = λ j low g t. second-left .others j low t ∙ first-left .others j low g;
+        others = λ j low g t. second-left bytes .others j low t ∙ first-left bytes .others j low g;
         as-posts = (first-accepted, second-accepted, refl);
       }
     where
@@ -582,8 +582,11 @@ module _ (s : List ℕ) (kept : Office) (lent : AcceptedLent s kept) (bytes : By
       given-up e =
           moved (before giver -ℤ quantity) quantity some-quantity (-ℤ-+ℤ-cancel (before giver) quantity ∙ sym e)
 
-  pub swap-leaves : SwapLeaves s kept giver taker quantity (callOn s kept (swap giver taker quantity) .after)
-  swap-leaves = subst (SwapLeaves s kept giver taker quantity) (sym both-posts) two-leave
+  pub swap-leaves : Bytes (kept .table) → SwapLeaves s kept giver taker quantity (callOn s kept (swap giver taker quantity) .after)
+  swap-leaves bytes = subst (SwapLeaves s kept giver taker quantity) (sym both-posts) (two-leave bytes)
+
+  pub swap-posts : (first .number ≡ 0) × (second .number ≡ 0) × (callOn s kept (swap giver taker quantity) .after ≡ second .after)
+  swap-posts = (first-accepted, second-accepted, both-posts)
 
 pub leaves : (s : List ℕ) (kept : Office) → AcceptedLent s kept → Bytes (kept .table) → CallsLeave s kept
 leaves s kept lent bytes =
@@ -602,5 +605,5 @@ leaves s kept lent bytes =
       board-asks = λ items results z. board-asks s kept lent bytes items results z;
       board-quiet = board-quiets s kept lent bytes;
       closes = λ z. close-leaves s kept lent bytes;
-      swaps = λ giver taker quantity z. swap-leaves s kept lent bytes giver taker quantity z;
+      swaps = λ giver taker quantity z. swap-leaves s kept lent giver taker quantity z bytes;
     }

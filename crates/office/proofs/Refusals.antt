@@ -26,8 +26,8 @@ use Rattle.table.specs.Record.{width}
 use Rattle.table.specs.Bytes.{decodeTable, tableForm, owedTrue}
 use Rattle.office.specs.Office.{Office, Given, resultsLent, refusal, accepted, openingTests, callTests, unlessRefused, effectOn, callRead, callOn, openRead, openOn}
 use Rattle.office.specs.Demand1Words.{Invocation, opening, calling, serve, resultsLentTo, TableBroken, NotPostable, Row, cause, ownCauses, causesIn, causesOf, First, NoneHolds}
-use Rattle.office.specs.Demand1Words.{HoldsAt, ByNumber, Lowest, Refused, bySheet, byLent, NoCause, ListsWrong, SomeNoItem, lentCauses, AcceptedLent, BoardRefuses, CloseRefuses}
-use Rattle.office.specs.Demand1Words.{NoSuchItem, ToFigure, IsEntry, NoSwap, ResultBeyond, numbersIn, SwapRefuses}
+use Rattle.office.specs.Demand1Words.{HoldsAt, ByNumber, Lowest, Refused, bySheet, byLent, NoCause, ListsWrong, SomeNoItem, AcceptedLent, BoardRefuses, CloseRefuses}
+use Rattle.office.specs.Demand1Words.{lentCauses, NoSuchItem, ToFigure, IsEntry, NoSwap, ResultBeyond, numbersIn, SwapRefuses}
 use Rattle.office.proofs.Causes.{tells-is, tells-is-not, tells-lengths, tells-index, tells-table, tells-beyond, tells-lists, tells-listed, tells-posted, tells-mark, tells-no-swap, tells-results}
 
 -- ---- the first cause

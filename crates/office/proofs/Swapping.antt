@@ -2,52 +2,46 @@
 -- office's values (`office-swap-follows`), and in a list it counts as its two posts (`swap-counts`). Assumes nothing.
 use Prim.Native.Nat.{ℕ, zero, suc, _<_}
 use native.Mathlib.Omega.{arith}
-use mathlib.Core.Path.{_≡_, refl, sym, ap, ap₂, _∙_, subst, subst₂}
+use mathlib.Core.Path.{_≡_, refl, sym, ap, ap₂, _∙_, subst}
 use mathlib.Core.Bool.{Bool, true, false}
 use mathlib.Core.List.{List, [], _∷_, _++_}
-use mathlib.Core.Logic.{_⊎_, inl, inr, _↔_}
-use mathlib.Core.Option.{some}
+use mathlib.Core.Logic.{_⊎_, inl, inr}
 use lib.IntN.{ℤ, _+ℤ_, _-ℤ_}
-use Rattle.circuit.specs.Value.{Value, num}
+use Rattle.circuit.specs.Value.{num}
 use Rattle.circuit.specs.Sheet.{Sheet, Entries, Ordered, size, itemAt, isFigure}
 use Rattle.circuit.specs.Table.{Table, entriesOf}
-use Rattle.circuit.specs.Call.{Call, post, swap, Posting, posting, Opening}
+use Rattle.circuit.specs.Call.{Call, post, swap, posting, Opening}
 use Rattle.circuit.specs.Swap.{counted, swapPostings, sumOf}
-use Rattle.circuit.specs.Calls.{effect, perform, run, postingsBy, postingOf, postedValue, ifAccepted, postingsMade}
+use Rattle.circuit.specs.Calls.{effect, run, postingOf, postedValue, ifAccepted}
 use Rattle.circuit.specs.Fresh.{blank}
 use Rattle.circuit.specs.Events.{freshRun}
 use Rattle.circuit.specs.Words.{Holds}
 use Rattle.circuit.proofs.Swaps.{swap-sum}
 use Rattle.circuit.proofs.Sound.{run-sound}
-use Rattle.layout.specs.Read.{Placed, opens, readSheet}
 use Rattle.layout.specs.Opened.{sheetRead, sheetOf}
-use Rattle.layout.specs.Index.{indexBytes}
 use Rattle.layout.proofs.Tests.{Tells, holds, fails, tells-eq}
-use Rattle.word.specs.Word.{Bytes}
-use Rattle.table.specs.Rows.{row}
-use Rattle.table.specs.Record.{width}
-use Rattle.table.specs.Bytes.{encodeTable, decodeTable, Holdable}
-use Rattle.office.specs.Office.{Office, keeping, callOn, openOn, runOn}
-use Rattle.office.specs.Demand1Words.{calling, AcceptedLent, NoSuchItem, ToFigure, IsEntry, NoSwap, ResultBeyond, First, NoneHolds, swapCauses, numbersIn}
-use Rattle.office.specs.Demand2Words.{entriesIn, SwapLeaves}
+use Rattle.table.specs.Bytes.{decodeTable, Holdable}
+use Rattle.office.specs.Office.{Office, Given, callOn, openOn, runOn}
+use Rattle.office.specs.Demand1Words.{calling, byLent, causesOf, BeyondRange, AcceptedLent, NoSuchItem, ToFigure, IsEntry, NoSwap, ResultBeyond, First, NoneHolds, swapCauses, numbersIn}
+use Rattle.office.specs.Demand2Words.{entriesIn}
 use Rattle.office.specs.Demand3Words.{madeOn, postingsOn, freshEntries}
-use Rattle.office.specs.SwapWords.{Swapping, swapsOf, sumIn, SwapFollows, postsOf, CountsAsPosts}
+use Rattle.office.specs.SwapWords.{Swapping, swapsOf, sumIn, SwapFollows, CountsAsPosts}
 use Rattle.office.proofs.Accepted.{office-accepted}
 use Rattle.office.proofs.Agreeing as opened
 use Rattle.office.proofs.Agreeing.{Opens, opening-opens}
 use Rattle.office.proofs.Bridge.{Within, decode-within, perform-within, run-within}
-use Rattle.office.proofs.Causes.{number-counted}
+use Rattle.office.proofs.Causes.{item-number}
 use Rattle.office.proofs.Holdable.{run-holdable}
-use Rattle.office.proofs.Lent.{ordered, holdable, within}
+use Rattle.office.proofs.Lent.{ordered, within}
 use Rattle.office.proofs.Leaves as left
 use Rattle.office.proofs.Refusals.{turned-back, own-refused, own-accepted, swap-refuses}
 
 -- ---- the sum
 
 -- one swap, refused or not
-swap-keeps-sum : (s : List ℕ) (o : Office) → AcceptedLent s o → (giver taker : ℕ) (quantity : ℤ)
+swap-keeps-sum : (s : List ℕ) (o : Office) (giver taker : ℕ) (quantity : ℤ)
     → sumIn s (callOn s o (swap giver taker quantity) .after .table) ≡ sumIn s (o .table)
-swap-keeps-sum s o lent giver taker quantity = go (tells-eq (callOn s o c .number) 0)
+swap-keeps-sum s o giver taker quantity = go (tells-eq (callOn s o c .number) 0)
   where
     c : Call
     c = swap giver taker quantity
@@ -61,6 +55,7 @@ swap-keeps-sum s o lent giver taker quantity = go (tells-eq (callOn s o c .numbe
     go : {b : Bool} → Tells (callOn s o c .number ≡ 0) b → sumIn s (callOn s o c .after .table) ≡ sumIn s (o .table)
     go (fails n) = ap (λ p. sumIn s (p .table)) (turned-back (calling c) s o .left n .0)
     go (holds z) =
+        let lent : AcceptedLent s o = swap-refuses s o giver taker quantity .accepted .0 z .0 in
         ap (λ g. sumIn s (g .after .table)) (left.is s o lent c z)
         ∙ ap (λ U. sumOf S (entriesOf U))
         (decode-within S (effect S T c .table) (left.effect-holdable s o lent c z)
@@ -68,12 +63,12 @@ swap-keeps-sum s o lent giver taker quantity = go (tells-eq (callOn s o c .numbe
         ∙ ap (λ e. sumOf S (entriesOf (e .table))) (sym (left.performs s o lent c z))
         ∙ swap-sum S T giver taker quantity
 
-pub swaps-keep-sum : (s : List ℕ) (o : Office) → AcceptedLent s o → (xs : List Swapping) → sumIn s (runOn s o (swapsOf xs) .table) ≡ sumIn s (o .table)
+pub swaps-keep-sum : (s : List ℕ) (o : Office) (xs : List Swapping) → sumIn s (runOn s o (swapsOf xs) .table) ≡ sumIn s (o .table)
 unfolding runOn
-swaps-keep-sum s o lent [] = refl
-swaps-keep-sum s o lent (x ∷ xs) =
+swaps-keep-sum s o [] = refl
+swaps-keep-sum s o (x ∷ xs) =
     let c : Call = swap (x .giver) (x .taker) (x .quantity) in
-    swaps-keep-sum s (callOn s o c .after) (left.stays-accepted s o lent c) xs ∙ swap-keeps-sum s o lent (x .giver) (x .taker) (x .quantity)
+    swaps-keep-sum s (callOn s o c .after) xs ∙ swap-keeps-sum s o (x .giver) (x .taker) (x .quantity)
 
 -- ---- by the fresh office's values
 
@@ -94,7 +89,7 @@ module _ (S : Sheet) (f g : ℕ → ℤ) (same : (e : ℕ) → IsEntry S e → f
 
   beyond-same : ¬ (NoSuchItem S giver ⊎ NoSuchItem S taker) → ¬ (ToFigure S giver ⊎ ToFigure S taker)
       → ResultBeyond f giver taker quantity ≡ ResultBeyond g giver taker quantity
-  beyond-same low plain = let both = agree low plain in ap₂ (λ x y. Rattle.office.specs.Demand1Words.BeyondRange (x -ℤ quantity) ⊎ Rattle.office.specs.Demand1Words.BeyondRange (y +ℤ quantity)) (both .0) (both .1)
+  beyond-same low plain = let both = agree low plain in ap₂ (λ x y. BeyondRange (x -ℤ quantity) ⊎ BeyondRange (y +ℤ quantity)) (both .0) (both .1)
 
   pub first-same : (k : ℕ) → First (swapCauses S f giver taker quantity) k → First (swapCauses S g giver taker quantity) k
   first-same k (inl a) = inl a
@@ -111,7 +106,7 @@ module _ (s : List ℕ) (p : Office) (lent : AcceptedLent s p) (E : Entries) (ho
     (giver taker : ℕ) (quantity : ℤ) where
   number-is : (e : ℕ) → IsEntry (sheetOf s) e → numbersIn (p .table) e ≡ counted (E e)
   number-is e entry =
-      number-counted (isFigure (itemAt (sheetOf s) e)) (row width (p .table) e) (λ h. lent .lent .1 .1 .0 (e, entry .0, inl h)) ∙ ap counted (holds-e e entry)
+      item-number (sheetOf s) (p .table) (lent .lent .1 .1 .0) e (entry .0) ∙ ap counted (holds-e e entry)
 
   follows : SwapFollows s p E giver taker quantity
   follows =
@@ -145,9 +140,9 @@ module _ (s : List ℕ) (p : Office) (lent : AcceptedLent s p) (E : Entries) (ho
       at-0 (holds e) = turned-back (calling c) s p .offset-0 e
       at-0 (fails n) =
           turned-back (calling c) s p .given (callOn s p c .number) 0 n .1
-          (Rattle.office.specs.Demand1Words.byLent (lent .sheet) (past (own-refused s p c lent (callOn s p c .number) n .0 refl)) refl) .1
+          (byLent (lent .sheet) (past (own-refused s p c lent (callOn s p c .number) n .0 refl)) refl) .1
         where
-          past : First (swapCauses S f giver taker quantity) (callOn s p c .number) → First (Rattle.office.specs.Demand1Words.causesOf s p (calling c)) (callOn s p c .number)
+          past : First (swapCauses S f giver taker quantity) (callOn s p c .number) → First (causesOf s p (calling c)) (callOn s p c .number)
           past h = let all = lent .lent in inr (all .0, inr (all .1 .0, inr (all .1 .1 .0, h)))
 
       by-entries : callOn s p c .number ≡ 0 → swapPostings (entriesIn (p .table)) giver taker quantity ≡ swapPostings E giver taker quantity
@@ -214,14 +209,18 @@ office-swap-follows s kept o e cs giver taker quantity =
 
 -- ---- what it counts as
 
-pub swap-counts : (s : List ℕ) (o : Office) → Bytes (o .table) → (giver taker : ℕ) (quantity : ℤ) → callOn s o (swap giver taker quantity) .number ≡ 0
+-- the posting of an accepted post of a number of the range
+post-made : (s : List ℕ) (q : Office) (e : ℕ) (y : ℤ) → callOn s q (post e 3 y) .number ≡ 0 → ¬ BeyondRange y → madeOn s q (post e 3 y) ≡ posting e (num y) ∷ []
+post-made s q e y z inside = ap (λ k. ifAccepted k (postingOf e (postedValue 3 y))) z ∙ ap (postingOf e) (left.posted-number y inside)
+
+pub swap-counts : (s : List ℕ) (o : Office) (giver taker : ℕ) (quantity : ℤ) → callOn s o (swap giver taker quantity) .number ≡ 0
     → (cs : List Call) → CountsAsPosts s o giver taker quantity cs
 unfolding runOn postingsOn
-swap-counts s o bytes giver taker quantity z cs =
+swap-counts s o giver taker quantity z cs =
     record {
       posts =
           ap (λ ps. ps ++ postingsOn s (callOn s o c .after) cs) made ∙ ap (λ q. posting giver (num a) ∷ posting taker (num b) ∷ postingsOn s q cs) (posts .2)
-          ∙ sym (ap₂ (λ ps qs. ps ++ (qs ++ postingsOn s (second .after) cs)) (post-made o giver a (posts .0) (λ h. parts .4 (inl h))) (post-made (first .after) taker b (posts .1) (λ h. parts .4 (inr h))));
+          ∙ sym (ap₂ (λ ps qs. ps ++ (qs ++ postingsOn s (second .after) cs)) first-made second-made);
       keeps = ap (λ q. runOn s q cs) (posts .2);
     }
   where
@@ -240,23 +239,25 @@ swap-counts s o bytes giver taker quantity z cs =
     b : ℤ
     b = numbersIn (o .table) taker +ℤ quantity
 
-    first : Rattle.office.specs.Office.Given
+    first : Given
     first = callOn s o (post giver 3 a)
 
-    second : Rattle.office.specs.Office.Given
+    second : Given
     second = callOn s (first .after) (post taker 3 b)
 
     posts : (first .number ≡ 0) × (second .number ≡ 0) × (callOn s o c .after ≡ second .after)
-    posts = left.swap-leaves s o lent bytes giver taker quantity z .as-posts
+    posts = left.swap-posts s o lent giver taker quantity z
 
     number-of : (e : ℕ) → IsEntry (sheetOf s) e → numbersIn (o .table) e ≡ counted (entriesIn (o .table) e)
-    number-of e entry = number-counted (isFigure (itemAt (sheetOf s) e)) (row width (o .table) e) (λ h. lent .lent .1 .1 .0 (e, entry .0, inl h))
+    number-of e entry = item-number (sheetOf s) (o .table) (lent .lent .1 .1 .0) e (entry .0)
 
     made : madeOn s o c ≡ posting giver (num a) ∷ posting taker (num b) ∷ []
     made =
         ap (λ k. ifAccepted k (swapPostings (entriesIn (o .table)) giver taker quantity)) z
         ∙ rw (← number-of giver (parts .1), ← number-of taker (parts .2))
 
-    post-made : (q : Office) (e : ℕ) (y : ℤ) → callOn s q (post e 3 y) .number ≡ 0 → ¬ Rattle.office.specs.Demand1Words.BeyondRange y
-        → madeOn s q (post e 3 y) ≡ posting e (num y) ∷ []
-    post-made q e y zero-number inside = ap (λ k. ifAccepted k (postingOf e (postedValue 3 y))) zero-number ∙ ap (postingOf e) (left.posted-number y inside)
+    first-made : madeOn s o (post giver 3 a) ≡ posting giver (num a) ∷ []
+    first-made = post-made s o giver a (posts .0) (λ h. parts .4 (inl h))
+
+    second-made : madeOn s (first .after) (post taker 3 b) ≡ posting taker (num b) ∷ []
+    second-made = post-made s (first .after) taker b (posts .1) (λ h. parts .4 (inr h))

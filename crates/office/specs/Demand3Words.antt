@@ -11,7 +11,7 @@ use lib.IntN.{ℤ}
 use Rattle.circuit.specs.Value.{Value}
 use Rattle.circuit.specs.Circuit.{Listed, LeadsTo}
 use Rattle.circuit.specs.Sheet.{Sheet, Entries, size, itemAt, isFigure, circuitOf}
-use Rattle.circuit.specs.Call.{Call, post, step, ask, board, close, Posting, postedTo}
+use Rattle.circuit.specs.Call.{Call, post, step, ask, board, close, swap, Posting, postedTo}
 use Rattle.circuit.specs.Board.{listed, listsWrong}
 use Rattle.circuit.specs.Calls.{postingsBy, ifAccepted}
 use Rattle.circuit.specs.Closing.{keepEvery}
@@ -100,10 +100,16 @@ pub record SameBoard (s : List ℕ) (o : Office) (cs : List Call) (p : Office) (
   pub fresh : boardAfter s o cs items results ≡ freshBoard s o cs items results
   pub fresh-other : boardAfter s p ds items results ≡ freshBoard s p ds items results
 
--- every ask and every board; and a season-close run leaves both offices with the same bytes
+-- a swap with the same arguments at the offices o and p, after the lists cs and ds: it gets the same number and makes the same postings
+pub record SameSwap (s : List ℕ) (o : Office) (cs : List Call) (p : Office) (ds : List Call) (c : Call) : Type 0 where
+  pub number : callOn s (runOn s o cs) c .number ≡ callOn s (runOn s p ds) c .number
+  pub made : madeOn s (runOn s o cs) c ≡ madeOn s (runOn s p ds) c
+
+-- every ask, every board and every swap; and a season-close run leaves both offices with the same bytes
 pub record SameAnswers (s : List ℕ) (o : Office) (cs : List Call) (p : Office) (ds : List Call) : Type 0 where
   pub asks : (i : ℕ) → SameReading s o cs p ds i
   pub boards : (items results : List ℕ) → SameBoard s o cs p ds items results
+  pub swaps : (giver taker : ℕ) (quantity : ℤ) → SameSwap s o cs p ds (swap giver taker quantity)
   pub closes : callOn s (runOn s o cs) close .after ≡ callOn s (runOn s p ds) close .after
 
 -- 01's "stored": the kind is not 0

@@ -86,8 +86,8 @@ pub record Means : Type 0 where
 -- Demand 3, about whole lists of calls.
 pub record Agrees : Type 0 where
   -- Two offices open the same sheet, each bare or full, and call what they like; the postings that accepted calls made are the same, in the
-  -- same order. Then every ask and every board agrees, and is what the fresh office gives that is fed either list; and closed, both keep the
-  -- same bytes.
+  -- same order. Then every ask and every board agrees, and is what the fresh office gives that is fed either list; every swap gets the same
+  -- number and makes the same postings; and closed, both keep the same bytes.
   pub agree : (s : List ℕ) (o p : Office) (first second : Opening)
       → openOn first s o .number ≡ 0 → openOn second s p .number ≡ 0
       → (cs ds : List Call) → postingsOn s (openOn first s o .after) cs ≡ postingsOn s (openOn second s p .after) ds
@@ -126,15 +126,15 @@ pub record Finishes : Type 0 where
 
 -- 02's job 8: swaps as one act.
 pub record Swaps : Type 0 where
-  -- "Over any sequence of swaps alone the exact sum of all entries, NULL as 0, is unchanged": refused ones included, from any accepted table,
-  -- also one that no engine wrote.
-  pub sum-kept : (s : List ℕ) (o : Office) → AcceptedLent s o → (xs : List Swapping) → sumIn s (runOn s o (swapsOf xs) .table) ≡ sumIn s (o .table)
+  -- "Over any sequence of swaps alone the exact sum of all entries, NULL as 0, is unchanged": refused ones included, from any table, also one
+  -- that no engine wrote.
+  pub sum-kept : (s : List ℕ) (o : Office) (xs : List Swapping) → sumIn s (runOn s o (swapsOf xs) .table) ≡ sumIn s (o .table)
   -- after any list of calls since an opening
   pub follows : (s : List ℕ) (o : Office) (how : Opening) → openOn how s o .number ≡ 0
       → (cs : List Call) → let begin : Office = openOn how s o .after in
       (giver taker : ℕ) (quantity : ℤ) → SwapFollows s (runOn s begin cs) (freshEntries s blank begin cs) giver taker quantity
   -- in a list of calls an accepted swap counts as its two posts
-  pub counts : (s : List ℕ) (o : Office) → Bytes (o .table) → (giver taker : ℕ) (quantity : ℤ) → callOn s o (swap giver taker quantity) .number ≡ 0
+  pub counts : (s : List ℕ) (o : Office) (giver taker : ℕ) (quantity : ℤ) → callOn s o (swap giver taker quantity) .number ≡ 0
       → (cs : List Call) → CountsAsPosts s o giver taker quantity cs
 
 pub record Demands : Type 0 where

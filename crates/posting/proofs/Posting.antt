@@ -1,19 +1,19 @@
 -- The storing of a posting in an entry: the bytes are those of the machine's table, which is in form with true owed bytes. Assumes nothing.
-use Prim.Native.Nat.{ℕ, _+_, _*_, _<_, _≤_}
+use Prim.Native.Nat.{ℕ, _<_}
 use native.Mathlib.Omega.{arith}
 use mathlib.Core.Path.{_≡_, refl, sym, ap, subst, _∙_}
 use mathlib.Core.Bool.{Bool, true, false, cond}
 use mathlib.Core.List.{List}
 use lib.ListN.{length}
 use Rattle.circuit.specs.Value.{Value, isOut, wellFormed, same}
-use Rattle.circuit.specs.Sheet.{Sheet, size, itemAt, isFigure}
-use Rattle.circuit.specs.Table.{Table, Cell, notice, unk, held, isStored}
+use Rattle.circuit.specs.Sheet.{size, itemAt, isFigure}
+use Rattle.circuit.specs.Table.{Cell, notice, unk, held, isStored}
 use Rattle.circuit.specs.Machine.{storePosting, postCell}
 use Rattle.field.specs.Bytes.{Bytes}
 use Rattle.layout.specs.Opened.{sheetOf}
 use Rattle.table.specs.Rows.{row, setRow}
 use Rattle.table.specs.Record.{width, encodeCell, decodeCell, mayHold}
-use Rattle.table.specs.Bytes.{encodeTable, decodeTable, Holdable, owedTrue}
+use Rattle.table.specs.Bytes.{encodeTable, decodeTable, Holdable, tableForm, owedTrue}
 use Rattle.table.proofs.Tables.{length-encodeTable, bytes-encodeTable, encoded-tableForm, encoded-owedTrue}
 use Rattle.office.proofs.Holdable.{post-holdable}
 use Rattle.office.proofs.Bridge.{posting-within, decoded-beyond, decode-within}
@@ -42,12 +42,6 @@ module _ {s offsets t : List ℕ} (lent : Lent s offsets t) (bytes : Bytes t) (o
 
   -- A posting of a value of the range, not OUT, leaves what the next one is lent.
   module _ (formed : wellFormed v ≡ true) (inside : isOut v ≡ false) where
-    abbrev S : Sheet
-    S = sheetOf s
-
-    abbrev U : Table
-    U = storePosting (decodeTable t) i v
-
     holdable : Holdable (sheetOf s) (storePosting (decodeTable t) i v)
     holdable = post-holdable (sheetOf s) (decodeTable t) i v formed inside (lent-holdable lent)
 
@@ -57,7 +51,7 @@ module _ {s offsets t : List ℕ} (lent : Lent s offsets t) (bytes : Bytes t) (o
           located = lent .located;
           room = lent .room;
           length-is = ap length posting-encoded ∙ length-encodeTable (sheetOf s) _;
-          formed = subst (λ u. Rattle.table.specs.Bytes.tableForm (sheetOf s) u ≡ true) (sym posting-encoded) (encoded-tableForm (sheetOf s) _ holdable);
+          formed = subst (λ u. tableForm (sheetOf s) u ≡ true) (sym posting-encoded) (encoded-tableForm (sheetOf s) _ holdable);
         }
 
     pub posting-bytes : Bytes t′

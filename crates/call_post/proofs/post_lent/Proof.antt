@@ -42,13 +42,14 @@ returns-2 c =
 returns-3 : tie.Need-returns-3
 returns-3 c =
     λ x.
-    let a = c .before .before .before .before .before .before .before .before .before .before .before .before .before .before .args in
-    let p = c .before .before .before .before .before .before .before .before .before .before .before .before .before .before .pre in
-    let i = c .before .before .before .before .before .before .before .before .before .before .item-cause in
-    let b = slice-bytes (a .table .now) (c .before .before .before .before .before .before .before .before .before .before .before .slice-known .given) in
-    post-stored (p .1 .0) b (p .1 .1) x (a .item) (a .kind) (a .number) (i .result) (i .ensures) (c .give3 .result) (c .give3 .ensures .1)
-    (c .before .before .before .before .before .before .before .before .before .if1 .left) _
-    (sym (ap partsMeaning (c .before .before .before .before .before .before .value .given .1)) ∙ c .before .before .before .before .before .before .before .before .posted .ensures ∙ ap (postedValue (a .kind)) (back (a .number) (c .before .before .before .before .before .before .before .before .before .before .before .before .before .before .fits .number)))
+    let m = c .before .before .before .before .before .before .before .before in
+    let i = m .before .before .item-cause in
+    let a = m .before .before .before .before .before .before .args in
+    let p = m .before .before .before .before .before .before .pre in
+    let b = slice-bytes (a .table .now) (m .before .before .before .slice-known .given) in
+    post-stored (p .1 .0) b (p .1 .1) x (a .item) (a .kind) (a .number) (i .result) (i .ensures) (c .give3 .result) (c .give3 .ensures .1) (m .before .if1 .left) _
+    (sym (ap partsMeaning (c .before .before .before .before .before .before .value .given .1)) ∙ m .posted .ensures
+    ∙ ap (postedValue (a .kind)) (back (a .number) (m .before .before .before .before .before .before .fits .number)))
     _ (c .before .before .before .store-posting .ensures) (c .give3 .ensures .0)
 
 pub post-lent-spec : {M : Type 1} → statement M

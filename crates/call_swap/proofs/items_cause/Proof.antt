@@ -1,6 +1,4 @@
 -- `call_swap::items_cause` meets its contract. Assumes nothing.
-use Rattle.circuit.specs.Calls.{noItem, notEntry}
-use Rattle.layout.specs.Opened.{sheetOf}
 use Rattle.call_swap.proofs.Swapping.{first-11, second-11, first-12, second-12}
 use borrow.Author.Needs.{needs}
 use Rattle.call_swap.proofs.items_cause.Statement.{statement}
@@ -15,11 +13,13 @@ returns-2 c =
 
 returns-3 : tie.Need-returns-3
 returns-3 c =
-    first-12 _ _ _ _ _ _ (c .before .before .before .before .item-cause .ensures) (c .before .before .before .item-cause2 .ensures) (c .before .before .if1 .left) (c .before .if2 .left) (c .if3 .taken)
+    first-12 _ _ _ _ _ _ (c .before .before .before .before .item-cause .ensures) (c .before .before .before .item-cause2 .ensures)
+    (c .before .before .if1 .left) (c .before .if2 .left) (c .if3 .taken)
 
 returns-4 : tie.Need-returns-4
 returns-4 c =
-    second-12 _ _ _ _ _ _ (c .before .before .before .before .item-cause .ensures) (c .before .before .before .item-cause2 .ensures) (c .before .before .if1 .left) (c .before .if2 .left) (c .if3 .left)
+    second-12 _ _ _ _ _ _ (c .before .before .before .before .item-cause .ensures) (c .before .before .before .item-cause2 .ensures)
+    (c .before .before .if1 .left) (c .before .if2 .left) (c .if3 .left)
 
 pub items-cause-spec : {M : Type 1} → statement M
 items-cause-spec =

@@ -1,5 +1,4 @@
 -- `call_swap::no_swap` meets its contract. Assumes nothing.
-use mathlib.Core.Path.{ap, sym, _∙_}
 use borrow.Author.Tests.{eq-eqb, ne-eqb}
 use Rattle.circuit.specs.Swap.{noSwap}
 use Rattle.value.proofs.Signed.{back}

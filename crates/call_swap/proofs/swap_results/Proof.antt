@@ -22,38 +22,45 @@ sub-left : tie.Need-sub-left
 unfolding limit
 sub-left c =
     let s = c .before .before .before in
-    left-fits (meaning (s .args .giver)) (meaning (s .args .taker)) _ (s .args .quantity) (search needs) (s .fits .quantity) (c .number-or-zero .ensures) (s .pre .0) (s .pre .1)
+    left-fits (meaning (s .args .giver)) (meaning (s .args .taker)) _ (s .args .quantity)
+    (search needs) (s .fits .quantity) (c .number-or-zero .ensures) (s .pre .0) (s .pre .1)
     (c .before .before .if1 .left) (c .before .if2 .left)
 
 add-come : tie.Need-add-come
 unfolding limit
 add-come c =
     let s = c .before .before .before .before in
-    come-fits (meaning (s .args .giver)) (meaning (s .args .taker)) _ (s .args .quantity) (search needs) (s .fits .quantity) (c .before .number-or-zero .ensures) (s .pre .0) (s .pre .1)
+    come-fits (meaning (s .args .giver)) (meaning (s .args .taker)) _ (s .args .quantity)
+    (search needs) (s .fits .quantity) (c .before .number-or-zero .ensures) (s .pre .0) (s .pre .1)
     (c .before .before .before .if1 .left) (c .before .before .if2 .left) _ (search needs) (c .number-or-zero2 .ensures)
 
 returns-3 : tie.Need-returns-3
 unfolding limit
 returns-3 c =
     let s = c .before .before .before .before .before .before in
-    left-beyond (meaning (s .args .giver)) (meaning (s .args .taker)) _ (s .args .quantity) (search needs) (s .fits .quantity) (c .before .before .before .number-or-zero .ensures) (s .pre .0) (s .pre .1)
+    left-beyond (meaning (s .args .giver)) (meaning (s .args .taker)) _ (s .args .quantity)
+    (search needs) (s .fits .quantity) (c .before .before .before .number-or-zero .ensures) (s .pre .0) (s .pre .1)
     (c .before .before .before .before .before .if1 .left) (c .before .before .before .before .if2 .left) _ (c .before .in-range .ensures) (c .if3 .taken)
 
 returns-4 : tie.Need-returns-4
 unfolding limit
 returns-4 c =
     let s = c .before .before .before .before .before .before .before .before in
-    come-beyond (meaning (s .args .giver)) (meaning (s .args .taker)) _ (s .args .quantity) (search needs) (s .fits .quantity) (c .before .before .before .before .before .number-or-zero .ensures) (s .pre .0) (s .pre .1)
+    come-beyond (meaning (s .args .giver)) (meaning (s .args .taker)) _ (s .args .quantity)
+    (search needs) (s .fits .quantity) (c .before .before .before .before .before .number-or-zero .ensures) (s .pre .0) (s .pre .1)
     (c .before .before .before .before .before .before .before .if1 .left) (c .before .before .before .before .before .before .if2 .left)
-    _ (search needs) (c .before .before .before .before .number-or-zero2 .ensures) _ (c .before .before .before .in-range .ensures) (c .before .before .if3 .left) _ (c .before .in-range2 .ensures) (c .if4 .taken)
+    _ (search needs) (c .before .before .before .before .number-or-zero2 .ensures) _
+    (c .before .before .before .in-range .ensures) (c .before .before .if3 .left) _ (c .before .in-range2 .ensures) (c .if4 .taken)
 
 returns-5 : tie.Need-returns-5
 unfolding limit
 returns-5 c =
     let s = c .before .before .before .before .before .before .before .before in
-    both-within (meaning (s .args .giver)) (meaning (s .args .taker)) _ (s .args .quantity) (search needs) (s .fits .quantity) (c .before .before .before .before .before .number-or-zero .ensures) (s .pre .0) (s .pre .1)
+    both-within (meaning (s .args .giver)) (meaning (s .args .taker)) _ (s .args .quantity)
+    (search needs) (s .fits .quantity) (c .before .before .before .before .before .number-or-zero .ensures) (s .pre .0) (s .pre .1)
     (c .before .before .before .before .before .before .before .if1 .left) (c .before .before .before .before .before .before .if2 .left)
-    _ (search needs) (c .before .before .before .before .number-or-zero2 .ensures) _ (c .before .before .before .in-range .ensures) (c .before .before .if3 .left) _ (c .before .in-range2 .ensures) (c .if4 .left)
+    _ (search needs) (c .before .before .before .before .number-or-zero2 .ensures) _
+    (c .before .before .before .in-range .ensures) (c .before .before .if3 .left) _ (c .before .in-range2 .ensures) (c .if4 .left)
 
 pub swap-results-spec : {M : Type 1} → statement M
 swap-results-spec =
