@@ -1,7 +1,7 @@
 -- The three demands of document 01, with 02's board, season-close run, owed bytes, choice and swap, a record for each, in its order; and a
--- record each of 02's job 7, that catching up always finishes, and of its job 8, swaps as one act. They are demands on `openOn` and `callOn` (Office), which the contracts of the exported
--- functions cite: a function gives and leaves exactly what these say, for all lent bytes. That every call ends and touches only what it was
--- lent is proved of each function by the language. Assumes nothing.
+-- record each of 02's job 7, that catching up always finishes, and of its job 8, swaps as one act. They are demands on `openOn` and `callOn`
+-- (Office), which the contracts of the exported functions cite: a function gives and leaves exactly what these say, for all lent bytes. That
+-- every call ends and touches only what it was lent is proved of each function by the language. Assumes nothing.
 use Prim.Native.Nat.{ℕ, _*_, _≤_}
 use mathlib.Core.Path.{_≡_}
 use mathlib.Core.Bool.{true}
