@@ -38,8 +38,8 @@
  * Stack: looking up goes from a figure to its parents, so the depth is bounded by the levels of a
  * sheet (at most ROZHINAL_MAX_LEVEL), and each call has scratch space for ROZHINAL_MAX_ITEMS items.
  * On sheets of 64 levels an ask and a board were measured at 102,320 bytes, a step at 101,712, a
- * keep at 65,584, a close at 11,592, a drop at 11,544 and a post at 10,536; ROZHINAL_STACK_BYTES is
- * enough for every call.
+ * keep at 65,584, a close at 11,592, a drop at 11,544, a post and a swap at 10,536;
+ * ROZHINAL_STACK_BYTES is enough for every call.
  */
 #ifndef ROZHINAL_H
 #define ROZHINAL_H
