@@ -16,7 +16,7 @@ use Rattle.circuit.specs.Machine.{catchUpIn, catchUp}
 use Rattle.circuit.specs.Owed.{anyBelow, owedFor, owed}
 use Rattle.circuit.specs.Call.{Call, post, keep, drop, step, ask, close, swap}
 use Rattle.circuit.specs.Closing.{closedValue, closeItem, closeBelow, closeAll}
-use Rattle.circuit.specs.Calls.{Outcome, perform, run, tests, firstCause, effect, postedValue, storePostings}
+use Rattle.circuit.specs.Calls.{Outcome, Test, perform, run, tests, firstCause, effect, postedValue, storePostings}
 use Rattle.circuit.specs.Swap.{noSwap, resultsBeyond}
 use Rattle.circuit.specs.Words.{AllAccepted}
 use Rattle.circuit.proofs.Steps.{EachLowest}
@@ -34,8 +34,12 @@ unfoldable pub owing : Sheet → Table → ℕ → Bool
 unfolding owed owedFor anyBelow
 owing S T i = owed S T i
 
+unfoldable pub testing : Sheet → Table → Call → List Test
+unfolding tests firstCause postedValue partsOf noSwap resultsBeyond
+testing S T c = tests S T c
+
 unfoldable pub machine : Sheet → Table → Call → Outcome
-unfolding looking closing owing perform tests firstCause effect postedValue partsOf noSwap resultsBeyond keepFigure dropFigure storePosting storePostings stepItem tell tellBelow tellChild clearMark catchUp catchUpIn lowestMarked
+unfolding looking closing owing testing perform effect keepFigure dropFigure storePosting storePostings stepItem tell tellBelow tellChild clearMark catchUp catchUpIn lowestMarked
 machine S T c = perform S T c
 
 -- an entry, a figure that sums it, and a figure that sums the first; neither is kept, both defer

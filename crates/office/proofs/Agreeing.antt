@@ -47,8 +47,8 @@ use Rattle.table.specs.Bytes.{encodeTable, Holdable}
 use Rattle.table.proofs.Tables.{encoded-kind, encoded-number, encodeTable-ext, bare-holdable, full-holdable}
 use Rattle.office.specs.Office.{Office, keeping, Given, resultsLent, accepted, openingTests, unlessRefused, callOn, openRead, openOn, runOn, kindRead, numberRead}
 use Rattle.office.specs.Demand2Words.{answerOf}
-use Rattle.office.specs.Demand3Words.{madeOn, postingsOn, freshAnswer, freshEntries, freshAfter, SameReading, Shown, shown, boardAfter, freshShown, freshBoard, SameBoard, SameSwap, SameAnswers}
-use Rattle.office.specs.Demand3Words.{storedIn, StaysStored, Retains, RetainsPost}
+use Rattle.office.specs.Demand3Words.{madeOn, postingsOn, freshAnswer, freshEntries, freshAfter, SameReading, Shown, shown, boardAfter, freshShown, freshBoard, SameBoard}
+use Rattle.office.specs.Demand3Words.{SameSwap, SameAnswers, storedIn, StaysStored, Retains, RetainsPost}
 use Rattle.office.proofs.Cells.{kind-cell, parts-same, quiet-encoded}
 use Rattle.office.proofs.Holdable.{run-holdable, perform-holdable}
 use Rattle.office.proofs.Bridge.{Within, perform-within, run-within, resultsBy, givenBy, call-performs, run-performs, made-performs, postings-performs, events-performs}

@@ -27,7 +27,7 @@ use Rattle.table.specs.Bytes.{decodeTable, tableForm, recordInForm}
 use Rattle.office.specs.Office.{Office, lengthsWrong, indexWrong, tableWrong}
 use Rattle.office.specs.Demand1Words.{LengthsWrong, IndexNotAsOpened, BeyondRange, RecordBroken, kindUnknown, markUnknown, entryUnk, entryOut, entryRefresh, unkRefresh, numberNotZero}
 use Rattle.office.specs.Demand1Words.{beyondRange, RecordBrokenAt, OwedFalse, TableBroken, NoSuchItem, ListsWrong, odd, long, other, SomeNoItem}
-use Rattle.office.specs.Demand1Words.{NotPostable, kindOther, nullNotZero, numberBeyond, NoSwap, ResultBeyond, numbersIn}
+use Rattle.office.specs.Demand1Words.{NotPostable, kindOther, nullNotZero, numberBeyond, ToFigure, IsEntry, NoSwap, ResultBeyond, numbersIn}
 use Rattle.office.proofs.OwedBytes.{refutes-below, refutes-owed}
 use Rattle.item.specs.Offsets.{sameBytes}
 use Rattle.item.proofs.Offsets.{same-refl, same-equal}
@@ -265,6 +265,24 @@ tells-mark figure r form = go (tells-eq (kindIn r) 0) (tells-eq (markIn r) 1) (t
     go (fails p) (holds q) w = fails (λ e. omega arith)
     go (fails p) (fails q) (holds w) = fails (λ e. omega arith)
     go (fails p) (fails q) (fails w) = holds (omega (arith, low))
+
+pub unless-true : (b : Bool) → ¬ (b ≡ true) → b ≡ false
+unless-true true n = absurd (n refl)
+unless-true false n = refl
+
+pub not-both : {b : Bool} → b ≡ true → b ≡ false → ⊥
+not-both p q = let bad : _≡_ {A = ℕ} 0 1 = cc in omega arith
+
+pub item-inside : (S : Sheet) (i : ℕ) → ¬ NoSuchItem S i → i < size S
+item-inside S i n = omega (arith, n)
+
+-- both items of a swap that has neither 11 nor 12 are entries
+pub both-entries : (S : Sheet) (giver taker : ℕ) → ¬ (NoSuchItem S giver ⊎ NoSuchItem S taker) → ¬ (ToFigure S giver ⊎ ToFigure S taker)
+    → IsEntry S giver × IsEntry S taker
+both-entries S giver taker low plain = (
+  (item-inside S giver (λ h. low (inl h)), unless-true (isFigure (itemAt S giver)) (λ h. plain (inl h))),
+  (item-inside S taker (λ h. low (inr h)), unless-true (isFigure (itemAt S taker)) (λ h. plain (inr h))),
+)
 
 -- 18
 pub tells-no-swap : (giver taker : ℕ) (quantity : ℤ) → Tells (NoSwap giver taker quantity) (noSwap giver taker quantity)

@@ -39,7 +39,7 @@ use Rattle.office.proofs.OwedBytes.{unfalse-right}
 use Rattle.office.proofs.Holdable.{perform-holdable}
 use Rattle.office.proofs.Lent.{ordered as lent-ordered, holdable as lent-holdable, within, encoded}
 use Rattle.office.proofs.Bridge.{Within, posting-within, decode-within}
-use Rattle.office.proofs.Causes.{refutes-range, item-number}
+use Rattle.office.proofs.Causes.{refutes-range, unless-true, not-both, item-number}
 use Rattle.office.proofs.Boards.{board-leaves, board-asks}
 use Rattle.office.proofs.Closes.{close-leaves}
 use Rattle.office.proofs.Cells.{held-kind, held-number, unk-kind, unk-number, mark-cell, stored-encoded, encoded-quiet}
@@ -470,11 +470,8 @@ module _ (s : List ℕ) (kept : Office) (lent : AcceptedLent s kept) (giver take
   -- a post of a number of the range to an entry is accepted
   post-accepted : (o : Office) → AcceptedLent s o → (e : ℕ) (z : ℤ) → IsEntry (sheetOf s) e → ¬ BeyondRange z → callOn s o (post e 3 z) .number ≡ 0
   post-accepted o l e z entry inside =
-      own-accepted s o (post e 3 z) .1 (l, ((λ h. omega (arith, h, entry .0)), ((λ h. differ h (entry .1)), (sound, tt))))
+      own-accepted s o (post e 3 z) .1 (l, ((λ h. omega (arith, h, entry .0)), ((λ h. not-both h (entry .1)), (sound, tt))))
     where
-      differ : {b : Bool} → b ≡ true → b ≡ false → ⊥
-      differ p q = let bad : _≡_ {A = ℕ} 0 1 = cc in omega arith
-
       sound : NotPostable 3 z → ⊥
       sound (kindOther a b) = b refl
       sound (nullNotZero a b) = omega (arith, a)
@@ -548,11 +545,7 @@ module _ (s : List ℕ) (kept : Office) (lent : AcceptedLent s kept) (giver take
           ∙ ap (λ w. accepted none [] (keeping (kept .index) (encodeTable S (storePostings U (postingOf taker w))))) (posted-number b (λ h. parts .4 (inr h)))
 
   some-quantity : ltZ quantity (pos 1) ≡ false
-  some-quantity = go (ltZ quantity (pos 1)) (λ h. parts .3 (inr h))
-    where
-      go : (b : Bool) → ¬ (b ≡ true) → b ≡ false
-      go true n = absurd (n refl)
-      go false n = refl
+  some-quantity = unless-true (ltZ quantity (pos 1)) (λ h. parts .3 (inr h))
 
   two : taker ≡ giver → ⊥
   two e = parts .3 (inl (sym e))

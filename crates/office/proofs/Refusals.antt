@@ -2,7 +2,7 @@
 use Prim.Native.Nat.{ℕ, zero, suc, _<_, _≤_}
 use native.Mathlib.Omega.{arith}
 use mathlib.Core.Path.{_≡_, refl, sym, ap, ap₂, _∙_, subst}
-use mathlib.Core.Bool.{Bool, true, false, cond, not, _&&_}
+use mathlib.Core.Bool.{Bool, true, cond, not, _&&_}
 use mathlib.Core.List.{List, [], _∷_}
 use mathlib.Core.Logic.{_⊎_, inl, inr, ⊎-elim, _↔_}
 use mathlib.Core.Option.{Option, none, some}
@@ -28,7 +28,8 @@ use Rattle.office.specs.Office.{Office, Given, resultsLent, refusal, acc
 use Rattle.office.specs.Demand1Words.{Invocation, opening, calling, serve, resultsLentTo, TableBroken, NotPostable, Row, cause, ownCauses, causesIn, causesOf, First, NoneHolds}
 use Rattle.office.specs.Demand1Words.{HoldsAt, ByNumber, Lowest, Refused, bySheet, byLent, NoCause, ListsWrong, SomeNoItem, AcceptedLent, BoardRefuses, CloseRefuses}
 use Rattle.office.specs.Demand1Words.{lentCauses, NoSuchItem, ToFigure, IsEntry, NoSwap, ResultBeyond, numbersIn, SwapRefuses}
-use Rattle.office.proofs.Causes.{tells-is, tells-is-not, tells-lengths, tells-index, tells-table, tells-beyond, tells-lists, tells-listed, tells-posted, tells-mark, tells-no-swap, tells-results}
+use Rattle.office.proofs.Causes.{tells-is, tells-is-not, tells-lengths, tells-index, tells-table, tells-beyond, tells-lists, tells-listed, tells-posted, tells-mark}
+use Rattle.office.proofs.Causes.{not-both, item-inside, both-entries, tells-no-swap, tells-results}
 
 -- ---- the first cause
 
@@ -514,29 +515,11 @@ module _ (s : List ℕ) (kept : Office) (giver taker : ℕ) (quantity : ℤ) whe
   abbrev Both : Type 0
   Both = IsEntry (sheetOf s) giver × IsEntry (sheetOf s) taker
 
-  inside : (i : ℕ) → ¬ NoSuchItem (sheetOf s) i → i < size (sheetOf s)
-  inside i n = omega (arith, n)
-
-  -- both items are entries, by the first two causes
-  entries : ¬ (NoSuchItem (sheetOf s) giver ⊎ NoSuchItem (sheetOf s) taker) → ¬ (ToFigure (sheetOf s) giver ⊎ ToFigure (sheetOf s) taker) → Both
-  entries low plain =
-      ((inside giver (λ h. low (inl h)), not-figure giver (λ h. plain (inl h))), (inside taker (λ h. low (inr h)), not-figure taker (λ h. plain (inr h))))
-    where
-      not-figure : (i : ℕ) → ¬ ToFigure (sheetOf s) i → isFigure (itemAt (sheetOf s) i) ≡ false
-      not-figure i = go (isFigure (itemAt (sheetOf s) i))
-        where
-          go : (b : Bool) → ¬ (b ≡ true) → b ≡ false
-          go true n = absurd (n refl)
-          go false n = refl
-
   low-items : Both → ¬ (NoSuchItem (sheetOf s) giver ⊎ NoSuchItem (sheetOf s) taker)
   low-items both = ⊎-elim (λ h. omega (arith, h, both .0 .0)) (λ h. omega (arith, h, both .1 .0))
 
   plain-items : Both → ¬ (ToFigure (sheetOf s) giver ⊎ ToFigure (sheetOf s) taker)
-  plain-items both = ⊎-elim (λ h. differ h (both .0 .1)) (λ h. differ h (both .1 .1))
-    where
-      differ : {b : Bool} → b ≡ true → b ≡ false → ⊥
-      differ p q = let bad : _≡_ {A = ℕ} 0 1 = cc in omega arith
+  plain-items both = ⊎-elim (λ h. not-both h (both .0 .1)) (λ h. not-both h (both .1 .1))
 
   pub swap-refuses : SwapRefuses s kept giver taker quantity
   swap-refuses =
@@ -571,7 +554,7 @@ module _ (s : List ℕ) (kept : Office) (giver taker : ℕ) (quantity : ℤ) whe
       figure : AcceptedLent s kept × Own s kept swaps 12
           → AcceptedLent s kept × (giver < size (sheetOf s)) × (taker < size (sheetOf s)) × (ToFigure (sheetOf s) giver ⊎ ToFigure (sheetOf s) taker)
       figure (lent, inl f) = absurd (omega (arith, f .0))
-      figure (lent, inr (n, inl f)) = (lent, inside giver (λ h. n (inl h)), inside taker (λ h. n (inr h)), f .1)
+      figure (lent, inr (n, inl f)) = (lent, item-inside (sheetOf s) giver (λ h. n (inl h)), item-inside (sheetOf s) taker (λ h. n (inr h)), f .1)
       figure (lent, inr (n, inr (m, inl f))) = absurd (omega (arith, f .0))
       figure (lent, inr (n, inr (m, inr (l, inl f)))) = absurd (omega (arith, f .0))
       figure (lent, inr (n, inr (m, inr (l, inr f)))) = absurd (f .1)
@@ -579,7 +562,7 @@ module _ (s : List ℕ) (kept : Office) (giver taker : ℕ) (quantity : ℤ) whe
       no-swap : AcceptedLent s kept × Own s kept swaps 18 → AcceptedLent s kept × IsEntry (sheetOf s) giver × IsEntry (sheetOf s) taker × NoSwap giver taker quantity
       no-swap (lent, inl f) = absurd (omega (arith, f .0))
       no-swap (lent, inr (n, inl f)) = absurd (omega (arith, f .0))
-      no-swap (lent, inr (n, inr (m, inl f))) = let both = entries n m in (lent, both .0, both .1, f .1)
+      no-swap (lent, inr (n, inr (m, inl f))) = let both = both-entries (sheetOf s) giver taker n m in (lent, both .0, both .1, f .1)
       no-swap (lent, inr (n, inr (m, inr (l, inl f)))) = absurd (omega (arith, f .0))
       no-swap (lent, inr (n, inr (m, inr (l, inr f)))) = absurd (f .1)
 
@@ -588,12 +571,12 @@ module _ (s : List ℕ) (kept : Office) (giver taker : ℕ) (quantity : ℤ) whe
       beyond-range (lent, inl f) = absurd (omega (arith, f .0))
       beyond-range (lent, inr (n, inl f)) = absurd (omega (arith, f .0))
       beyond-range (lent, inr (n, inr (m, inl f))) = absurd (omega (arith, f .0))
-      beyond-range (lent, inr (n, inr (m, inr (l, inl f)))) = let both = entries n m in (lent, both .0, both .1, l, f .1)
+      beyond-range (lent, inr (n, inr (m, inr (l, inl f)))) = let both = both-entries (sheetOf s) giver taker n m in (lent, both .0, both .1, l, f .1)
       beyond-range (lent, inr (n, inr (m, inr (l, inr f)))) = absurd (f .1)
 
       free : AcceptedLent s kept × NoneHolds (ownCauses (sheetOf s) (kept .table) swaps)
           → AcceptedLent s kept × IsEntry (sheetOf s) giver × IsEntry (sheetOf s) taker × (¬ NoSwap giver taker quantity) × (¬ ResultBeyond (numbersIn (kept .table)) giver taker quantity)
-      free (lent, none-holds) = let both = entries (none-holds .0) (none-holds .1 .0) in (lent, both .0, both .1, none-holds .1 .1 .0, none-holds .1 .1 .1 .0)
+      free (lent, none-holds) = let both = both-entries (sheetOf s) giver taker (none-holds .0) (none-holds .1 .0) in (lent, both .0, both .1, none-holds .1 .1 .0, none-holds .1 .1 .1 .0)
 
       cause-number : (k : ℕ) → First (causesOf s kept (calling swaps)) k → (k ≤ 13) ⊎ (k ≡ 18)
       cause-number k (inl f) = inl (omega (arith, f .0))

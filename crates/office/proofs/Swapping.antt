@@ -1,14 +1,13 @@
 -- 02's job 8 for the calls on lent bytes: swaps keep the sum of the entries (`swaps-keep-sum`), a swap's answer and postings follow from the fresh
 -- office's values (`office-swap-follows`), and in a list it counts as its two posts (`swap-counts`). Assumes nothing.
-use Prim.Native.Nat.{ℕ, zero, suc, _<_}
-use native.Mathlib.Omega.{arith}
+use Prim.Native.Nat.{ℕ, zero, suc}
 use mathlib.Core.Path.{_≡_, refl, sym, ap, ap₂, _∙_, subst}
-use mathlib.Core.Bool.{Bool, true, false}
+use mathlib.Core.Bool.{Bool}
 use mathlib.Core.List.{List, [], _∷_, _++_}
 use mathlib.Core.Logic.{_⊎_, inl, inr}
 use lib.IntN.{ℤ, _+ℤ_, _-ℤ_}
 use Rattle.circuit.specs.Value.{num}
-use Rattle.circuit.specs.Sheet.{Sheet, Entries, Ordered, size, itemAt, isFigure}
+use Rattle.circuit.specs.Sheet.{Sheet, Entries, Ordered}
 use Rattle.circuit.specs.Table.{Table, entriesOf}
 use Rattle.circuit.specs.Call.{Call, post, swap, posting, Opening}
 use Rattle.circuit.specs.Swap.{counted, swapPostings, sumOf}
@@ -30,7 +29,7 @@ use Rattle.office.proofs.Accepted.{office-accepted}
 use Rattle.office.proofs.Agreeing as opened
 use Rattle.office.proofs.Agreeing.{Opens, opening-opens}
 use Rattle.office.proofs.Bridge.{Within, decode-within, perform-within, run-within}
-use Rattle.office.proofs.Causes.{item-number}
+use Rattle.office.proofs.Causes.{both-entries, item-number}
 use Rattle.office.proofs.Holdable.{run-holdable}
 use Rattle.office.proofs.Lent.{ordered, within}
 use Rattle.office.proofs.Leaves as left
@@ -74,18 +73,8 @@ swaps-keep-sum s o (x ∷ xs) =
 
 -- The causes of a swap by two readings of the entries that agree at the entries of the sheet.
 module _ (S : Sheet) (f g : ℕ → ℤ) (same : (e : ℕ) → IsEntry S e → f e ≡ g e) (giver taker : ℕ) (quantity : ℤ) where
-  not-figure : (b : Bool) → ¬ (b ≡ true) → b ≡ false
-  not-figure true n = absurd (n refl)
-  not-figure false n = refl
-
-  inside : (i : ℕ) → ¬ NoSuchItem S i → i < size S
-  inside i n = omega (arith, n)
-
   agree : ¬ (NoSuchItem S giver ⊎ NoSuchItem S taker) → ¬ (ToFigure S giver ⊎ ToFigure S taker) → (f giver ≡ g giver) × (f taker ≡ g taker)
-  agree low plain = (
-    same giver (inside giver (λ h. low (inl h)), not-figure (isFigure (itemAt S giver)) (λ h. plain (inl h))),
-    same taker (inside taker (λ h. low (inr h)), not-figure (isFigure (itemAt S taker)) (λ h. plain (inr h))),
-  )
+  agree low plain = let both = both-entries S giver taker low plain in (same giver (both .0), same taker (both .1))
 
   beyond-same : ¬ (NoSuchItem S giver ⊎ NoSuchItem S taker) → ¬ (ToFigure S giver ⊎ ToFigure S taker)
       → ResultBeyond f giver taker quantity ≡ ResultBeyond g giver taker quantity
