@@ -9,7 +9,8 @@ use mathlib.Core.Option.{none}
 use lib.Dec.{eqb}
 use lib.ListN.{length}
 use borrow.Author.Tests.{eqb-true, not-false}
-use Rattle.layout.specs.Layout.{indexWidth, mostItems}
+use Rattle.layout.specs.Layout.{indexWidth}
+use Rattle.layout.specs.Room.{roomFor}
 use Rattle.circuit.specs.Sheet.{Sheet, size}
 use Rattle.circuit.specs.Call.{Call, Opening}
 use Rattle.circuit.specs.Calls.{Test, test, firstCause, tests, effect}
@@ -133,10 +134,10 @@ admitted s x t n e = go (readSheet s) refl e
         }
 
 -- what the functions below the refusals are lent
-pub admitted-lent : (s x t offsets : List ℕ) (n : ℕ) → Items n ≡ admittedOf s x t → Located s offsets → mostItems ≤ length offsets → Lent s offsets t
+pub admitted-lent : (s x t offsets : List ℕ) (n : ℕ) → Items n ≡ admittedOf s x t → Located s offsets → roomFor s ≤ length offsets → Lent s offsets t
 admitted-lent s x t offsets n e l room =
     let g = admitted s x t n e in
     record { located = l; room = omega (arith, size-room s); length-is = g .table-length; formed = g .formed }
 
-pub admitted-placing : (s offsets : List ℕ) (n : ℕ) → n ≡ size (sheetOf s) → Located s offsets → mostItems ≤ length offsets → Placing s offsets n
+pub admitted-placing : (s offsets : List ℕ) (n : ℕ) → n ≡ size (sheetOf s) → Located s offsets → roomFor s ≤ length offsets → Placing s offsets n
 admitted-placing s offsets n e l room = record { count-is = e; located = l; room = omega (arith, size-room s) }

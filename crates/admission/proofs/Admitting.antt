@@ -15,7 +15,7 @@ use Rattle.circuit.proofs.RuleLaws.{and-true}
 use Rattle.layout.specs.Opened.{itemsOf, placedFrom, sheetFrom, sheetRead, sheetOf, Located}
 use Rattle.layout.specs.Read.{SheetRead, opens, refused, readSheet}
 use Rattle.sheet.specs.Check.{checkedOf}
-use Rattle.layout.specs.Layout.{indexWidth, mostItems}
+use Rattle.layout.specs.Layout.{indexWidth}
 use Rattle.sheet.specs.declared.Checked.the-variants.{Opens, Refused as Faulty}
 use Rattle.sheet.proofs.Located as checked
 use Rattle.item.specs.Item.{fieldItem}
@@ -44,8 +44,8 @@ module _ (s : List ℕ) (a b : ℕ) where
   measured-refused k at e = rw (checked.refusal s k at e)
 
   module _ (edition count : ℕ) (e : Opens edition count ≡ checkedOf (readSheet s)) where
-    pub count-most : count ≤ mostItems
-    count-most = omega (arith, checked.opening s edition count e .count-is, Rattle.item.proofs.Located.size-room s)
+    pub count-most : count < 65_536
+    count-most = omega (arith, checked.opening s edition count e .count-is, Rattle.item.proofs.Located.size-most s)
 
     measured-opens : (w : Bool) → lengthsOff count a b ≡ w → itemsUnless (firstCause (test 8 w ∷ [])) count ≡ measuredOf s a b
     unfolding measuredOf
@@ -180,10 +180,11 @@ stored-encoded {s} {offsets} {t} lent bytes owes i c low stored =
     ∙ ap (λ l. setRow width l i (encodeCell c)) (lent-encoded lent bytes owes))
 
 -- what settling is lent after a call has stored its cells
-pub settle-needs : {s offsets t : List ℕ} {n : ℕ} → Placing s offsets n → Lent s offsets t → (t′ : List ℕ) → length t′ ≡ length t → tableForm (sheetOf s) t′ ≡ true
-    → Located s offsets × ((n ≡ size (sheetOf s)) × ((n ≤ length offsets) × ((length t′ ≡ width * n) × (tableForm (sheetOf s) t′ ≡ true))))
-settle-needs placing lent t′ len formed =
-    (placing .located, (placing .count-is, (placing .room, (len ∙ lent .length-is ∙ ap (λ m. width * m) (sym (placing .count-is)), formed))))
+pub settle-needs : {s offsets t : List ℕ} {n room : ℕ} → Placing s offsets n → Lent s offsets t → n ≤ room
+    → (t′ : List ℕ) → length t′ ≡ length t → tableForm (sheetOf s) t′ ≡ true
+    → Located s offsets × ((n ≡ size (sheetOf s)) × (((n ≤ length offsets) × (n ≤ room)) × ((length t′ ≡ width * n) × (tableForm (sheetOf s) t′ ≡ true))))
+settle-needs placing lent owing t′ len formed =
+    (placing .located, (placing .count-is, ((placing .room, owing), (len ∙ lent .length-is ∙ ap (λ m. width * m) (sym (placing .count-is)), formed))))
 
 pub cause-fits : (s t : List ℕ) (item cause : ℕ) (figures : Bool) → length t ≡ tableLength (sheetOf s)
     → cause ≡ firstCause (test 11 (noItem (sheetOf s) item) ∷ test 12 (wrongItem figures (sheetOf s) item) ∷ []) → cause ≡ 0 → width * item + width ≤ length t

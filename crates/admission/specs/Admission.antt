@@ -46,12 +46,16 @@ abbrev pub callLent : Sheet → List ℕ → List ℕ → Call → Given
 callLent S x t c =
     unlessRefused (firstCause (tests S (decodeTable t) c)) (resultsLent c) (keeping x t) (effectOn S (keeping x t) (effect S (decodeTable t) c))
 
--- What the tests of a sheet leave in the two scratch arrays: the offsets and the levels of the items that were read, over what was
--- there. Of a sheet that opens the offsets are those of all its items.
-pub record Scanned (s offsets levels offsets′ levels′ : List ℕ) : Type 0 where
+-- What the tests leave in the scratch array of offsets: those of the items that were read, over what was there. Of a sheet that opens they
+-- are those of all its items.
+pub record Found (s offsets offsets′ : List ℕ) : Type 0 where
   pub offsets-are : offsets′ ≡ over (offsetsOf (readSoFar s)) offsets
-  pub levels-are : levels′ ≡ over (levelsOf (readSoFar s)) levels
   pub located : Located s offsets′
+
+-- and the tests of a sheet in that of levels
+pub record Scanned (s offsets levels offsets′ levels′ : List ℕ) : Type 0 where
+  pub found : Found s offsets offsets′
+  pub levels-are : levels′ ≡ over (levelsOf (readSoFar s)) levels
 
 -- the sheet's items with their offsets in an array that has room for them, n by count
 pub record Placing (s offsets : List ℕ) (n : ℕ) : Type 0 where

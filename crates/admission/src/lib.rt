@@ -2,11 +2,11 @@
 ghost use mathlib.Core.Path.{_≡_};
 ghost use Prim.Native.Nat.{_*_, _≤_, _<_};
 ghost use lib.ListN.{length};
-ghost use Rattle.layout.specs.Layout.{mostItems};
+ghost use Rattle.layout.specs.Room.{Room};
 ghost use Rattle.layout.specs.Opened.{sheetOf};
 ghost use Rattle.table.specs.Record.{width};
 ghost use Rattle.table.specs.Bytes.{tableForm, owedTrue};
-ghost use Rattle.admission.specs.Admission.{measuredOf, admittedOf, Scanned, Placing};
+ghost use Rattle.admission.specs.Admission.{measuredOf, admittedOf, Scanned, Found, Placing};
 ghost use mathlib.Core.Bool.{false, _&&_};
 ghost use mathlib.Core.List.{[], _∷_};
 ghost use Rattle.circuit.specs.Calls.{firstCause, test, noItem};
@@ -34,7 +34,7 @@ pub fn measure(
     offsets: &mut [usize],
     levels: &mut [u8],
 ) -> Admitted
-    requires { ⌜ (mostItems ≤ length (now offsets)) × (mostItems ≤ length (now levels)) ⌝ }
+    requires { ⌜ Room (now sheet) (now offsets) (now levels) ⌝ }
     ensures answer { λ r. ⌜ r ≡ measuredOf (now (sheet .entry)) «index_len» «table_len» ⌝ }
     ensures found { λ _. ⌜ Scanned (now (sheet .entry)) (now (offsets .entry)) (now (levels .entry)) (now (offsets .exit)) (now (levels .exit)) ⌝ }
 {
@@ -59,8 +59,8 @@ pub fn measure(
 }
 
 // Whether the table is in form, with true owed bytes (10).
-fn table_formed(sheet: &[u8], offsets: &[usize], n: usize, table: &[u8]) -> bool
-    requires { ⌜ Placing (now sheet) (now offsets) n ⌝ ∗ ⌜ length (now table) ≡ width * n ⌝ }
+fn table_formed(sheet: &[u8], offsets: &[usize], n: usize, table: &[u8], owed: &mut [u8]) -> bool
+    requires { ⌜ Placing (now sheet) (now offsets) n ⌝ ∗ ⌜ length (now table) ≡ width * n ⌝ ∗ ⌜ n ≤ length (now owed) ⌝ }
     ensures { λ r. ⌜ r ≡ (tableForm (sheetOf (now (sheet .entry))) (now (table .entry)) && owedTrue (sheetOf (now (sheet .entry))) (now (table .entry))) ⌝ }
 {
     let mut k = 0;
@@ -71,10 +71,10 @@ fn table_formed(sheet: &[u8], offsets: &[usize], n: usize, table: &[u8]) -> bool
         }
         k += 1;
     }
-    owing::owed_true(sheet, offsets, n, table)
+    owing::owed_true(sheet, offsets, n, table, owed)
 }
 
-// All that is lent (1 to 10).
+// All that is lent (1 to 10). The array of levels serves for the owed bytes too, and what it holds at the end is left free.
 pub fn admit(
     sheet: &[u8],
     index: &[u8],
@@ -82,9 +82,9 @@ pub fn admit(
     offsets: &mut [usize],
     levels: &mut [u8],
 ) -> Admitted
-    requires { ⌜ (mostItems ≤ length (now offsets)) × (mostItems ≤ length (now levels)) ⌝ }
+    requires { ⌜ Room (now sheet) (now offsets) (now levels) ⌝ }
     ensures answer { λ r. ⌜ r ≡ admittedOf (now (sheet .entry)) (now (index .entry)) (now (table .entry)) ⌝ }
-    ensures found { λ _. ⌜ Scanned (now (sheet .entry)) (now (offsets .entry)) (now (levels .entry)) (now (offsets .exit)) (now (levels .exit)) ⌝ }
+    ensures found { λ _. ⌜ Found (now (sheet .entry)) (now (offsets .entry)) (now (offsets .exit)) ⌝ }
 {
     match measure(sheet, index.len(), table.len(), offsets, levels) {
         Admitted::Refused { number, offset } => Admitted::Refused { number, offset },
@@ -95,7 +95,7 @@ pub fn admit(
                     offset: 0,
                 };
             }
-            if !table_formed(sheet, offsets, n, table) {
+            if !table_formed(sheet, offsets, n, table, levels) {
                 return Admitted::Refused {
                     number: 10,
                     offset: 0,

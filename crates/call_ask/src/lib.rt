@@ -1,19 +1,22 @@
 // The call ask.
 ghost use mathlib.Core.Path.{_≡_};
-ghost use mathlib.Core.Bool.{true};
+ghost use mathlib.Core.Bool.{true, false};
 ghost use mathlib.Core.List.{List};
-ghost use Prim.Native.Nat.{ℕ, _+_, _*_, _<_};
+ghost use Prim.Native.Nat.{ℕ, _+_, _*_, _<_, _≤_};
+ghost use lib.ListN.{length};
 ghost use Rattle.circuit.specs.Sheet.{size};
 ghost use lib.IntN.{pos};
 ghost use Rattle.circuit.specs.Machine as machine;
 ghost use Rattle.circuit.specs.Call as machine_call;
 ghost use Rattle.value.specs.Meaning.{meaning};
 ghost use Rattle.layout.specs.Opened.{sheetOf};
+ghost use Rattle.layout.specs.Room.{Room};
 ghost use Rattle.table.specs.Bytes.{decodeTable, owedTrue};
 ghost use Rattle.office.specs.Office.{callOn, keeping};
 ghost use Rattle.call_ask.specs.Asking.{Asked, ReadingOf, LookedUp};
 ghost use Rattle.admission.specs.Admission.{Placing, callLent};
 ghost use Rattle.looking.specs.Pass.{Lent};
+ghost use Rattle.stepping.specs.Stepping.{Ready, Lists};
 use admission::Admitted;
 use value::Value;
 
@@ -27,22 +30,23 @@ pub struct Reading {
 }
 
 // Catches up, and looks item i up in the generation after those of the steps.
-fn caught_up(sheet: &[u8], offsets: &[usize], table: &mut [u8], n: usize, i: usize) -> Value
-    requires { ⌜ Lent (now sheet) (now offsets) (now table) ⌝ ∗ ⌜ n ≡ size (sheetOf (now sheet)) ⌝ ∗ ⌜ i < n ⌝ ∗ ⌜ owedTrue (sheetOf (now sheet)) (now table) ≡ true ⌝ }
+fn caught_up(
+    sheet: &[u8],
+    offsets: &[usize],
+    table: &mut [u8],
+    n: usize,
+    i: usize,
+    bytes: &mut [u8],
+    tags: &mut [u64],
+    numbers: &mut [i64],
+    heads: &mut [u16],
+    links: &mut [u16],
+) -> Value
+    requires { ⌜ Lent (now sheet) (now offsets) (now table) ⌝ ∗ ⌜ (n ≡ size (sheetOf (now sheet))) × (n ≤ length (now bytes)) ⌝ ∗ ⌜ i < n ⌝ ∗ ⌜ owedTrue (sheetOf (now sheet)) (now table) ≡ true ⌝ ∗ ⌜ Ready (now sheet) (now tags) (now numbers) 1 × Lists (sheetOf (now sheet)) false (now heads) (now links) ⌝ }
     ensures { λ r. ⌜ LookedUp (now (sheet .entry)) (machine.lookUp (sheetOf (now (sheet .entry))) (machine.catchUp (sheetOf (now (sheet .entry))) (decodeTable (now (table .entry)))) i) (meaning r) (now (table .exit)) ⌝ }
 {
-    let mut tags = [0u64; limits::ITEM_LIMIT];
-    let mut numbers = [0i64; limits::ITEM_LIMIT];
-    catching::catch_up(sheet, offsets, table, &mut tags, &mut numbers, n);
-    let seen = looking::look_up(
-        sheet,
-        offsets,
-        table,
-        &mut tags,
-        &mut numbers,
-        (2 * n + 1) as u64,
-        i,
-    );
+    catching::catch_up(sheet, offsets, table, n, bytes, tags, numbers, heads, links);
+    let seen = looking::look_up(sheet, offsets, table, tags, numbers, (2 * n + 1) as u64, i);
     seen.value
 }
 
@@ -69,25 +73,69 @@ fn refuse(number: u64, offset: usize) -> Reading
     }
 }
 
-fn ask_lent(sheet: &[u8], offsets: &[usize], table: &mut [u8], n: usize, item: u64) -> Reading
-    requires { ⌜ Placing (now sheet) (now offsets) n ⌝ ∗ ⌜ Lent (now sheet) (now offsets) (now table) ⌝ ∗ ⌜ owedTrue (sheetOf (now sheet)) (now table) ≡ true ⌝ }
+fn ask_lent(
+    sheet: &[u8],
+    offsets: &[usize],
+    table: &mut [u8],
+    n: usize,
+    item: u64,
+    bytes: &mut [u8],
+    tags: &mut [u64],
+    numbers: &mut [i64],
+    heads: &mut [u16],
+    links: &mut [u16],
+) -> Reading
+    requires { ⌜ Placing (now sheet) (now offsets) n ⌝ ∗ ⌜ Lent (now sheet) (now offsets) (now table) ⌝ ∗ ⌜ owedTrue (sheetOf (now sheet)) (now table) ≡ true ⌝ ∗ ⌜ n ≤ length (now bytes) ⌝ ∗ ⌜ Ready (now sheet) (now tags) (now numbers) 1 × Lists (sheetOf (now sheet)) false (now heads) (now links) ⌝ }
     ensures { λ r. ⌜ ((x : List ℕ) → Asked (callLent (sheetOf (now (sheet .entry))) x (now (table .entry)) (machine_call.ask item)) r (now (table .exit))) ⌝ }
 {
     if item >= n as u64 {
         return refuse(11, 0);
     }
-    let value = caught_up(sheet, offsets, table, n, item as usize);
-    owing::settle(sheet, offsets, n, table);
+    let value = caught_up(
+        sheet,
+        offsets,
+        table,
+        n,
+        item as usize,
+        bytes,
+        tags,
+        numbers,
+        heads,
+        links,
+    );
+    owing::settle(sheet, offsets, n, table, bytes);
     read_value(value)
 }
 
-pub fn ask(sheet: &[u8], index: &[u8], table: &mut [u8], item: u64) -> Reading
+// The call, with scratch arrays, in which nothing is remembered or linked yet: what they hold afterwards is left free.
+pub fn ask(
+    sheet: &[u8],
+    index: &[u8],
+    table: &mut [u8],
+    item: u64,
+    offsets: &mut [usize],
+    bytes: &mut [u8],
+    tags: &mut [u64],
+    numbers: &mut [i64],
+    heads: &mut [u16],
+    links: &mut [u16],
+) -> Reading
+    requires { ⌜ Room (now sheet) (now offsets) (now bytes) ⌝ ∗ ⌜ Ready (now sheet) (now tags) (now numbers) 1 × Lists (sheetOf (now sheet)) false (now heads) (now links) ⌝ }
     ensures { λ r. ⌜ Asked (callOn (now (sheet .entry)) (keeping (now (index .entry)) (now (table .entry))) (machine_call.ask item)) r (now (table .exit)) ⌝ }
 {
-    let mut offsets = [0usize; limits::ITEM_LIMIT];
-    let mut levels = [0u8; limits::ITEM_LIMIT];
-    match admission::admit(sheet, index, table, &mut offsets, &mut levels) {
+    match admission::admit(sheet, index, table, offsets, bytes) {
         Admitted::Refused { number, offset } => refuse(number, offset),
-        Admitted::Items(n) => ask_lent(sheet, &offsets, table, n, item),
+        Admitted::Items(n) => ask_lent(
+            sheet,
+            offsets,
+            table,
+            n,
+            item,
+            bytes,
+            tags,
+            numbers,
+            heads,
+            links,
+        ),
     }
 }

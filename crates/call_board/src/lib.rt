@@ -1,6 +1,6 @@
 // The call board: the values of up to 64 items, with one catching up and one memo for all of them.
 ghost use mathlib.Core.Path.{_≡_};
-ghost use mathlib.Core.Bool.{true};
+ghost use mathlib.Core.Bool.{true, false};
 ghost use mathlib.Core.List.{List};
 ghost use Prim.Native.Nat.{ℕ, _+_, _*_, _/_, _<_, _≤_};
 ghost use lib.ListN.{length, getD};
@@ -12,11 +12,13 @@ ghost use Rattle.circuit.specs.Machine as machine;
 ghost use Rattle.circuit.specs.Call as machine_call;
 ghost use Rattle.value.specs.Meaning.{meaning};
 ghost use Rattle.layout.specs.Opened.{sheetOf};
+ghost use Rattle.layout.specs.Room.{Room};
 ghost use Rattle.table.specs.Rows.{setRow};
 ghost use Rattle.table.specs.Bytes.{decodeTable, owedTrue};
 ghost use Rattle.office.specs.Office.{callOn, keeping, resultOf};
 ghost use Rattle.memo.specs.Memo.{Memo};
 ghost use Rattle.looking.specs.Pass.{Lent};
+ghost use Rattle.stepping.specs.Stepping.{Ready, Lists};
 ghost use Rattle.admission.specs.Admission.{Placing, callLent};
 ghost use Rattle.call_board.specs.Showing.{BoardShown, Listed, Shown};
 use admission::Admitted;
@@ -109,19 +111,22 @@ fn show(
     n: usize,
     items: &[u8],
     results: &mut [u8],
+    bytes: &mut [u8],
+    tags: &mut [u64],
+    numbers: &mut [i64],
+    heads: &mut [u16],
+    links: &mut [u16],
 )
-    requires { ⌜ Lent (now sheet) (now offsets) (now table) ⌝ ∗ ⌜ n ≡ size (sheetOf (now sheet)) ⌝ ∗ ⌜ Listed (now sheet) (now items) (now results) ⌝ ∗ ⌜ owedTrue (sheetOf (now sheet)) (now table) ≡ true ⌝ }
+    requires { ⌜ Lent (now sheet) (now offsets) (now table) ⌝ ∗ ⌜ (n ≡ size (sheetOf (now sheet))) × (n ≤ length (now bytes)) ⌝ ∗ ⌜ Listed (now sheet) (now items) (now results) ⌝ ∗ ⌜ owedTrue (sheetOf (now sheet)) (now table) ≡ true ⌝ ∗ ⌜ Ready (now sheet) (now tags) (now numbers) 1 × Lists (sheetOf (now sheet)) false (now heads) (now links) ⌝ }
     ensures { λ _. ⌜ Shown (now (sheet .entry)) (machine.gather (machine.lookUp (sheetOf (now (sheet .entry)))) (machine.catchUp (sheetOf (now (sheet .entry))) (decodeTable (now (table .entry)))) (listed (now (items .entry)))) (now (results .exit)) (now (table .exit)) ⌝ }
 {
-    let mut tags = [0u64; limits::ITEM_LIMIT];
-    let mut numbers = [0i64; limits::ITEM_LIMIT];
-    catching::catch_up(sheet, offsets, table, &mut tags, &mut numbers, n);
+    catching::catch_up(sheet, offsets, table, n, bytes, tags, numbers, heads, links);
     show_each(
         sheet,
         offsets,
         table,
-        &mut tags,
-        &mut numbers,
+        tags,
+        numbers,
         (2 * n + 1) as u64,
         items,
         results,
@@ -136,8 +141,13 @@ fn board_lent(
     n: usize,
     items: &[u8],
     results: &mut [u8],
+    bytes: &mut [u8],
+    tags: &mut [u64],
+    numbers: &mut [i64],
+    heads: &mut [u16],
+    links: &mut [u16],
 ) -> Answer
-    requires { ⌜ Placing (now sheet) (now offsets) n ⌝ ∗ ⌜ Lent (now sheet) (now offsets) (now table) ⌝ ∗ ⌜ owedTrue (sheetOf (now sheet)) (now table) ≡ true ⌝ }
+    requires { ⌜ Placing (now sheet) (now offsets) n ⌝ ∗ ⌜ Lent (now sheet) (now offsets) (now table) ⌝ ∗ ⌜ owedTrue (sheetOf (now sheet)) (now table) ≡ true ⌝ ∗ ⌜ n ≤ length (now bytes) ⌝ ∗ ⌜ Ready (now sheet) (now tags) (now numbers) 1 × Lists (sheetOf (now sheet)) false (now heads) (now links) ⌝ }
     ensures { λ r. ⌜ ((x : List ℕ) → BoardShown (callLent (sheetOf (now (sheet .entry))) x (now (table .entry)) (machine_call.board (now (items .entry)) (now (results .entry)))) r (now (results .exit)) (now (table .exit))) ⌝ }
 {
     if lists_wrong(items.len(), results.len()) {
@@ -149,25 +159,55 @@ fn board_lent(
     if items.len() == 0 {
         return admission::give(0, 0);
     }
-    show(sheet, offsets, table, n, items, results);
-    owing::settle(sheet, offsets, n, table);
+    show(
+        sheet,
+        offsets,
+        table,
+        n,
+        items,
+        results,
+        bytes,
+        tags,
+        numbers,
+        heads,
+        links,
+    );
+    owing::settle(sheet, offsets, n, table, bytes);
     admission::give(0, 0)
 }
 
-// Shows the items of a list: 1 to 10, then 17, then 11, then the values.
+// Shows the items of a list: 1 to 10, then 17, then 11, then the values. In the scratch arrays nothing is remembered or linked yet: what
+// they hold afterwards is left free.
 pub fn board(
     sheet: &[u8],
     index: &[u8],
     table: &mut [u8],
     items: &[u8],
     results: &mut [u8],
+    offsets: &mut [usize],
+    bytes: &mut [u8],
+    tags: &mut [u64],
+    numbers: &mut [i64],
+    heads: &mut [u16],
+    links: &mut [u16],
 ) -> Answer
+    requires { ⌜ Room (now sheet) (now offsets) (now bytes) ⌝ ∗ ⌜ Ready (now sheet) (now tags) (now numbers) 1 × Lists (sheetOf (now sheet)) false (now heads) (now links) ⌝ }
     ensures { λ r. ⌜ BoardShown (callOn (now (sheet .entry)) (keeping (now (index .entry)) (now (table .entry))) (machine_call.board (now (items .entry)) (now (results .entry)))) r (now (results .exit)) (now (table .exit)) ⌝ }
 {
-    let mut offsets = [0usize; limits::ITEM_LIMIT];
-    let mut levels = [0u8; limits::ITEM_LIMIT];
-    match admission::admit(sheet, index, table, &mut offsets, &mut levels) {
+    match admission::admit(sheet, index, table, offsets, bytes) {
         Admitted::Refused { number, offset } => admission::give(number, offset),
-        Admitted::Items(n) => board_lent(sheet, &offsets, table, n, items, results),
+        Admitted::Items(n) => board_lent(
+            sheet,
+            offsets,
+            table,
+            n,
+            items,
+            results,
+            bytes,
+            tags,
+            numbers,
+            heads,
+            links,
+        ),
     }
 }

@@ -13,6 +13,7 @@ ghost use Rattle.circuit.specs.Closing as machine;
 ghost use Rattle.circuit.specs.Call as machine_call;
 ghost use Rattle.value.specs.Meaning.{meaning};
 ghost use Rattle.layout.specs.Opened.{sheetOf};
+ghost use Rattle.layout.specs.Room.{Room};
 ghost use Rattle.table.specs.Record.{width};
 ghost use Rattle.table.specs.Bytes.{decodeTable};
 ghost use Rattle.office.specs.Office.{callOn, keeping};
@@ -95,22 +96,34 @@ fn close_all(sheet: &[u8], offsets: &[usize], table: &mut [u8], n: usize)
 }
 
 // The run on what was admitted: it has no tests of its own.
-fn close_lent(sheet: &[u8], offsets: &[usize], table: &mut [u8], n: usize) -> Answer
-    requires { ⌜ Placing (now sheet) (now offsets) n ⌝ ∗ ⌜ Lent (now sheet) (now offsets) (now table) ⌝ }
+fn close_lent(
+    sheet: &[u8],
+    offsets: &[usize],
+    table: &mut [u8],
+    n: usize,
+    bytes: &mut [u8],
+) -> Answer
+    requires { ⌜ Placing (now sheet) (now offsets) n ⌝ ∗ ⌜ Lent (now sheet) (now offsets) (now table) ⌝ ∗ ⌜ n ≤ length (now bytes) ⌝ }
     ensures { λ r. ⌜ ((x : List ℕ) → Answered (callLent (sheetOf (now (sheet .entry))) x (now (table .entry)) machine_call.close) r (now (table .exit))) ⌝ }
 {
     close_all(sheet, offsets, table, n);
-    owing::settle(sheet, offsets, n, table);
+    owing::settle(sheet, offsets, n, table, bytes);
     admission::give(0, 0)
 }
 
-pub fn close(sheet: &[u8], index: &[u8], table: &mut [u8]) -> Answer
+// The call, with scratch arrays: what they hold before counts for nothing, and what they hold afterwards is left free.
+pub fn close(
+    sheet: &[u8],
+    index: &[u8],
+    table: &mut [u8],
+    offsets: &mut [usize],
+    bytes: &mut [u8],
+) -> Answer
+    requires { ⌜ Room (now sheet) (now offsets) (now bytes) ⌝ }
     ensures { λ r. ⌜ Answered (callOn (now (sheet .entry)) (keeping (now (index .entry)) (now (table .entry))) machine_call.close) r (now (table .exit)) ⌝ }
 {
-    let mut offsets = [0usize; limits::ITEM_LIMIT];
-    let mut levels = [0u8; limits::ITEM_LIMIT];
-    match admission::admit(sheet, index, table, &mut offsets, &mut levels) {
+    match admission::admit(sheet, index, table, offsets, bytes) {
         Admitted::Refused { number, offset } => admission::give(number, offset),
-        Admitted::Items(n) => close_lent(sheet, &offsets, table, n),
+        Admitted::Items(n) => close_lent(sheet, offsets, table, n, bytes),
     }
 }

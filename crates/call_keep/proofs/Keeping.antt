@@ -1,19 +1,16 @@
--- Keep and drop: their own tests; a figure is looked up with a memo in which nothing is remembered, and stored; a drop stores a
--- cell. Assumes nothing.
-use Prim.Native.Nat.{ℕ, _≤_, _<_}
+-- Keep and drop: their own tests; a figure is looked up, and stored; a drop stores a cell. Assumes nothing.
+use Prim.Native.Nat.{ℕ, _<_}
 use native.Mathlib.Omega.{arith}
 use mathlib.Core.Path.{_≡_, refl, sym, ap, ap₂, _∙_}
 use mathlib.Core.Bool.{Bool, true, false}
 use mathlib.Core.List.{List, [], _∷_}
-use mathlib.Core.Option.{Option, none, some}
 use lib.IntN.{ℤ}
-use lib.ListN.{length, getD}
+use lib.ListN.{length}
 use borrow.Author.Tests.{leb-false, not-false}
-use Rattle.layout.specs.Layout.{mostItems}
 use Rattle.circuit.specs.Value.{Value, wellFormed}
 use Rattle.circuit.specs.Sheet.{Sheet, size, itemAt, isFigure}
-use Rattle.circuit.specs.Table.{Table, Cell, Mark, unk, held, upd, valueIn, noticeIf}
-use Rattle.circuit.specs.Machine.{lookUp, looked, storeResult, keepFigure, keepCell, dropFigure, dropCell}
+use Rattle.circuit.specs.Table.{Cell, Mark, unk, held, upd, valueIn, noticeIf}
+use Rattle.circuit.specs.Machine.{lookUp, storeResult, keepFigure, keepCell, dropFigure, dropCell}
 use Rattle.circuit.specs.Call.{keep, drop}
 use Rattle.circuit.specs.Calls.{test, firstCause, tests, effect, noItem}
 use Rattle.layout.specs.Opened.{sheetOf}
@@ -21,21 +18,12 @@ use Rattle.table.specs.Rows.{row, setRow}
 use Rattle.table.specs.Record.{width, encodeCell, mayHold, decodeCell}
 use Rattle.table.specs.Bytes.{encodeTable, decodeTable, tableForm, tableLength}
 use Rattle.table.proofs.Tables.{decode-setRow, setRow-form, record-fits, figure-may}
-use Rattle.memo.specs.Memo.{Found, remembered, Memo}
+use Rattle.memo.specs.Memo.{Found}
 use Rattle.looking.specs.Pass.{Lent, Leaves}
 use Rattle.admission.specs.Admission.{callLent}
 use Rattle.admission.specs.Answers.{Answered, Left, wrongItem}
 use Rattle.admission.specs.declared.Answer.{Answer}
 use Rattle.admission.proofs.Admitting.{item-refused, item-passed, accepted-answer, left-settled}
-
-pub fresh-memo : (S : Sheet) (T : Table) (tags : List ℕ) (numbers : List ℤ) → size S ≤ mostItems → length tags ≡ mostItems → length numbers ≡ mostItems
-    → ((j : ℕ) → getD tags j 0 ≡ 0) → Memo S T tags numbers 1
-unfolding remembered
-fresh-memo S T tags numbers most a b z =
-    record { tag-room = omega arith; number-room = omega arith; generations = omega arith; young = λ j. omega (arith, z j); right = nothing }
-  where
-    nothing : (j : ℕ) (f : Found) → remembered tags numbers 1 j ≡ some f → lookUp S T j ≡ looked T (f .value) (f .flag)
-    nothing j f e = let q : _≡_ {A = Option Found} none (some f) = rw (z j) at e in let bad : _≡_ {A = ℕ} 0 1 = cc in absurd (omega arith)
 
 -- ---- keeping
 

@@ -1,11 +1,11 @@
 // The openings: a sheet is tested, and its index and table are written.
 ghost use mathlib.Core.Path.{_≡_};
-ghost use mathlib.Core.Bool.{true, false};
-ghost use Prim.Native.Nat.{_*_, _<_};
+ghost use mathlib.Core.Bool.{false};
+ghost use Prim.Native.Nat.{_*_, _<_, _≤_};
 ghost use lib.ListN.{length};
 ghost use Rattle.circuit.specs.Table.{opened};
-ghost use Rattle.circuit.specs.Call.{bare, full};
 ghost use Rattle.layout.specs.Opened.{sheetOf};
+ghost use Rattle.layout.specs.Room.{Room};
 ghost use Rattle.table.specs.Record.{width};
 ghost use Rattle.table.specs.Bytes.{encodeTable};
 ghost use Rattle.table.specs.Meaning.{cellMeaning};
@@ -33,8 +33,15 @@ fn first_cell(filled: bool, figure: bool) -> Cell
 }
 
 // The table of an opening, full or bare.
-fn write_table(sheet: &[u8], offsets: &[usize], n: usize, table: &mut [u8], filled: bool)
-    requires { ⌜ Placing (now sheet) (now offsets) n ⌝ ∗ ⌜ length (now table) ≡ width * n ⌝ }
+fn write_table(
+    sheet: &[u8],
+    offsets: &[usize],
+    n: usize,
+    table: &mut [u8],
+    filled: bool,
+    bytes: &mut [u8],
+)
+    requires { ⌜ Placing (now sheet) (now offsets) n ⌝ ∗ ⌜ length (now table) ≡ width * n ⌝ ∗ ⌜ n ≤ length (now bytes) ⌝ }
     ensures { λ _. ⌜ now (table .exit) ≡ encodeTable (sheetOf (now (sheet .entry))) (opened (openingBy filled) (sheetOf (now (sheet .entry)))) ⌝ }
 {
     let mut k = 0;
@@ -43,34 +50,28 @@ fn write_table(sheet: &[u8], offsets: &[usize], n: usize, table: &mut [u8], fill
         table::store_cell(table, k, first_cell(filled, figure));
         k += 1;
     }
-    owing::settle(sheet, offsets, n, table);
+    owing::settle(sheet, offsets, n, table, bytes);
 }
 
-fn open_by(sheet: &[u8], index: &mut [u8], table: &mut [u8], filled: bool) -> Answer
+// Opening with every figure NULL, or with every one UNK. The arrays are scratch: what they hold before counts for nothing, and what they
+// hold afterwards is left free.
+pub fn open_by(
+    sheet: &[u8],
+    index: &mut [u8],
+    table: &mut [u8],
+    filled: bool,
+    offsets: &mut [usize],
+    bytes: &mut [u8],
+) -> Answer
+    requires { ⌜ Room (now sheet) (now offsets) (now bytes) ⌝ }
     ensures { λ r. ⌜ Opened (openOn (openingBy filled) (now (sheet .entry)) (keeping (now (index .entry)) (now (table .entry)))) r (now (index .exit)) (now (table .exit)) ⌝ }
 {
-    let mut offsets = [0usize; limits::ITEM_LIMIT];
-    let mut levels = [0u8; limits::ITEM_LIMIT];
-    match admission::measure(sheet, index.len(), table.len(), &mut offsets, &mut levels) {
+    match admission::measure(sheet, index.len(), table.len(), offsets, bytes) {
         Admitted::Refused { number, offset } => admission::give(number, offset),
         Admitted::Items(n) => {
-            item::write_index(&offsets, n, index);
-            write_table(sheet, &offsets, n, table, filled);
+            item::write_index(offsets, n, index);
+            write_table(sheet, offsets, n, table, filled, bytes);
             admission::give(0, 0)
         }
     }
-}
-
-// Opening with every figure UNK.
-pub fn open_bare(sheet: &[u8], index: &mut [u8], table: &mut [u8]) -> Answer
-    ensures { λ r. ⌜ Opened (openOn bare (now (sheet .entry)) (keeping (now (index .entry)) (now (table .entry)))) r (now (index .exit)) (now (table .exit)) ⌝ }
-{
-    open_by(sheet, index, table, false)
-}
-
-// Opening with every figure NULL.
-pub fn open_full(sheet: &[u8], index: &mut [u8], table: &mut [u8]) -> Answer
-    ensures { λ r. ⌜ Opened (openOn full (now (sheet .entry)) (keeping (now (index .entry)) (now (table .entry)))) r (now (index .exit)) (now (table .exit)) ⌝ }
-{
-    open_by(sheet, index, table, true)
 }

@@ -7,6 +7,7 @@ ghost use Rattle.circuit.specs.Call as machine_call;
 ghost use Rattle.circuit.specs.Calls as machine_calls;
 ghost use Rattle.value.specs.Meaning.{partsMeaning};
 ghost use Rattle.layout.specs.Opened.{sheetOf};
+ghost use Rattle.layout.specs.Room.{Room};
 ghost use Rattle.table.specs.Bytes.{owedTrue};
 ghost use Rattle.office.specs.Office.{callOn, keeping};
 ghost use Rattle.admission.specs.Answers.{Answered};
@@ -53,6 +54,7 @@ fn post_lent(
     }
 }
 
+// The call, with scratch arrays: what they hold before counts for nothing, and what they hold afterwards is left free.
 pub fn post(
     sheet: &[u8],
     index: &[u8],
@@ -60,13 +62,14 @@ pub fn post(
     item: u64,
     kind: u64,
     number: i64,
+    offsets: &mut [usize],
+    bytes: &mut [u8],
 ) -> Answer
+    requires { ⌜ Room (now sheet) (now offsets) (now bytes) ⌝ }
     ensures { λ r. ⌜ Answered (callOn (now (sheet .entry)) (keeping (now (index .entry)) (now (table .entry))) (machine_call.post item kind number)) r (now (table .exit)) ⌝ }
 {
-    let mut offsets = [0usize; limits::ITEM_LIMIT];
-    let mut levels = [0u8; limits::ITEM_LIMIT];
-    match admission::admit(sheet, index, table, &mut offsets, &mut levels) {
+    match admission::admit(sheet, index, table, offsets, bytes) {
         Admitted::Refused { number, offset } => admission::give(number, offset),
-        Admitted::Items(n) => post_lent(sheet, &offsets, table, n, item, kind, number),
+        Admitted::Items(n) => post_lent(sheet, offsets, table, n, item, kind, number),
     }
 }

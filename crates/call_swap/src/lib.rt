@@ -8,6 +8,7 @@ ghost use Rattle.circuit.specs.Swap as machine_swap;
 ghost use Rattle.circuit.specs.Call as machine_call;
 ghost use Rattle.value.specs.Meaning.{meaning};
 ghost use Rattle.layout.specs.Opened.{sheetOf};
+ghost use Rattle.layout.specs.Room.{Room};
 ghost use Rattle.table.specs.Bytes.{owedTrue};
 ghost use Rattle.office.specs.Office.{callOn, keeping};
 ghost use Rattle.admission.specs.Answers.{Answered};
@@ -113,6 +114,7 @@ fn swap_lent(
     }
 }
 
+// The call, with scratch arrays: what they hold before counts for nothing, and what they hold afterwards is left free.
 pub fn swap(
     sheet: &[u8],
     index: &[u8],
@@ -120,13 +122,14 @@ pub fn swap(
     giver: u64,
     taker: u64,
     quantity: i64,
+    offsets: &mut [usize],
+    bytes: &mut [u8],
 ) -> Answer
+    requires { ⌜ Room (now sheet) (now offsets) (now bytes) ⌝ }
     ensures { λ r. ⌜ Answered (callOn (now (sheet .entry)) (keeping (now (index .entry)) (now (table .entry))) (machine_call.swap giver taker quantity)) r (now (table .exit)) ⌝ }
 {
-    let mut offsets = [0usize; limits::ITEM_LIMIT];
-    let mut levels = [0u8; limits::ITEM_LIMIT];
-    match admission::admit(sheet, index, table, &mut offsets, &mut levels) {
+    match admission::admit(sheet, index, table, offsets, bytes) {
         Admitted::Refused { number, offset } => admission::give(number, offset),
-        Admitted::Items(n) => swap_lent(sheet, &offsets, table, n, giver, taker, quantity),
+        Admitted::Items(n) => swap_lent(sheet, offsets, table, n, giver, taker, quantity),
     }
 }

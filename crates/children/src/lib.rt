@@ -11,9 +11,6 @@ ghost use Rattle.item.specs.Item.{ItemField, fieldItem};
 ghost use Rattle.children.specs.Children.{lists, linkPlaces, headPlaces, linkAll};
 use value::MAX_PARENTS;
 
-// Room for the edges of every item.
-pub const EDGE_LIMIT: usize = MAX_PARENTS * limits::ITEM_LIMIT;
-
 // Each edge of an item is linked to the edge that heads the list of its parent. The edges begin at `first`.
 fn link_places(s: &[u8], at: usize, heads: &[u16], links: &mut [u16], first: usize)
     requires { ⌜ ItemField (now s) at ⌝ ∗ ⌜ ((k : ℕ) → k < length (parentsOf (fieldItem (now s) at)) → getD (parentsOf (fieldItem (now s) at)) k 0 < length (now heads)) ⌝ ∗ ⌜ first + maxParents ≤ length (now links) ⌝ }

@@ -13,7 +13,8 @@ use Rattle.layout.specs.Index.{indexWidth}
 use Rattle.table.specs.Record.{width}
 use Rattle.office.specs.Office.{Given, openOn, keeping}
 use Rattle.day_meaning.specs.Lines.{Appended, lastLine, sheetWord}
-use Rattle.day_meaning.specs.Day.{playFrom, PlayedOn, Day, ended, dayBy, dayOn, countSaid, indexSize, tableSize, runDay, Ran}
+use Rattle.layout.specs.Room.{countSaid}
+use Rattle.day_meaning.specs.Day.{playFrom, PlayedOn, Day, ended, dayBy, dayOn, indexSize, tableSize, sheetLine, longNumber, tooLong, readDay, runDay, Ran}
 use Rattle.day_meaning.proofs.Storing.{appended-front, appended-count}
 
 ran-as : {e e′ : Day} {out x t out′ : List ℕ} {count : ℕ} → e ≡ e′ → Ran e out count x t out′ → Ran e′ out count x t out′
@@ -79,9 +80,21 @@ module _ (l : List ℕ) (m n : ℕ) (e : m ≡ min n (length l)) where
   front-drop : drop m l ≡ drop n l
   front-drop = front (λ k. drop k l) (λ k h. drop-past l k h ∙ sym (drop-past l (length l) (omega arith)))
 
-pub ran-whole : {k m n count : ℕ} {x₁ t₁ out out′ : List ℕ} (s d x t : List ℕ) → k ≡ countSaid s → m ≡ min (indexWidth * k) (length x) → n ≡ min (width * k) (length t)
-    → Ran (dayOn s d (take m x) (take n t)) out count x₁ t₁ out′ → Ran (runDay s d x t) out count (x₁ ++ drop m x) (t₁ ++ drop n t) out′
+-- the sheet is over the limit
+pub ran-long : {long : Bool} {count : ℕ} {out out′ : List ℕ} (s d x t : List ℕ) → long ≡ tooLong s → long ≡ true → Appended (sheetLine longNumber 0) out 0 count out′
+    → Ran (runDay s d x t) out count x t out′
 unfolding runDay
+ran-long s d x t e h p = rw (sym e ∙ h) (record { count-is = appended-count p; output-is = appended-front p; index-is = refl; table-is = refl })
+
+-- or it is read
+pub ran-read : {long : Bool} {count : ℕ} {out x′ t′ out′ : List ℕ} (s d x t : List ℕ) → long ≡ tooLong s → long ≡ false → Ran (readDay s d x t) out count x′ t′ out′
+    → Ran (runDay s d x t) out count x′ t′ out′
+unfolding runDay
+ran-read s d x t e h r = rw (sym e ∙ h) r
+
+pub ran-whole : {k m n count : ℕ} {x₁ t₁ out out′ : List ℕ} (s d x t : List ℕ) → k ≡ countSaid s → m ≡ min (indexWidth * k) (length x) → n ≡ min (width * k) (length t)
+    → Ran (dayOn s d (take m x) (take n t)) out count x₁ t₁ out′ → Ran (readDay s d x t) out count (x₁ ++ drop m x) (t₁ ++ drop n t) out′
+unfolding readDay
 ran-whole {k} {m} {n} {count} {x₁} {t₁} {out} {out′} s d x t items left right r =
     let a : m ≡ min (indexSize s) (length x) = left ∙ ap (λ i. min (indexWidth * i) (length x)) items in
     let b : n ≡ min (tableSize s) (length t) = right ∙ ap (λ i. min (width * i) (length t)) items in

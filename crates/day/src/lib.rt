@@ -7,17 +7,19 @@ ghost use Rattle.value.specs.Meaning.{partsOf};
 ghost use Rattle.office.specs.Office.{callOn, keeping};
 ghost use Rattle.day_order.specs.Orders.{orderMeaning};
 ghost use Rattle.day_meaning.specs.Lines.{Appended};
-ghost use Rattle.day_meaning.specs.Day.{answerLine, readingLine, faultLine, playFrom, countSaid, dayOn, runDay, CarriedOut, PlayedOn, Ran};
+ghost use Rattle.day_meaning.specs.Day.{answerLine, readingLine, faultLine, playFrom, dayOn, tooLong, runDay, CarriedOut, PlayedOn, Ran};
 use call_ask::Reading;
 use day_order::Order;
 use day_order::Ordered;
 use field::Cut;
 
-// The number of a fault of the day log.
+// The most bytes of a sheet, and of a day log, which is cut there.
+pub const FILE_LIMIT: usize = 65_536;
+
+// The number of a fault of the day log, and that of a sheet over the limit.
 const FAULT: u64 = 16;
 
-// Where a sheet has its item count.
-const COUNT_AT: usize = field::HEADER_LENGTH + limits::COUNT_AT;
+const LONG: u64 = 19;
 
 // The line of a call that gives no value.
 fn answer_line(out: &mut [u8], at: usize, number: u64) -> usize
@@ -63,23 +65,23 @@ fn carry_out(
 {
     match order {
         Order::Post { item, kind, number } => {
-            let a = call_post::post(sheet, index, table, item, kind, number);
+            let a = calls::post(sheet, index, table, item, kind, number);
             answer_line(out, at, a.number)
         }
         Order::Keep(item) => {
-            let a = call_keep::keep(sheet, index, table, item);
+            let a = calls::keep(sheet, index, table, item);
             answer_line(out, at, a.number)
         }
         Order::Drop(item) => {
-            let a = call_keep::drop_figure(sheet, index, table, item);
+            let a = calls::drop_figure(sheet, index, table, item);
             answer_line(out, at, a.number)
         }
         Order::Step(item) => {
-            let a = call_step::step(sheet, index, table, item);
+            let a = calls::step(sheet, index, table, item);
             answer_line(out, at, a.number)
         }
         Order::Ask(item) => {
-            let r = call_ask::ask(sheet, index, table, item);
+            let r = calls::ask(sheet, index, table, item);
             reading_line(out, at, item, r)
         }
     }
@@ -115,24 +117,23 @@ fn play(sheet: &[u8], index: &[u8], table: &mut [u8], log: &[u8], out: &mut [u8]
 fn day_on(sheet: &[u8], log: &[u8], index: &mut [u8], table: &mut [u8], out: &mut [u8]) -> usize
     ensures { λ r. ⌜ Ran (dayOn (now (sheet .entry)) (now (log .entry)) (now (index .entry)) (now (table .entry))) (now (out .entry)) r (now (index .exit)) (now (table .exit)) (now (out .exit)) ⌝ }
 {
-    let a = call_open::open_bare(sheet, index, table);
+    let a = calls::open_bare(sheet, index, table);
     if a.number != 0 {
         return day_line::last_line(out, 0, &day_line::SHEET, a.number, a.offset);
     }
     play(sheet, index, table, log, out)
 }
 
-fn item_count(sheet: &[u8]) -> usize
-    ensures { λ r. ⌜ (r ≡ countSaid (now (sheet .entry))) × (r ≤ 65535) ⌝ }
+// Whether a sheet is over the limit, by its length alone (19).
+fn too_long(sheet: &[u8]) -> bool
+    ensures { λ r. ⌜ r ≡ tooLong (now (sheet .entry)) ⌝ }
 {
-    if sheet.len() < limits::HEAD_NEXT {
-        return 0;
-    }
-    field::u16_at(sheet, COUNT_AT)
+    sheet.len() > FILE_LIMIT
 }
 
-// The day program: opens the sheet bare with the fronts of the index and the table, makes the day log's calls, and prints a
-// line for each at the front of the output bytes. It gives the number of bytes that it has printed.
+// The day program: turns back a sheet over the limit before anything in it is read; else opens the sheet bare with the fronts
+// of the index and the table, makes the day log's calls, and prints a line for each at the front of the output bytes. It gives
+// the number of bytes that it has printed.
 pub fn run_day(
     sheet: &[u8],
     log: &[u8],
@@ -142,7 +143,10 @@ pub fn run_day(
 ) -> usize
     ensures { λ r. ⌜ Ran (runDay (now (sheet .entry)) (now (log .entry)) (now (index .entry)) (now (table .entry))) (now (out .entry)) r (now (index .exit)) (now (table .exit)) (now (out .exit)) ⌝ }
 {
-    let n = item_count(sheet);
+    if too_long(sheet) {
+        return day_line::last_line(out, 0, &day_line::SHEET, LONG, 0);
+    }
+    let n = sheet::count_said(sheet);
     let x = day_line::lesser(limits::INDEX_WIDTH * n, index.len());
     let t = day_line::lesser(table::WIDTH * n, table.len());
     day_on(sheet, log, &mut index[..x], &mut table[..t], out)

@@ -2,12 +2,13 @@
 ghost use Rattle.io.specs.Counts.{Counts};
 ghost use Rattle.day_meaning.specs.Day.{runDay};
 ghost use Rattle.day_meaning.specs.Room.{DayLent, Shown};
+use day::FILE_LIMIT;
 use libc::STDOUT_FILENO;
 use limits::INDEX_WIDTH;
 use limits::ITEM_LIMIT;
 
-// How many bytes of a file are taken at most.
-const FILE_LIMIT: usize = 65_536;
+// What is taken of the sheet's file: a byte more than the limit, to know that it is over it.
+const SHEET_ROOM: usize = FILE_LIMIT + 1;
 
 // Index and table of the largest sheet.
 const INDEX_ROOM: usize = INDEX_WIDTH * ITEM_LIMIT;
@@ -44,7 +45,7 @@ fn show_day(sheet: &[u8], log: &[u8], index: &mut [u8], table: &mut [u8], out: &
 }
 
 fn main() {
-    let mut sheet = [0u8; FILE_LIMIT];
+    let mut sheet = [0u8; SHEET_ROOM];
     let mut log = [0u8; FILE_LIMIT];
     let mut index = [0u8; INDEX_ROOM];
     let mut table = [0u8; TABLE_ROOM];

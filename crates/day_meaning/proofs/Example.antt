@@ -7,7 +7,8 @@ use Rattle.circuit.proofs.Examples.{machine}
 use Rattle.decimal.specs.Decimal.{digitsUpTo, digits, decimal}
 use Rattle.value.specs.Meaning.{partsOf}
 use Rattle.office.proofs.Examples.{calls}
-use Rattle.day_meaning.specs.Day.{playFrom, countSaid, dayOn, runDay}
+use Rattle.day_meaning.specs.Day.{playFrom, dayOn, readDay, runDay}
+use Rattle.layout.specs.Room.{countSaid}
 use Rattle.day_meaning.specs.Orders.{postIn, callIn, orderOf}
 
 -- five items: A, L and S are entries, T is the sum of A and S, B is T minus L
@@ -44,5 +45,5 @@ exampleOutput =
     ∷ 49 ∷ 50 ∷ 10 ∷ 78 ∷ 79 ∷ 32 ∷ 49 ∷ 49 ∷ 10 ∷ []
 
 pub example : runDay exampleSheet exampleDay zeros20 zeros55 .text ≡ exampleOutput
-unfolding calls machine partsOf least greatest whole digitsUpTo digits decimal postIn callIn orderOf playFrom countSaid dayOn runDay
+unfolding calls machine partsOf least greatest whole digitsUpTo digits decimal postIn callIn orderOf playFrom countSaid dayOn readDay runDay
 example = refl

@@ -1,31 +1,24 @@
--- Laws of the definition: the bound on the number of fields is never why a day ends, and the item count that is read off a
--- sheet that opens is the number of its items; a value is printed as its text. Assumes nothing.
+-- Laws of the definition: the bound on the number of fields is never why a day ends, and a value is printed as its text. Assumes nothing.
 use Prim.Native.Nat.{ℕ, zero, suc, _+_, _<_}
-use mathlib.Core.Path.{_≡_, refl, sym, ap, ap₂, _∙_}
+use mathlib.Core.Path.{_≡_, refl, sym, ap, _∙_}
 use mathlib.Core.List.{List, []}
 use mathlib.Core.Option.{Option, none, some}
 use native.Mathlib.Omega.{arith}
-use borrow.Author.Tests.{le-ltb}
-use lib.ListN.{length, getD}
-use lib.ListN
-use lib.Seq.{getD-take, getD-drop}
+use lib.ListN.{length}
 use mathlib.Core.Bool.{true}
 use Rattle.circuit.specs.Value.{Value, wellFormed, kindOf, numberOf}
 use Rattle.circuit.specs.Call.{Call}
 use Rattle.printer.specs.Printing.{textOf, printed}
 use Rattle.value.specs.Meaning.{partsOf}
 use Rattle.circuit.proofs.Parts.{parts-own}
-use Rattle.field.specs.Field.{cutAt, le16, le16At}
+use Rattle.field.specs.Field.{cutAt}
 use Rattle.field.specs.declared.Cut.{Cut}
 use Rattle.field.specs.declared.Cut.the-variants.{Field, Short, Absent}
 use Rattle.field.proofs.Cutting.{FieldAt, field-iff, absent-iff}
-use Rattle.layout.specs.Read.{Placed, opens, readSheet, headContent, headNext}
-use Rattle.layout.specs.Content.{contentAt, countIn}
-use Rattle.layout.specs.Layout.{headTag}
-use Rattle.layout.proofs.Scan.{opened, opened-length}
+use Rattle.layout.specs.Content.{contentAt}
 use Rattle.office.specs.Office.{callOn, keeping}
 use Rattle.day_meaning.specs.Orders.{orderOf}
-use Rattle.day_meaning.specs.Day.{lineOf, after, playFrom, countSaid}
+use Rattle.day_meaning.specs.Day.{lineOf, after, playFrom}
 use Rattle.day_meaning.proofs.Playing.{play-absent, play-short, play-fault, play-call}
 
 play-none : (s x d t : List ℕ) (at : ℕ) → playFrom 0 s x d at t ≡ record { text = []; table = t }
@@ -56,20 +49,6 @@ enough-fields (suc f) (suc g) s x d t at p q = cut (λ u next. enough-fields f g
     cut ih Absent e = play-absent s x d t at f e ∙ sym (play-absent s x d t at g e)
     cut ih Short e = play-short s x d t at f e ∙ sym (play-short s x d t at g e)
     cut ih (Field tag start len next) e = order ih tag start len next e (orderOf tag (contentAt d start len)) refl
-
--- where the item count stands
-pub count-at : (s : List ℕ) → countIn (headContent s) ≡ le16At s 5
-count-at s = ap₂ le16 (at 2 (omega arith)) (at 3 (omega arith))
-  where
-    at : (k : ℕ) → k < 4 → getD (headContent s) k 0 ≡ getD s (3 + k) 0
-    at k h = getD-take 4 (ListN.drop 3 s) k 0 h ∙ getD-drop 3 s k 0
-
--- the item count of a sheet that opens
-pub item-count : (s : List ℕ) (edition : ℕ) (ps : List Placed) → readSheet s ≡ opens edition ps → countSaid s ≡ length ps
-unfolding countSaid
-item-count s edition ps e =
-    let w : FieldAt s 0 headTag 3 4 headNext = field-iff s 0 headTag 3 4 headNext .0 (opened s edition ps e .head) in
-    rw (le-ltb (length s) headNext (w .next-in)) (sym (opened-length s edition ps e))
 
 -- what is printed of the kind and the number of a value is the value's text
 pub value-text : (v : Value) → wellFormed v ≡ true → textOf (partsOf (kindOf v) (numberOf v)) ≡ printed v

@@ -4,5 +4,7 @@ pub mod Laws
 pub mod Faults
 pub mod Example
 pub mod Asking
+pub mod Numbers
+pub mod TooLong
 pub mod Room
 pub mod Causes

@@ -2,31 +2,28 @@
 use Prim.Native.Nat.{ℕ, zero, suc, _+_, _-_, _*_, _≤_, _<_}
 use mathlib.Core.Path.{_≡_, refl, sym, ap, _∙_}
 use mathlib.Core.Bool.{Bool, true, false, cond, _&&_}
-use mathlib.Core.List.{List, [], _∷_, _++_}
+use mathlib.Core.List.{List, _++_}
 use mathlib.Core.Option.{Option, none, some}
 use native.Mathlib.Omega.{arith}
-use borrow.Author.Tests.{eqb-true, eq-eqb}
+use borrow.Author.Tests.{eqb-true, eq-eqb, ltb-true, ltb-false}
 use lib.Dec.{eqb}
 use lib.ListN.{length, take, getD, length-append, length-take}
 use lib.ListN
 use lib.Seq.{getD-take, getD-drop, take-all, length-take-le}
 use Rattle.circuit.specs.Call.{bare, Call, post, keep, drop, step, ask, board, close, swap}
-use Rattle.circuit.specs.Calls.{Test, test, firstCause, tests, Outcome, effect}
+use Rattle.circuit.specs.Calls.{firstCause}
 use Rattle.field.specs.Field.{cutAt, Bytes}
 use Rattle.field.specs.declared.Cut.{Cut}
 use Rattle.field.specs.declared.Cut.the-variants.{Field, Short, Absent}
 use Rattle.field.proofs.Cutting.{FieldAt, field-iff, le16-small}
 use Rattle.layout.specs.Index.{indexWidth}
-use Rattle.layout.specs.Read.{Placed, SheetRead, opens, refused, readSheet}
+use Rattle.layout.specs.Read.{Placed, opens, readSheet}
 use Rattle.layout.specs.Content.{contentAt}
-use Rattle.layout.specs.Opened.{sheetRead}
-use Rattle.layout.proofs.Causes.{refused-number, refused-offset}
 use Rattle.layout.proofs.Scan.{opened-count}
 use Rattle.layout.specs.Layout.{mostItems}
-use Rattle.table.specs.Bytes.{decodeTable}
 use Rattle.table.specs.Record.{width}
-use Rattle.office.specs.Office.{Given, resultsLent, lengthsWrong, openRead, openOn, callOn, callTests, unlessRefused, effectOn, keeping}
-use Rattle.office.proofs.Agreeing.{opening-opens}
+use Rattle.office.specs.Office.{Given, openOn, callOn, keeping}
+use Rattle.office.specs.Demand1Words.{calling}
 use Rattle.decimal.specs.Decimal.{digits}
 use Rattle.printer.specs.Printing.{textOf, leastScratch}
 use Rattle.value.specs.Meaning.{partsOf}
@@ -35,11 +32,15 @@ use Rattle.printer.proofs.Notation.{longest}
 use Rattle.printer.proofs.Meaning.{part-small}
 use Rattle.day_meaning.specs.Lines.{noLine, askLine, lastLine, sheetWord, dayWord, space, lineEnd}
 use Rattle.day_meaning.specs.Orders.{postTag, askTag, keepTag, dropTag, stepTag, postLength, callLength, itemIn, kindIn, numberIn, kindAllowed, postIn, callIn, orderOf}
-use Rattle.day_meaning.specs.Day.{answerLine, readingLine, lineOf, faultNumber, faultLine, playFrom, dayBy, dayOn, countSaid, indexSize, tableSize, runDay, Ran}
-use Rattle.day_meaning.specs.Room.{fileLimit, textPerByte, textBesides, outputRoom, DayLent, Shown}
+use Rattle.day_meaning.specs.Day.{answerLine, readingLine, lineOf, faultNumber, faultLine, playFrom, dayBy, dayOn, indexSize, tableSize}
+use Rattle.layout.specs.Room.{countSaid}
+use Rattle.day_meaning.specs.Day.{fileLimit, longNumber, tooLong, readDay, runDay, Ran}
+use Rattle.day_meaning.specs.Room.{textPerByte, textBesides, outputRoom, DayLent, Shown}
 use Rattle.day_meaning.proofs.Storing.{part-whole}
 use Rattle.day_meaning.proofs.Playing.{play-absent, play-short, play-fault, play-call}
-use Rattle.day_meaning.proofs.Laws.{item-count}
+use Rattle.layout.proofs.Rooms.{item-count}
+use Rattle.day_meaning.proofs.Numbers.{two-digits, opening-small}
+use Rattle.day_meaning.proofs.TooLong.{long-refused}
 
 -- the item of a call that a day log can order
 abbrev itemOf : Call → ℕ
@@ -109,38 +110,6 @@ ordering tag content c = a (eqb tag postTag) (eqb tag askTag) (eqb tag keepTag) 
     a true b₂ b₃ b₄ b₅ h = post-ordering content c h
     a false b₂ b₃ b₄ b₅ h = q b₂ b₃ b₄ b₅ h
 
--- the numbers of a call's refusals have at most two digits
-cause-at-most : (k : ℕ) (b : Bool) (ts : List Test) → k ≤ 99 → firstCause ts ≤ 99 → firstCause (test k b ∷ ts) ≤ 99
-unfolding firstCause
-cause-at-most k true ts h r = h
-cause-at-most k false ts h r = r
-
-no-cause : firstCause [] ≤ 99
-unfolding firstCause
-no-cause = omega arith
-
-number-at-most : (s x t : List ℕ) (c : Call) (edition : ℕ) (ps : List Placed) → readSheet s ≡ opens edition ps → callOn s (keeping x t) c .number ≤ 99
-unfolding callOn tests
-number-at-most s x t c edition ps r = rw r (given (firstCause (callTests (sheetRead edition ps) ps (keeping x t) c)) (all c) (effect (sheetRead edition ps) (decodeTable t) c))
-  where
-    own : (c : Call) → firstCause (tests (sheetRead edition ps) (decodeTable t) c) ≤ 99
-    own (post i kind z) = cause-at-most 11 _ _ (omega arith) (cause-at-most 12 _ _ (omega arith) (cause-at-most 13 _ _ (omega arith) no-cause))
-    own (keep i) = cause-at-most 11 _ _ (omega arith) (cause-at-most 12 _ _ (omega arith) no-cause)
-    own (drop i) = cause-at-most 11 _ _ (omega arith) (cause-at-most 12 _ _ (omega arith) no-cause)
-    own (step i) = cause-at-most 11 _ _ (omega arith) (cause-at-most 14 _ _ (omega arith) no-cause)
-    own (ask i) = cause-at-most 11 _ _ (omega arith) no-cause
-    own (board items results) = cause-at-most 17 _ _ (omega arith) (cause-at-most 11 _ _ (omega arith) no-cause)
-    own close = no-cause
-    own (swap giver taker quantity) =
-        cause-at-most 11 _ _ (omega arith) (cause-at-most 12 _ _ (omega arith) (cause-at-most 18 _ _ (omega arith) (cause-at-most 13 _ _ (omega arith) no-cause)))
-
-    all : (c : Call) → firstCause (callTests (sheetRead edition ps) ps (keeping x t) c) ≤ 99
-    all c = cause-at-most 8 _ _ (omega arith) (cause-at-most 9 _ _ (omega arith) (cause-at-most 10 _ _ (omega arith) (own c)))
-
-    given : (m : ℕ) → m ≤ 99 → (o : Outcome) → unlessRefused m (resultsLent c) (keeping x t) (effectOn (sheetRead edition ps) (keeping x t) o) .number ≤ 99
-    given zero h o = omega arith
-    given (suc m) h o = h
-
 -- the lines
 text-small : (kind : ℕ) (z : _) → length (textOf (partsOf kind z)) ≤ longest
 text-small kind z = rw (sym (part-whole kind leastScratch z z refl refl)) (part-small kind z leastScratch)
@@ -171,7 +140,7 @@ line-short (swap giver taker quantity) g h k = answer-short (g .number) h
 line-short (ask i) g h k = reading-short i (g .number) _ k (text-small (g .kind) (g .value)) h
 
 -- a last line: its word, a number of at most two digits and an offset of at most five
-last-short : (word : List ℕ) (n at : ℕ) → n ≤ 16 → at ≤ fileLimit → length (lastLine word n at) ≤ length word + 9
+last-short : (word : List ℕ) (n at : ℕ) → n ≤ 99 → at ≤ fileLimit → length (lastLine word n at) ≤ length word + 9
 last-short word n at k h =
     rw (
       length-append word (digits n ++ (space ++ (digits at ++ lineEnd))),
@@ -193,7 +162,7 @@ item-small d content start len c b e o =
     in
     rw (o .item, e) (le16-small (getD (contentAt d start len) 0 0) (getD (contentAt d start len) 1 0) (at 0 (omega arith)) (at 1 (omega arith)))
 
-module _ (s x d : List ℕ) (edition : ℕ) (ps : List Placed) (r : readSheet s ≡ opens edition ps) (b : Bytes d) (n : length d ≤ fileLimit) where
+module _ (s x d : List ℕ) (b : Bytes d) (n : length d ≤ fileLimit) where
   abbrev Room : ℕ → List ℕ → ℕ → Type 0
   Room f t at = length (playFrom f s x d at t .text) ≤ textPerByte * (length d - at) + textBesides
 
@@ -204,7 +173,7 @@ module _ (s x d : List ℕ) (edition : ℕ) (ps : List Placed) (r : readSheet s 
       let o = ordering tag (contentAt d start len) c e in
       let within : length (contentAt d start len) ≤ len = omega (arith, length-take len (ListN.drop start d)) in
       let line : length (lineOf c (callOn s (keeping x t) c)) ≤ 30 =
-      line-short c (callOn s (keeping x t) c) (number-at-most s x t c edition ps r) (item-small d (contentAt d start len) start len c b refl o)
+      line-short c (callOn s (keeping x t) c) (two-digits (calling c) s (keeping x t)) (item-small d (contentAt d start len) start len c b refl o)
       in
       rw (length-append (lineOf c (callOn s (keeping x t) c)) (playFrom f s x d next (callOn s (keeping x t) c .after .table) .text))
       (omega (arith, ih, o .two, w .start-is, w .next-is, w .next-in))
@@ -232,26 +201,11 @@ pub day-room : (s d x t : List ℕ) → openOn bare s (keeping x t) .number ≡ 
     → length (dayOn s d x t .text) ≤ textPerByte * length d + textBesides
 unfolding dayOn
 day-room s d x t h b n =
-    let o = opening-opens s (keeping x t) bare h in
-    let whole = room s (openOn bare s (keeping x t) .after .index) d (o .edition) (o .placed) (o .reads) b n (suc (length d)) (openOn bare s (keeping x t) .after .table) 0 (omega arith) in
+    let whole = room s (openOn bare s (keeping x t) .after .index) d b n (suc (length d)) (openOn bare s (keeping x t) .after .table) 0 (omega arith) in
     let all : length d - 0 ≡ length d = omega arith in
     rw h (rw all at whole)
 
--- the number and the offset of an opening
-opening-small : (s x t : List ℕ) → (openOn bare s (keeping x t) .number ≤ 8) × (openOn bare s (keeping x t) .offset ≤ length s)
-unfolding openOn firstCause
-opening-small s x t = go (readSheet s) refl
-  where
-    lengths : (b : Bool) (g : Given) → g .number ≡ 0 → g .offset ≡ 0
-        → (unlessRefused (firstCause (test 8 b ∷ [])) [] (keeping x t) g .number ≤ 8) × (unlessRefused (firstCause (test 8 b ∷ [])) [] (keeping x t) g .offset ≤ length s)
-    lengths true g n o = (omega arith, omega arith)
-    lengths false g n o = (omega arith, omega arith)
-
-    go : (r : SheetRead) → readSheet s ≡ r → (openRead bare r (keeping x t) .number ≤ 8) × (openRead bare r (keeping x t) .offset ≤ length s)
-    go (refused k at) e = (omega (arith, refused-number s k at e), refused-offset s k at e)
-    go (opens edition ps) e = lengths (lengthsWrong ps x t) _ refl refl
-
--- the text of any day
+-- the text of any day whose sheet is read
 text-room : (s d x t : List ℕ) → Bytes d → length s ≤ fileLimit → length d ≤ fileLimit → length (dayOn s d x t .text) ≤ outputRoom
 unfolding dayOn
 text-room s d x t b m n = go (openOn bare s (keeping x t) .number) refl
@@ -262,13 +216,24 @@ text-room s d x t b m n = go (openOn bare s (keeping x t) .number) refl
         let o = opening-small s x t in
         omega (arith, last-short sheetWord (suc k) (openOn bare s (keeping x t) .offset) (omega arith) (omega arith))
 
+-- the sheet is over the limit, or it is read
+run-room : (s d x t : List ℕ) → Bytes d → length d ≤ fileLimit → length (runDay s d x t .text) ≤ outputRoom
+unfolding readDay
+run-room s d x t b n = go (tooLong s) refl
+  where
+    go : (long : Bool) → tooLong s ≡ long → length (runDay s d x t .text) ≤ outputRoom
+    go true e =
+        rw (long-refused s d x t .only (ltb-true fileLimit (length s) e)) (omega (arith, last-short sheetWord longNumber 0 (omega arith) (omega arith)))
+    go false e =
+        let short : length s ≤ fileLimit = ltb-false fileLimit (length s) e in
+        rw (long-refused s d x t .otherwise (λ h. omega (arith, h, short)))
+        (text-room s d (take (indexSize s) x) (take (tableSize s) t) b short n)
+
 -- What the program lends is enough: the whole text of the day is in the output.
 pub day-shown : {s d x t out x′ t′ out′ : List ℕ} {count : ℕ} → DayLent s d x t out → Bytes d → Ran (runDay s d x t) out count x′ t′ out′
     → Shown (runDay s d x t) out x′ t′ out′ × (count ≡ length (runDay s d x t .text))
 day-shown {s} {d} {x} {t} {out} l b r =
-    let fits : length (runDay s d x t .text) ≤ length out =
-    unfold runDay in omega (arith, l .output-room, text-room s d (take (indexSize s) x) (take (tableSize s) t) b (l .sheet-fits) (l .log-fits))
-    in (
+    let fits : length (runDay s d x t .text) ≤ length out = omega (arith, l .output-room, run-room s d x t b (l .log-fits)) in (
       record {
         output-is = r .output-is ∙ ap (λ y. y ++ ListN.drop (length (runDay s d x t .text)) out) (take-all (length out) (runDay s d x t .text) fits);
         index-is = r .index-is;

@@ -2,7 +2,7 @@
 -- what the lent bytes are afterwards. It cites the definitions of the openings and the calls. Assumes nothing.
 use Prim.Native.Nat.{ℕ, zero, suc, _*_}
 use mathlib.Core.Path.{_≡_}
-use mathlib.Core.Bool.{cond}
+use mathlib.Core.Bool.{Bool, cond}
 use mathlib.Core.List.{List, [], _++_}
 use mathlib.Core.Option.{Option, none, some}
 use lib.Dec.{ltb}
@@ -12,8 +12,8 @@ use Rattle.circuit.specs.Call.{Call, post, keep, drop, step, ask, board, close,
 use Rattle.field.specs.Field.{cutAt}
 use Rattle.field.specs.declared.Cut.{Cut}
 use Rattle.field.specs.declared.Cut.the-variants.{Field, Short, Absent}
-use Rattle.layout.specs.Content.{contentAt, countIn}
-use Rattle.layout.specs.Read.{headContent, headNext}
+use Rattle.layout.specs.Content.{contentAt}
+use Rattle.layout.specs.Room.{countSaid}
 use Rattle.layout.specs.Index.{indexWidth}
 use Rattle.table.specs.Record.{width}
 use Rattle.office.specs.Office.{Given, openOn, callOn, keeping}
@@ -51,6 +51,10 @@ faultNumber = 16
 abbrev pub faultLine : ℕ → List ℕ
 faultLine at = lastLine dayWord faultNumber at
 
+-- `SHEET number offset`
+abbrev pub sheetLine : ℕ → ℕ → List ℕ
+sheetLine number at = lastLine sheetWord number at
+
 -- what was printed, and the table afterwards
 pub record Played : Type 0 where
   pub text : List ℕ
@@ -84,10 +88,6 @@ unfoldable pub playFrom : ℕ → List ℕ → List ℕ → List ℕ → ℕ →
 playFrom zero s x d at t = played [] t
 playFrom (suc k) s x d at t = playCut (playFrom k s x d) s x d at t (cutAt d at)
 
--- the item count that a sheet says in its first field, if its bytes are there
-unfoldable pub countSaid : List ℕ → ℕ
-countSaid s = cond (ltb (length s) headNext) 0 (countIn (headContent s))
-
 -- The parts of the lent index and table that are lent on to the calls: the fronts that so many items take, or all of them
 -- where they are shorter, which the opening then turns back (8).
 abbrev pub indexSize : List ℕ → ℕ
@@ -110,7 +110,7 @@ abbrev pub dayBy : ℕ → List ℕ → List ℕ → Given → Day
 dayBy zero s d g =
     let p : Played = playFrom (suc (length d)) s (g .after .index) d 0 (g .after .table) in
     ended (p .text) (g .after .index) (p .table)
-dayBy (suc k) s d g = ended (lastLine sheetWord (suc k) (g .offset)) (g .after .index) (g .after .table)
+dayBy (suc k) s d g = ended (sheetLine (suc k) (g .offset)) (g .after .index) (g .after .table)
 
 -- the day with an index and a table of which all is lent on
 unfoldable pub dayOn : List ℕ → List ℕ → List ℕ → List ℕ → Day
@@ -120,9 +120,25 @@ dayOn s d x t = dayBy (openOn bare s (keeping x t) .number) s d (openOn bare s (
 abbrev pub withRests : ℕ → ℕ → List ℕ → List ℕ → Day → Day
 withRests m n x t e = ended (e .text) (e .index ++ ListN.drop m x) (e .table ++ ListN.drop n t)
 
-unfoldable pub runDay : List ℕ → List ℕ → List ℕ → List ℕ → Day
-runDay s d x t =
+-- the day of a sheet that is read
+unfoldable pub readDay : List ℕ → List ℕ → List ℕ → List ℕ → Day
+readDay s d x t =
     withRests (indexSize s) (tableSize s) x t (dayOn s d (take (indexSize s) x) (take (tableSize s) t))
+
+-- the most bytes of a sheet, and of a day log, which is cut there
+abbrev pub fileLimit : ℕ
+fileLimit = 65_536
+
+-- 19: the sheet is over 65,536 bytes
+abbrev pub longNumber : ℕ
+longNumber = 19
+
+abbrev pub tooLong : List ℕ → Bool
+tooLong s = ltb fileLimit (length s)
+
+-- The day program. 19 is tested before anything in the sheet is read: by its length alone.
+unfoldable pub runDay : List ℕ → List ℕ → List ℕ → List ℕ → Day
+runDay s d x t = cond (tooLong s) (ended (sheetLine longNumber 0) x t) (readDay s d x t)
 
 -- A call with its line appended to the output.
 pub record CarriedOut (c : Call) (g : Given) (out : List ℕ) (at next : ℕ) (t out′ : List ℕ) : Type 0 where

@@ -6,11 +6,7 @@ use lib.ListN.{length, drop}
 use Rattle.layout.specs.Index.{indexWidth}
 use Rattle.layout.specs.Layout.{mostItems}
 use Rattle.table.specs.Record.{width}
-use Rattle.day_meaning.specs.Day.{Day}
-
--- how many bytes of a file are taken at most
-abbrev pub fileLimit : ℕ
-fileLimit = 65_536
+use Rattle.day_meaning.specs.Day.{Day, fileLimit}
 
 -- the most output of a day whose sheet opens: so many bytes for each byte of its log, and so many more
 abbrev pub textPerByte : ℕ
@@ -29,9 +25,13 @@ indexRoom = indexWidth * mostItems
 abbrev pub tableRoom : ℕ
 tableRoom = width * mostItems
 
+-- what is taken of the sheet's file: a byte more than the limit, to know that it is over it
+abbrev pub sheetRoom : ℕ
+sheetRoom = fileLimit + 1
+
 -- what the program lends: a sheet, a day log, an index, a table and output bytes
 pub record DayLent (s d x t out : List ℕ) : Type 0 where
-  pub sheet-fits : length s ≤ fileLimit
+  pub sheet-fits : length s ≤ sheetRoom
   pub log-fits : length d ≤ fileLimit
   pub index-room : length x ≡ indexRoom
   pub table-room : length t ≡ tableRoom

@@ -16,8 +16,10 @@ use Rattle.circuit.specs.Sheet.{figure, size, itemAt, parentsOf, Ordered}
 use Rattle.layout.specs.Layout.{LayoutItem, figureTag, ruleAllowed, keepAllowed, spreadAllowed, machineItem, ruleAt, parentCountAt, mostItems}
 use Rattle.layout.specs.Content.{contentAt, countIn, ruleIn, keepIn, spreadIn, parentCountIn, parentsIn, itemIn}
 use Rattle.layout.specs.Read.{lengthOrName, ruleWrong, Placed, headContent, SheetRead, opens, refused, readSheet}
+use Rattle.layout.specs.Room.{roomFor}
 use Rattle.layout.specs.Opened.{placedFrom, itemsOf, sheetRead, sheetFrom, sheetOf, offsetsOf, Located}
-use Rattle.layout.proofs.Scan.{placedAt, offset-placed, ItemRead, passes, scan-item, opened, opened-length, opened-count, most-small, opened-ordered, machine-item, and-left}
+use Rattle.layout.proofs.Scan.{placedAt, offset-placed, ItemRead, passes, scan-item, opened, opened-length, most-small, opened-ordered, machine-item, and-left}
+use Rattle.layout.proofs.Rooms.{room-most, opened-room}
 use Rattle.layout.proofs.Items.{figure-parts, parents-count}
 use Rattle.item.specs.Item.{fieldContent, fieldItem, countByte, FigureField, ItemField}
 use Rattle.item.proofs.Fields.{content-at, count-read, count-not}
@@ -96,17 +98,20 @@ sheet-ordered s = go (readSheet s) refl
     go (opens edition ps) e = opened-ordered s edition ps e
     go (refused k at) e = λ i p l. absurd l
 
-pub size-room : (s : List ℕ) → size (sheetOf s) ≤ mostItems
+pub size-room : (s : List ℕ) → size (sheetOf s) ≤ roomFor s
 unfolding sheetOf
 size-room s = go (readSheet s) refl
   where
-    go : (r : SheetRead) → readSheet s ≡ r → size (sheetFrom r) ≤ mostItems
+    go : (r : SheetRead) → readSheet s ≡ r → size (sheetFrom r) ≤ roomFor s
     go (opens edition ps) e =
-        omega (arith, opened-count s edition ps e, length-map (map (λ p. p .item) ps) machineItem, length-map ps (λ p. p .item))
+        omega (arith, opened-room s edition ps e, length-map (map (λ p. p .item) ps) machineItem, length-map ps (λ p. p .item))
     go (refused k at) e = omega arith
 
+pub size-limit : (s : List ℕ) → size (sheetOf s) ≤ mostItems
+size-limit s = omega (arith, size-room s, room-most s)
+
 pub size-most : (s : List ℕ) → size (sheetOf s) < 65_536
-size-most s = omega (arith, size-room s, most-small)
+size-most s = omega (arith, size-limit s, most-small)
 
 -- What the field of item i is, by the offset that an array gives.
 module _ (s offsets : List ℕ) (located : Located s offsets) (i : ℕ) (h : i < size (sheetOf s)) where

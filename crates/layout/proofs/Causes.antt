@@ -121,7 +121,7 @@ field-verdict s p at tests f g t = go (cutAt s at) (cutting s at)
     go (Field tag start len next) (whole h) = skip s p 1 _ (λ c. not-whole s at h (g (row1 s p c))) (t h)
 
 -- what the content of a whole field has for a length
-whole-length : (s : List ℕ) (at : ℕ) → at + headerLength + lenAt s at ≤ length s → length (contentAt s (at + headerLength) (lenAt s at)) ≡ lenAt s at
+pub whole-length : (s : List ℕ) (at : ℕ) → at + headerLength + lenAt s at ≤ length s → length (contentAt s (at + headerLength) (lenAt s at)) ≡ lenAt s at
 whole-length s at h =
     content-length s at (getD s at 0) (at + headerLength) (lenAt s at) (at + headerLength + lenAt s at)
     (record { tag-is = refl; len-is = refl; start-is = refl; next-is = refl; next-in = h })

@@ -4,6 +4,7 @@ use mathlib.Core.Path.{_≡_, refl}
 use mathlib.Core.Bool.{Bool, true, false}
 use mathlib.Core.List.{List, [], _∷_, _++_}
 use Prim.Native.Nat.{ℕ, zero, suc}
+use lib.ListN.{drop}
 use Rattle.field.specs.Field.{cutAt}
 use Rattle.circuit.specs.Calls.{firstCause}
 use Rattle.circuit.specs.Rules.{sum, operationOf, coded, oneOrMore, maxParents, countAllowed as parentsAllowed}
@@ -16,6 +17,7 @@ use Rattle.layout.specs.Read.{lengthOrName, headTests, itemTests, lastTe
 use Rattle.layout.specs.Write.{concat, itemBytes, itemsWithin, within, writeSheet}
 use Rattle.layout.specs.Places.{placesFrom, places}
 use Rattle.layout.specs.Index.{indexBytes}
+use Rattle.layout.specs.Edition.{withEdition}
 
 -- to unfold these is to unfold all that the limits, reading and writing compute with
 unfoldable pub limiting : ℕ → ℕ → Bool
@@ -62,6 +64,13 @@ pub example-reads : readSheet exampleBytes ≡ opens 1 (places example)
 unfolding example exampleBytes reading writing
 example-reads = refl
 
+-- its edition number changed to 2, which is byte 3: it opens with the same items; and so is that of a sheet that ends there
+pub example-edition-2 : (withEdition 2 exampleBytes ≡ 0x01 ∷ 0x04 ∷ 0x00 ∷ 0x02 ∷ drop 4 exampleBytes)
+    × (readSheet (withEdition 2 exampleBytes) ≡ opens 2 (places example))
+    × (withEdition 2 (0x01 ∷ 0x04 ∷ 0x00 ∷ 0x01 ∷ []) ≡ 0x01 ∷ 0x04 ∷ 0x00 ∷ 0x02 ∷ [])
+unfolding example exampleBytes withEdition reading writing
+example-edition-2 = (refl, refl, refl)
+
 -- the index 7, 11, 15, 19, 31
 pub example-index : indexBytes (places example) ≡ 7 ∷ 0 ∷ 0 ∷ 0 ∷ 11 ∷ 0 ∷ 0 ∷ 0 ∷ 15 ∷ 0 ∷ 0 ∷ 0 ∷ 19 ∷ 0 ∷ 0 ∷ 0 ∷ 31 ∷ 0 ∷ 0 ∷ 0 ∷ []
 unfolding example indexBytes writing
@@ -103,7 +112,7 @@ pub gives-3 : Gives (1 ∷ 2 ∷ 0 ∷ 1 ∷ 0 ∷ []) 3 0 × Gives (head 1 ++ (
 unfolding reading
 gives-3 = (refl, refl, refl, refl, refl)
 
-pub gives-4 : Gives (1 ∷ 4 ∷ 0 ∷ 2 ∷ 0 ∷ 1 ∷ 0 ∷ []) 4 0 × Gives (head 0 ++ end) 4 0
+pub gives-4 : Gives (1 ∷ 4 ∷ 0 ∷ 3 ∷ 0 ∷ 1 ∷ 0 ∷ []) 4 0 × Gives (head 0 ++ end) 4 0
 unfolding reading
 gives-4 = (refl, refl)
 

@@ -18,7 +18,7 @@ use Rattle.layout.specs.Content.{contentAt, countIn, ruleIn, keepIn, spr
 use Rattle.layout.specs.Read.{lengthOrName, ruleWrong, Placed, going, headNext, scan, headContent, opens, readSheet}
 use Rattle.layout.specs.Write.{concat}
 use Rattle.layout.specs.Index.{indexWidth, bytes32, indexBytes, le32At}
-use Rattle.layout.proofs.Scan.{placedAt, offsetFrom, offset-placed, Passes, passes, scan-extended, scan-item, opened, opened-length, opened-count, and-left, and-right}
+use Rattle.layout.proofs.Scan.{placedAt, offsetFrom, offset-placed, Passes, passes, scan-extended, scan-item, opened, opened-length, opened-limit, limit-most, and-left, and-right}
 use Rattle.layout.proofs.Items.{figure-parts, name-length, parents-count}
 
 -- Four bytes an item.
@@ -141,14 +141,14 @@ scan-most s edition (suc k) at ps e =
     omega (arith, content-length s (x .before) (r .tag) (r .start) (r .len) at f)
 
 module _ (s : List ℕ) (edition : ℕ) (ps : List Placed) (e : readSheet s ≡ opens edition ps) where
-  pub opened-size : length s ≤ headNext + mostItems * fieldMost + headerLength
+  pub opened-size : length s ≤ headNext + itemLimit edition * fieldMost + headerLength
   unfolding maxParents nameLimit
   opened-size =
       let o = opened s edition ps e in
       let n : ℕ = countIn (headContent s) in
       let f = field-iff s (o .at) lastTag (o .at + headerLength) 0 (length s) .0 (o .last) in
       let m = scan-most s edition n (o .at) ps (o .scanned) in
-      omega (arith, opened-count s edition ps e, opened-length s edition ps e)
+      omega (arith, opened-limit s edition ps e, opened-length s edition ps e)
 
   -- each item's field begins within the sheet
   pub opened-offset : (j : ℕ) → j < length ps → placedAt ps j .offset < length s
@@ -162,4 +162,4 @@ module _ (s : List ℕ) (edition : ℕ) (ps : List Placed) (e : readSheet s ≡ 
   -- so an offset is read back from the index of a sheet that opens
   pub opened-entry : (j : ℕ) → j < length ps → le32At (indexBytes ps) (indexWidth * j) ≡ placedAt ps j .offset
   unfolding maxParents nameLimit mostItems itemLimit
-  opened-entry j h = index-entry ps j h (omega (arith, opened-offset j h, opened-size))
+  opened-entry j h = index-entry ps j h (omega (arith, opened-offset j h, opened-size, limit-most edition))

@@ -2,9 +2,11 @@ pub mod Scan
 pub mod Items
 pub mod Exactly
 pub mod IndexLaws
+pub mod Rooms
 pub mod Levels
 pub mod Tests
 pub mod Causes
+pub mod Editions
 pub mod Examples
 pub mod Boundaries
 pub mod WrittenBytes

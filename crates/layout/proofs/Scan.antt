@@ -439,22 +439,29 @@ pub most-small : mostItems < 65_536
 unfolding mostItems itemLimit
 most-small = omega arith
 
--- no edition has more items than the arrays of the code hold
-pub limit-most : (edition n : ℕ) → countAllowed edition n ≡ true → n ≤ mostItems
-unfolding countAllowed itemLimit mostItems
-limit-most edition n e = leb-true n mostItems (and-right (leb 1 n) (leb n mostItems) e)
+-- no edition has more items than the most of any
+pub limit-most : (edition : ℕ) → itemLimit edition ≤ mostItems
+unfolding itemLimit mostItems
+limit-most edition = go (eqb edition 1) refl
+  where
+    go : (b : Bool) → eqb edition 1 ≡ b → itemLimit edition ≤ mostItems
+    go true e = rw e (omega arith)
+    go false e = rw e (omega arith)
+
+pub allowed-limit : (edition n : ℕ) → countAllowed edition n ≡ true → (1 ≤ n) × (n ≤ itemLimit edition)
+unfolding countAllowed
+allowed-limit edition n e =
+    (leb-true 1 n (and-left (leb 1 n) (leb n (itemLimit edition)) e), leb-true n (itemLimit edition) (and-right (leb 1 n) (leb n (itemLimit edition)) e))
 
 module _ (s : List ℕ) (edition : ℕ) (ps : List Placed) (e : readSheet s ≡ opens edition ps) where
   pub opened-length : length ps ≡ countIn (headContent s)
   opened-length = let o = opened s edition ps e in scan-length s edition (countIn (headContent s)) (o .at) ps (o .scanned)
 
+  pub opened-limit : (1 ≤ length ps) × (length ps ≤ itemLimit edition)
+  opened-limit = rw opened-length (allowed-limit edition (countIn (headContent s)) (opened s edition ps e .count-fits))
+
   pub opened-count : (1 ≤ length ps) × (length ps ≤ mostItems)
-  unfolding countAllowed
-  opened-count =
-      let c = opened s edition ps e .count-fits in
-      let k : ℕ = countIn (headContent s) in
-      let n = opened-length in
-      (omega (arith, leb-true 1 k (and-left (leb 1 k) (leb k (itemLimit edition)) c)), omega (arith, limit-most edition k c))
+  opened-count = (opened-limit .0, omega (arith, opened-limit, limit-most edition))
 
   pub opened-fits : (j : ℕ) → j < length ps → ItemFits edition ps j
   opened-fits j h =

@@ -97,9 +97,12 @@ tells-length tag content (inl e) = rw (ne-eqb tag figureTag (λ t. omega arith))
 tells-length tag content (inr e) = rw (eq-eqb tag figureTag e) (tells-figure tag content e)
 
 -- 4: edition or item count
-pub refutes-edition : (edition n : ℕ) → Refutes ((¬ (edition ≡ 1)) ⊎ (n < 1) ⊎ (itemLimit edition < n)) (editionKnown edition && countAllowed edition n)
+pub refutes-edition : (edition n : ℕ)
+    → Refutes (((¬ (edition ≡ 1)) × (¬ (edition ≡ 2))) ⊎ (n < 1) ⊎ (itemLimit edition < n)) (editionKnown edition && countAllowed edition n)
 unfolding editionKnown countAllowed
-refutes-edition edition n = refutes-and (refutes-tells (tells-eq edition 1)) (refutes-and (refutes-le 1 n) (refutes-le n (itemLimit edition)))
+refutes-edition edition n =
+    refutes-and (refutes-if (λ m. (λ e. m (inl e), λ e. m (inr e))) (λ m. ⊎-elim (m .0) (m .1)) (refutes-tells (tells-or (tells-eq edition 1) (tells-eq edition 2))))
+    (refutes-and (refutes-le 1 n) (refutes-le n (itemLimit edition)))
 
 -- 5: rule, keep, spread, or p wrong for the rule
 record TakesFacts (code p : ℕ) : Type 0 where

@@ -2,26 +2,26 @@
 use mathlib.Core.Path.{_≡_, refl}
 use mathlib.Core.Bool.{Bool, true, false, _&&_}
 use mathlib.Core.List.{List, [], _∷_, _++_, map}
-use mathlib.Core.Logic.{inl, inr}
+use mathlib.Core.Logic.{_⊎_, inl, inr}
 use Prim.Native.Nat.{ℕ, zero, suc, _+_, _/_, _%_, _≤_, _<_}
 use native.Mathlib.Omega.{arith}
 use lib.Dec.{leb, ltb}
 use lib.ListN.{length, length-append}
-use borrow.Author.Tests.{leb-true, ltb-true, eqb-true}
+use borrow.Author.Tests.{leb-true, ltb-true}
 use Rattle.circuit.specs.Rules.{maxParents}
 use Rattle.field.specs.Bytes.{Bytes}
 use Rattle.field.specs.Field.{fieldBytes}
 use Rattle.field.proofs.Cutting.{Bytes-fieldBytes}
 use Rattle.circuit.specs.Circuit.{Listed}
-use Rattle.layout.specs.Layout.{LayoutItem, entryField, figureField, Layout, headTag, entryTag, figureTag, lastTag, editionKnown, itemLimit, countAllowed, levelLimit, keepAllowed}
+use Rattle.layout.specs.Layout.{LayoutItem, entryField, figureField, Layout, headTag, entryTag, figureTag, lastTag, editionKnown, levelLimit, keepAllowed}
 use Rattle.layout.specs.Layout.{spreadAllowed, ruleAllowed, nameByte, nameLimit, nameAllowed, all}
 use Rattle.layout.specs.Write.{bytes16, concat, itemBytes, writeSheet, levelAfter, itemWithin, itemsWithin, within}
 use Rattle.layout.specs.Causes.{RuleTakes, sumTakes, differenceTakes, smallestTakes, largestTakes, shareTakes, choiceTakes, countTakes, atLeastTakes}
-use Rattle.layout.proofs.Scan.{and-left, and-right, all-listed}
+use Rattle.layout.proofs.Scan.{and-left, and-right, all-listed, most-small, limit-most, allowed-limit}
 use Rattle.layout.proofs.Items.{pairs-length, name-length}
 use Rattle.layout.proofs.Exactly.{and-four, within-parts}
 use Rattle.layout.proofs.IndexLaws.{parents-most}
-use Rattle.layout.proofs.Tests.{Tells, holds, fails, tells-rule}
+use Rattle.layout.proofs.Tests.{Tells, holds, fails, tells-or, tells-eq, tells-rule}
 
 Bytes-nil : Bytes []
 Bytes-nil i = omega arith
@@ -108,13 +108,22 @@ Bytes-items edition levels (it ∷ its) e h =
     (Bytes-items edition (levels ++ (levelAfter levels it ∷ [])) its (and-right (itemWithin edition levels it) _ e)
     (omega (arith, length-append levels (levelAfter levels it ∷ []))))
 
+known-small : (edition : ℕ) → editionKnown edition ≡ true → edition < 65_536
+unfolding editionKnown
+known-small edition e = go (tells-or (tells-eq edition 1) (tells-eq edition 2)) e
+  where
+    go : {b : Bool} → Tells ((edition ≡ 1) ⊎ (edition ≡ 2)) b → b ≡ true → edition < 65_536
+    go (holds (inl x)) q = omega arith
+    go (holds (inr x)) q = omega arith
+    go (fails n) q = let z : _≡_ {A = ℕ} 0 1 = cc in absurd (omega arith)
+
 pub written-bytes : (l : Layout) → within l ≡ true → Bytes (writeSheet l)
-unfolding writeSheet editionKnown countAllowed itemLimit
+unfolding writeSheet
 written-bytes l w =
     let parts = within-parts l w in
     let n : ℕ = length (l .items) in
-    let ed = eqb-true (l .edition) 1 (parts .0) in
-    let most = leb-true n (itemLimit (l .edition)) (and-right (leb 1 n) (leb n (itemLimit (l .edition))) (parts .1)) in
+    let ed = known-small (l .edition) (parts .0) in
+    let most : n < 65_536 = omega (arith, allowed-limit (l .edition) n (parts .1), limit-most (l .edition), most-small) in
     let content : List ℕ = bytes16 (l .edition) ++ bytes16 n in
     let bytes : List ℕ = concat (map itemBytes (l .items)) in
     Bytes-append (fieldBytes headTag content ++ bytes) (fieldBytes lastTag [])

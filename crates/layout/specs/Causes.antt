@@ -108,9 +108,10 @@ WrongLengthOrName s (item i) = WrongItemLength (tagOf s (item i)) (lengthOf s (i
 WrongLengthOrName s last = ¬ (lengthOf s last ≡ 0)
 WrongLengthOrName s after = ⊥
 
--- 4: edition or item count
+-- 4: edition or item count: an edition that is not 1 or 2, no items, or more than the edition has
 abbrev pub WrongEditionOrCount : List ℕ → Place → Type 0
-WrongEditionOrCount s first = (¬ (editionOf s ≡ 1)) ⊎ (itemCount s < 1) ⊎ (itemLimit (editionOf s) < itemCount s)
+WrongEditionOrCount s first =
+    ((¬ (editionOf s ≡ 1)) × (¬ (editionOf s ≡ 2))) ⊎ (itemCount s < 1) ⊎ (itemLimit (editionOf s) < itemCount s)
 WrongEditionOrCount s (item i) = ⊥
 WrongEditionOrCount s last = ⊥
 WrongEditionOrCount s after = ⊥

@@ -1,7 +1,7 @@
 -- The layout of a sheet: the constants of its form, its items as they are written, and the limits of each part. The most parents of a
 -- figure stand with the rules, and a field's header with the fields. Assumes nothing.
 use Prim.Native.Nat.{ℕ, _+_, _*_, max}
-use mathlib.Core.Bool.{Bool, true, false, cond, _&&_}
+use mathlib.Core.Bool.{Bool, true, false, cond, _&&_, _||_}
 use mathlib.Core.List.{List, [], _∷_, map}
 use mathlib.Core.Option.{Option, none, some}
 use lib.Dec.{eqb, leb}
@@ -73,14 +73,14 @@ indexWidth = 4
 
 -- the editions that are known
 unfoldable pub editionKnown : ℕ → Bool
-editionKnown edition = eqb edition 1
+editionKnown edition = eqb edition 1 || eqb edition 2
 
--- the most items of a sheet: of an edition, and of any
+-- The most items of a sheet, by its edition: the limit stands here and nowhere else. And the most of any edition.
 unfoldable pub itemLimit : ℕ → ℕ
-itemLimit edition = 1024
+itemLimit edition = cond (eqb edition 1) 1024 4096
 
 unfoldable pub mostItems : ℕ
-mostItems = itemLimit 1
+mostItems = itemLimit 2
 
 unfoldable pub countAllowed : ℕ → ℕ → Bool
 countAllowed edition n = leb 1 n && leb n (itemLimit edition)

@@ -6,3 +6,5 @@ pub mod Index
 pub mod Places
 pub mod Causes
 pub mod Opened
+pub mod Room
+pub mod Edition

@@ -34,8 +34,10 @@ pub const PARENT_WIDTH: usize = 2;
 // The bytes of an index entry.
 pub const INDEX_WIDTH: usize = 4;
 
-// The most items of a sheet of any edition.
-pub const ITEM_LIMIT: usize = 1024;
+// The most items of a sheet: of edition 1, and of edition 2, which is the most of any.
+const ITEM_LIMIT_1: usize = 1024;
+
+pub const ITEM_LIMIT: usize = 4096;
 
 pub const LEVEL_LIMIT: usize = 64;
 
@@ -54,14 +56,18 @@ pub fn name_byte(b: u8) -> bool
 pub fn edition_known(edition: usize) -> bool
     ensures { λ r. ⌜ r ≡ editionKnown edition ⌝ }
 {
-    edition == 1
+    edition == 1 || edition == 2
 }
 
 // The most items of a sheet of an edition.
 pub fn item_limit(edition: usize) -> usize
     ensures { λ r. ⌜ r ≡ itemLimit edition ⌝ }
 {
-    ITEM_LIMIT
+    if edition == 1 {
+        ITEM_LIMIT_1
+    } else {
+        ITEM_LIMIT
+    }
 }
 
 pub fn count_allowed(edition: usize, n: usize) -> bool

@@ -1,9 +1,10 @@
--- The three demands hold, catching up always finishes, and swaps are one act. Assumes nothing.
+-- The three demands hold, catching up always finishes, swaps are one act, and edition 2 reads an edition 1 sheet as edition 1 does. Assumes
+-- nothing.
 use Rattle.circuit.specs.Call.{board}
 use Rattle.circuit.proofs.Equations.{equations}
 use Rattle.circuit.proofs.Retention.{drop-words}
 use Rattle.circuit.proofs.Board.{listed-count, listed-at}
-use Rattle.office.specs.Demands.{Refuses, Means, Agrees, Finishes, Swaps, Demands}
+use Rattle.office.specs.Demands.{Refuses, Means, Agrees, Finishes, Swaps, Editions, Demands}
 use Rattle.office.proofs.Refusals.{turned-back, board-refuses, close-refuses, swap-refuses, accepted-lent}
 use Rattle.office.proofs.Examples.{each-given}
 use Rattle.office.proofs.Older.{lower-accepted, former-refused}
@@ -17,6 +18,7 @@ use Rattle.office.proofs.Agreeing.{offices-agree, offices-retain, offic
 use Rattle.office.proofs.StepsEnd.{office-steps-end}
 use Rattle.office.proofs.Arriving.{office-quiet-right, office-any-order}
 use Rattle.office.proofs.Swapping.{swaps-keep-sum, office-swap-follows, swap-counts}
+use Rattle.office.proofs.Editions.{edition-serves, edition-runs, edition-postings, edition-circuit, edition-agree}
 
 -- Demand 1.
 pub refuses : Refuses
@@ -76,5 +78,10 @@ finishes = record { steps-end = office-steps-end; quiet-right = office-quiet-rig
 pub swaps : Swaps
 swaps = record { sum-kept = swaps-keep-sum; follows = office-swap-follows; counts = swap-counts }
 
+-- 02's job 9.
+pub editions : Editions
+editions =
+    record { same = edition-serves; lists = edition-runs; postings = edition-postings; circuit = edition-circuit; agree = edition-agree }
+
 pub demands : Demands
-demands = record { refuses = refuses; means = means; agrees = agrees; finishes = finishes; swaps = swaps }
+demands = record { refuses = refuses; means = means; agrees = agrees; finishes = finishes; swaps = swaps; editions = editions }

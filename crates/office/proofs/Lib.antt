@@ -8,6 +8,7 @@ pub mod Cells
 pub mod Closes
 pub mod Swapping
 pub mod Demands
+pub mod Editions
 pub mod Examples
 pub mod Giving
 pub mod Holdable

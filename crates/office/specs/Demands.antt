@@ -1,5 +1,5 @@
 -- The three demands of document 01, with 02's board, season-close run, owed bytes, choice and swap, a record for each, in its order; and a
--- record each of 02's job 7, that catching up always finishes, and of its job 8, swaps as one act. They are demands on `openOn` and `callOn`
+-- record each of 02's job 7, that catching up always finishes, and of its job 8, swaps as one act, and of its job 9, that an edition more changes no reading. They are demands on `openOn` and `callOn`
 -- (Office), which the contracts of the exported functions cite: a function gives and leaves exactly what these say, for all lent bytes. That
 -- every call ends and touches only what it was lent is proved of each function by the language. Assumes nothing.
 use Prim.Native.Nat.{ℕ, _*_, _≤_}
@@ -16,15 +16,17 @@ use Rattle.circuit.specs.Call.{Call, drop, board, close, swap, Opening, bare}
 use Rattle.circuit.specs.Calls.{drops}
 use Rattle.circuit.specs.Fresh.{blank}
 use Rattle.field.specs.Field.{Bytes}
-use Rattle.layout.specs.Layout.{machineSheet}
+use Rattle.layout.specs.Layout.{itemLimit, machineSheet}
 use Rattle.layout.specs.Opened.{sheetOf}
-use Rattle.layout.specs.Causes.{Faultless}
+use Rattle.layout.specs.Causes.{editionOf, itemCount, Faultless}
+use Rattle.layout.specs.Edition.{withEdition}
 use Rattle.office.specs.Office.{Office, resultOf, callOn, openOn, runOn}
 use Rattle.office.specs.Demand1Words.{Invocation, serve, resultsLentTo, causesOf, First, ByNumber, Lowest, Refused, NoCause, Gets}
 use Rattle.office.specs.Demand1Words.{formerWidth, AcceptedUnder, AcceptedLent, BoardRefuses, CloseRefuses, SwapRefuses, SheetWords}
 use Rattle.office.specs.Demand2Words.{FollowsLayout, Writes, NoneStored, OnlySolution, entriesIn, Gives, NoMarkStands, ListWords, ResultWords, CallsLeave}
 use Rattle.office.specs.FinishWords.{StepsEnd, QuietRight, AnyOrder}
 use Rattle.office.specs.SwapWords.{Swapping, swapsOf, sumIn, SwapFollows, CountsAsPosts}
+use Rattle.office.specs.EditionWords.{SameAcross}
 use Rattle.office.specs.Demand3Words.{postingsOn, askAfter, freshEntries, freshFrom, SameAnswers, Retains, RetainsPost, CountsAsAsks, ClosesRight, OfficeAccepted}
 
 -- Demand 1. Each fault is refused by its number and nothing else is, and a refused call changes no lent byte.
@@ -53,7 +55,7 @@ pub record Refuses : Type 0 where
   -- 02's "old tables are opened anew": a table of the former width is given 8 by every opening and call, if the sheet has no fault
   pub former : (r : Invocation) (s : List ℕ) (o : Office) → Faultless s → length (o .table) ≡ formerWidth * size (sheetOf s)
       → (serve r s o .number ≡ 8) × (serve r s o .offset ≡ 0)
-  -- each number has its cause (15 is the printer's, printer/specs/Causes, and 16 the day program's, day_meaning/specs/Causes)
+  -- each number has its cause (15 is the printer's, printer/specs/Causes, and 16 and 19 the day program's, day_meaning/specs/Causes)
   pub each : Gets 1 × Gets 2 × Gets 3 × Gets 4 × Gets 5 × Gets 6 × Gets 7 × Gets 8 × Gets 9 × Gets 10 × Gets 11 × Gets 12 × Gets 13 × Gets 14 × Gets 17 × Gets 18
   -- the sheet's words in the causes are those of its bytes
   pub words : (s : List ℕ) → Faultless s → SheetWords s
@@ -137,9 +139,30 @@ pub record Swaps : Type 0 where
   pub counts : (s : List ℕ) (o : Office) (giver taker : ℕ) (quantity : ℤ) → callOn s o (swap giver taker quantity) .number ≡ 0
       → (cs : List Call) → CountsAsPosts s o giver taker quantity cs
 
+-- 02's job 9: "an edition 1 sheet with its edition number changed to 2 gives the same readings". The sheet may have any fault but one: more
+-- items than edition 1 may have, which edition 2 may.
+pub record Editions : Type 0 where
+  -- every opening and call, on any index and table, gives the same, and leaves the same bytes
+  pub same : (s : List ℕ) → editionOf s ≡ 1 → itemCount s ≤ itemLimit 1
+      → (r : Invocation) (o : Office) → serve r (withEdition 2 s) o ≡ serve r s o
+  -- every list of calls leaves the same bytes, and makes the same postings
+  pub lists : (s : List ℕ) → editionOf s ≡ 1 → itemCount s ≤ itemLimit 1
+      → (o : Office) (cs : List Call) → runOn (withEdition 2 s) o cs ≡ runOn s o cs
+  pub postings : (s : List ℕ) → editionOf s ≡ 1 → itemCount s ≤ itemLimit 1
+      → (o : Office) (cs : List Call) → postingsOn (withEdition 2 s) o cs ≡ postingsOn s o cs
+  -- the circuit is the same
+  pub circuit : (s : List ℕ) → editionOf s ≡ 1 → itemCount s ≤ itemLimit 1 → sheetOf (withEdition 2 s) ≡ sheetOf s
+  -- Demand 3 for two offices, one of which holds the sheet under edition 1 and the other under edition 2
+  pub agree : (s : List ℕ) → editionOf s ≡ 1 → itemCount s ≤ itemLimit 1
+      → let t : List ℕ = withEdition 2 s in (o p : Office) (first second : Opening)
+      → openOn first s o .number ≡ 0 → openOn second t p .number ≡ 0
+      → (cs ds : List Call) → postingsOn s (openOn first s o .after) cs ≡ postingsOn t (openOn second t p .after) ds
+      → SameAcross s (openOn first s o .after) cs t (openOn second t p .after) ds
+
 pub record Demands : Type 0 where
   pub refuses : Refuses
   pub means : Means
   pub agrees : Agrees
   pub finishes : Finishes
   pub swaps : Swaps
+  pub editions : Editions

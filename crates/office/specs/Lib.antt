@@ -4,4 +4,5 @@ pub mod Demand2Words
 pub mod Demand3Words
 pub mod FinishWords
 pub mod SwapWords
+pub mod EditionWords
 pub mod Demands

@@ -7,7 +7,7 @@ use mathlib.Core.Path.{_≡_, refl, sym, ap, subst, _∙_, fun-ext}
 use mathlib.Core.Bool.{Bool, true, false}
 use mathlib.Core.List.{List}
 use lib.Dec.{eqb}
-use lib.ListN.{length, getD, set, take, length-set, length-take, length-drop, replicate, length-replicate, getD-replicate}
+use lib.ListN.{length, getD, set, take, length-set, length-take, length-drop}
 use lib.Seq.{getD-set-same, getD-set-other, getD-take, ext-getD}
 use borrow.Author.Tests.{eqb-true, eqb-false, eq-eqb}
 use Rattle.field.specs.Bytes.{Bytes}
@@ -19,11 +19,23 @@ use Rattle.table.specs.Bytes.{encodeTable, decodeTable, recordInForm, tableForm
 use Rattle.table.proofs.Rows.{getD-row, below-true, true-below}
 use Rattle.table.proofs.Records.{decode-front, form-front}
 use Rattle.table.proofs.Tables.{encoded-as}
-use Rattle.owing.specs.Owing.{Blank, OwedIs, oweRows}
+use Rattle.owing.specs.Owing.{OwedIs, oweRows}
 
--- an array of zeros
-pub zeros-blank : (n most : ℕ) → n ≤ most → Blank n (replicate most 0)
-zeros-blank n most h = record { room = rw (length-replicate {A = ℕ} most 0) h; none = λ i low. getD-replicate most i 0 0 (omega arith) }
+-- the first i bytes of an array are 0
+pub record Blanked (n room i : ℕ) (bytes : List ℕ) : Type 0 where
+  pub within : i ≤ n
+  pub kept : length bytes ≡ room
+  pub zeros : (j : ℕ) → j < i → getD bytes j 0 ≡ 0
+
+pub blanked-next : (n room i : ℕ) (bytes : List ℕ) → n ≤ room → i < n → Blanked n room i bytes → Blanked n room (i + 1) (set bytes i 0)
+blanked-next n room i bytes fits low b =
+    record { within = omega arith; kept = length-set bytes i 0 ∙ b .kept; zeros = λ j h. go j h (eqb j i) refl }
+  where
+    go : (j : ℕ) → j < i + 1 → (q : Bool) → eqb j i ≡ q → getD (set bytes i 0) j 0 ≡ 0
+    go j h true e = rw (eqb-true j i e) (getD-set-same bytes i 0 0 (omega (arith, b .kept)))
+    go j h false e =
+        let other : (j ≡ i → ⊥) = eqb-false j i e in
+        getD-set-other bytes i j 0 0 other ∙ b .zeros j (omega arith)
 
 -- ---- reading owed bytes
 

@@ -1,5 +1,6 @@
-// The owed bytes of the work table. Which items are owed comes by one pass over the items and their parents, highest first, into an array
-// with a byte for each item; the bytes of a table are tested by such an array, and written from one.
+// The owed bytes of the work table. Which items are owed comes by one pass over the items and their parents, highest first, into a lent array
+// with a byte for each item; the bytes of a table are tested by such an array, and written from one. What the array holds before counts
+// for nothing, and what it holds afterwards is left free.
 ghost use mathlib.Core.Path.{_≡_};
 ghost use mathlib.Core.Bool.{true};
 ghost use Prim.Native.Nat.{ℕ, _+_, _*_, _<_, _≤_};
@@ -41,6 +42,18 @@ fn owe_parents(s: &[u8], at: usize, owed: &mut [u8])
     }
 }
 
+// Blanks the bytes of n items.
+fn blank(owed: &mut [u8], n: usize)
+    requires { ⌜ n ≤ length (now owed) ⌝ }
+    ensures { λ _. ⌜ Blank n (now (owed .exit)) ⌝ }
+{
+    let mut i = 0;
+    while i < n {
+        owed[i] = 0;
+        i += 1;
+    }
+}
+
 // Which of the n items are owed, in an array that is blank.
 fn owe(s: &[u8], offsets: &[usize], n: usize, table: &[u8], owed: &mut [u8])
     requires { ⌜ Located (now s) (now offsets) ⌝ ∗ ⌜ n ≡ size (sheetOf (now s)) ⌝ ∗ ⌜ n ≤ length (now offsets) ⌝ ∗ ⌜ length (now table) ≡ width * n ⌝ ∗ ⌜ Blank n (now owed) ⌝ }
@@ -71,13 +84,13 @@ fn owed_matches(table: &[u8], n: usize, owed: &[u8]) -> bool
 }
 
 // Whether every owed byte of a table is the true one.
-pub fn owed_true(s: &[u8], offsets: &[usize], n: usize, table: &[u8]) -> bool
-    requires { ⌜ Located (now s) (now offsets) ⌝ ∗ ⌜ n ≡ size (sheetOf (now s)) ⌝ ∗ ⌜ n ≤ length (now offsets) ⌝ ∗ ⌜ length (now table) ≡ width * n ⌝ }
+pub fn owed_true(s: &[u8], offsets: &[usize], n: usize, table: &[u8], owed: &mut [u8]) -> bool
+    requires { ⌜ Located (now s) (now offsets) ⌝ ∗ ⌜ n ≡ size (sheetOf (now s)) ⌝ ∗ ⌜ (n ≤ length (now offsets)) × (n ≤ length (now owed)) ⌝ ∗ ⌜ length (now table) ≡ width * n ⌝ }
     ensures { λ r. ⌜ r ≡ owedTrue (sheetOf (now (s .entry))) (now (table .entry)) ⌝ }
 {
-    let mut owed = [0u8; limits::ITEM_LIMIT];
-    owe(s, offsets, n, table, &mut owed);
-    owed_matches(table, n, &owed)
+    blank(owed, n);
+    owe(s, offsets, n, table, owed);
+    owed_matches(table, n, owed)
 }
 
 // Writes the owed bytes of the n items, and changes no other byte.
@@ -93,13 +106,13 @@ fn write_owed(table: &mut [u8], n: usize, owed: &[u8])
 }
 
 // Settles a table whose cells were stored: its owed bytes become the true ones. Every owed byte is written here.
-pub fn settle(s: &[u8], offsets: &[usize], n: usize, table: &mut [u8])
-    requires { ⌜ Located (now s) (now offsets) ⌝ ∗ ⌜ n ≡ size (sheetOf (now s)) ⌝ ∗ ⌜ n ≤ length (now offsets) ⌝ ∗ ⌜ length (now table) ≡ width * n ⌝ ∗ ⌜ tableForm (sheetOf (now s)) (now table) ≡ true ⌝ }
+pub fn settle(s: &[u8], offsets: &[usize], n: usize, table: &mut [u8], owed: &mut [u8])
+    requires { ⌜ Located (now s) (now offsets) ⌝ ∗ ⌜ n ≡ size (sheetOf (now s)) ⌝ ∗ ⌜ (n ≤ length (now offsets)) × (n ≤ length (now owed)) ⌝ ∗ ⌜ length (now table) ≡ width * n ⌝ ∗ ⌜ tableForm (sheetOf (now s)) (now table) ≡ true ⌝ }
     ensures { λ _. ⌜ now (table .exit) ≡ encodeTable (sheetOf (now (s .entry))) (decodeTable (now (table .entry))) ⌝ }
 {
-    let mut owed = [0u8; limits::ITEM_LIMIT];
-    owe(s, offsets, n, table, &mut owed);
-    write_owed(table, n, &owed);
+    blank(owed, n);
+    owe(s, offsets, n, table, owed);
+    write_owed(table, n, owed);
 }
 
 // Copies the owed bytes of a table's n items, for the tellings of a call.

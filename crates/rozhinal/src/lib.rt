@@ -15,14 +15,14 @@ use call_ask::Reading;
 pub extern "C" fn rozhinal_open_bare(sheet: &[u8], index: &mut [u8], table: &mut [u8]) -> Answer
     ensures { λ r. ⌜ Opened (openOn bare (now (sheet .entry)) (keeping (now (index .entry)) (now (table .entry)))) r (now (index .exit)) (now (table .exit)) ⌝ }
 {
-    call_open::open_bare(sheet, index, table)
+    calls::open_bare(sheet, index, table)
 }
 
 #[no_mangle]
 pub extern "C" fn rozhinal_open_full(sheet: &[u8], index: &mut [u8], table: &mut [u8]) -> Answer
     ensures { λ r. ⌜ Opened (openOn full (now (sheet .entry)) (keeping (now (index .entry)) (now (table .entry)))) r (now (index .exit)) (now (table .exit)) ⌝ }
 {
-    call_open::open_full(sheet, index, table)
+    calls::open_full(sheet, index, table)
 }
 
 #[no_mangle]
@@ -36,7 +36,7 @@ pub extern "C" fn rozhinal_post(
 ) -> Answer
     ensures { λ r. ⌜ Answered (callOn (now (sheet .entry)) (keeping (now (index .entry)) (now (table .entry))) (call.post item kind number)) r (now (table .exit)) ⌝ }
 {
-    call_post::post(sheet, index, table, item, kind, number)
+    calls::post(sheet, index, table, item, kind, number)
 }
 
 #[no_mangle]
@@ -50,35 +50,35 @@ pub extern "C" fn rozhinal_swap(
 ) -> Answer
     ensures { λ r. ⌜ Answered (callOn (now (sheet .entry)) (keeping (now (index .entry)) (now (table .entry))) (call.swap giver taker quantity)) r (now (table .exit)) ⌝ }
 {
-    call_swap::swap(sheet, index, table, giver, taker, quantity)
+    calls::swap(sheet, index, table, giver, taker, quantity)
 }
 
 #[no_mangle]
 pub extern "C" fn rozhinal_keep(sheet: &[u8], index: &[u8], table: &mut [u8], item: u64) -> Answer
     ensures { λ r. ⌜ Answered (callOn (now (sheet .entry)) (keeping (now (index .entry)) (now (table .entry))) (call.keep item)) r (now (table .exit)) ⌝ }
 {
-    call_keep::keep(sheet, index, table, item)
+    calls::keep(sheet, index, table, item)
 }
 
 #[no_mangle]
 pub extern "C" fn rozhinal_drop(sheet: &[u8], index: &[u8], table: &mut [u8], item: u64) -> Answer
     ensures { λ r. ⌜ Answered (callOn (now (sheet .entry)) (keeping (now (index .entry)) (now (table .entry))) (call.drop item)) r (now (table .exit)) ⌝ }
 {
-    call_keep::drop_figure(sheet, index, table, item)
+    calls::drop_figure(sheet, index, table, item)
 }
 
 #[no_mangle]
 pub extern "C" fn rozhinal_step(sheet: &[u8], index: &[u8], table: &mut [u8], item: u64) -> Answer
     ensures { λ r. ⌜ Answered (callOn (now (sheet .entry)) (keeping (now (index .entry)) (now (table .entry))) (call.step item)) r (now (table .exit)) ⌝ }
 {
-    call_step::step(sheet, index, table, item)
+    calls::step(sheet, index, table, item)
 }
 
 #[no_mangle]
 pub extern "C" fn rozhinal_ask(sheet: &[u8], index: &[u8], table: &mut [u8], item: u64) -> Reading
     ensures { λ r. ⌜ Asked (callOn (now (sheet .entry)) (keeping (now (index .entry)) (now (table .entry))) (call.ask item)) r (now (table .exit)) ⌝ }
 {
-    call_ask::ask(sheet, index, table, item)
+    calls::ask(sheet, index, table, item)
 }
 
 #[no_mangle]
@@ -91,14 +91,14 @@ pub extern "C" fn rozhinal_board(
 ) -> Answer
     ensures { λ r. ⌜ BoardShown (callOn (now (sheet .entry)) (keeping (now (index .entry)) (now (table .entry))) (call.board (now (items .entry)) (now (results .entry)))) r (now (results .exit)) (now (table .exit)) ⌝ }
 {
-    call_board::board(sheet, index, table, items, results)
+    calls::board(sheet, index, table, items, results)
 }
 
 #[no_mangle]
 pub extern "C" fn rozhinal_close(sheet: &[u8], index: &[u8], table: &mut [u8]) -> Answer
     ensures { λ r. ⌜ Answered (callOn (now (sheet .entry)) (keeping (now (index .entry)) (now (table .entry))) call.close) r (now (table .exit)) ⌝ }
 {
-    call_close::close(sheet, index, table)
+    calls::close(sheet, index, table)
 }
 
 #[no_mangle]

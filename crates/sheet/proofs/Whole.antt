@@ -7,16 +7,18 @@ use lib.ListN.{length}
 use Rattle.field.specs.Field.{cutAt, le16At, headerLength}
 use Rattle.field.specs.declared.Cut.the-variants.{Field}
 use Rattle.field.proofs.Cutting.{field-iff}
-use Rattle.layout.specs.Layout.{editionAt, countAt, headLength, mostItems}
+use Rattle.layout.specs.Layout.{editionAt, countAt, headLength}
 use Rattle.layout.specs.Content.{editionIn, countIn}
 use Rattle.layout.specs.Read.{headContent, headTests, judge, scan, scanLast, scanSheet, conclude, readSheet}
 use Rattle.layout.specs.Opened.{offsetsOf, levelsOf}
+use Rattle.layout.specs.Room.{roomFor}
 use Rattle.field.specs.Bytes.{over}
 use Rattle.sheet.specs.Check.{checkedOf, soundItems, readSoFar}
 use Rattle.sheet.specs.declared.Checked.{Checked}
 use Rattle.sheet.specs.declared.Checked.the-variants.{Refused}
 use Rattle.sheet.proofs.Content.{content16}
-use Rattle.layout.proofs.Scan.{HeadRead, head-read, limit-most}
+use Rattle.layout.proofs.Scan.{HeadRead, head-read}
+use Rattle.layout.proofs.Rooms as rooms
 
 -- what the check answers and leaves in its arrays
 abbrev pub Checks : List ℕ → Checked → (offsets offsets₀ levels levels₀ : List ℕ) → Type 0
@@ -52,8 +54,8 @@ module _ (s : List ℕ) (tag start len next : ℕ) (cut : cutAt s 0 ≡ Field ta
     count-found : count ≡ countIn (headContent s)
     count-found = e₂ ∙ ap (λ k. le16At s (k + countAt)) (placed-at .0) ∙ sym (content16 s headerLength headLength countAt (omega arith))
 
-    pub count-most : count ≤ mostItems
-    count-most = rw count-found (limit-most (editionIn (headContent s)) (countIn (headContent s)) (read .count-fits))
+    pub count-most : count ≤ roomFor s
+    count-most = rw count-found (rooms.head-room s e)
 
     pub head-accepted : (r : Checked) (offsets offsets₀ levels levels₀ : List ℕ) → r ≡ checkedOf (conclude edition (scanLast s (scan s edition count)))
         → offsets ≡ over (offsetsOf (soundItems s edition count)) offsets₀ → levels ≡ over (levelsOf (soundItems s edition count)) levels₀

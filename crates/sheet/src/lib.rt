@@ -5,10 +5,11 @@ ghost use mathlib.Core.List.{List};
 ghost use Prim.Native.Nat.{_+_, _*_, _≤_, max};
 ghost use lib.ListN.{length};
 ghost use Rattle.circuit.specs.Calls.{firstCause};
-ghost use Rattle.layout.specs.Layout.{figureTag, mostItems, parentWidth, ruleAllowed, keepAllowed, spreadAllowed, nameAllowed};
+ghost use Rattle.layout.specs.Layout.{figureTag, parentWidth, ruleAllowed, keepAllowed, spreadAllowed, nameAllowed};
 ghost use Rattle.layout.specs.Read.{Placed, headTests, going, scan, scanLast, conclude, readSheet};
 ghost use Rattle.layout.specs.Content.{contentAt};
 ghost use Rattle.layout.specs.Opened.{offsetsOf, levelsOf};
+ghost use Rattle.layout.specs.Room.{countSaid, roomFor, Room};
 ghost use Rattle.field.specs.Bytes.{over};
 ghost use Rattle.sheet.specs.Check.{checkedOf, judgedItem, LevelsAt, soundItems, readSoFar, numbersAt, levelOver};
 use field::Cut;
@@ -260,9 +261,34 @@ fn check_items(
     check_last(s, at, edition, count)
 }
 
+// Where a sheet has its item count.
+const SAID_AT: usize = field::HEADER_LENGTH + COUNT_AT;
+
+// The item count that the first field says, 0 where the sheet ends before it. Nothing else of the sheet is looked at.
+pub fn count_said(s: &[u8]) -> usize
+    ensures { λ r. ⌜ (r ≡ countSaid (now (s .entry))) × (r ≤ 65535) ⌝ }
+{
+    if s.len() < limits::HEAD_NEXT {
+        return 0;
+    }
+    field::u16_at(s, SAID_AT)
+}
+
+// The room that the sheet's items need in an array.
+pub fn room_for(s: &[u8]) -> usize
+    ensures { λ r. ⌜ r ≡ roomFor (now (s .entry)) ⌝ }
+{
+    let count = count_said(s);
+    if count <= limits::ITEM_LIMIT {
+        count
+    } else {
+        limits::ITEM_LIMIT
+    }
+}
+
 // The check of a sheet: its answer, and the offset and the level of each item read before the first fault.
 pub fn check(s: &[u8], offsets: &mut [usize], levels: &mut [u8]) -> Checked
-    requires { ⌜ (mostItems ≤ length (now offsets)) × (mostItems ≤ length (now levels)) ⌝ }
+    requires { ⌜ Room (now s) (now offsets) (now levels) ⌝ }
     ensures answer { λ r. ⌜ r ≡ checkedOf (readSheet (now (s .entry))) ⌝ }
     ensures found { λ r. ⌜ now (offsets .exit) ≡ over (offsetsOf (readSoFar (now (s .entry)))) (now (offsets .entry)) ⌝ }
     ensures leveled { λ r. ⌜ now (levels .exit) ≡ over (levelsOf (readSoFar (now (s .entry)))) (now (levels .entry)) ⌝ }

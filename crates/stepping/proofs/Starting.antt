@@ -4,12 +4,12 @@ use native.Mathlib.Omega.{arith}
 use mathlib.Core.Path.{_≡_, refl, _∙_}
 use mathlib.Core.Bool.{true, false}
 use mathlib.Core.List.{List}
-use lib.IntN.{ℤ}
-use lib.ListN.{length, getD, replicate}
+use lib.IntN.{ℤ, pos}
+use lib.ListN.{length, getD, replicate, length-replicate}
 use borrow.Author.Tests.{eqb-true}
 use Rattle.circuit.specs.Rules.{maxParents}
 use Rattle.circuit.specs.Sheet.{size}
-use Rattle.layout.specs.Layout.{mostItems}
+use Rattle.layout.specs.Room.{roomFor}
 use Rattle.layout.specs.Opened.{sheetOf, Located}
 use Rattle.item.proofs.Located.{size-room}
 use Rattle.table.specs.Rows.{row}
@@ -27,26 +27,25 @@ same-all z zero j = refl
 same-all z (suc n) zero = refl
 same-all z (suc n) (suc j) = same-all z n j
 
--- arrays in which nothing is remembered
-pub fresh-ready : (s tags : List ℕ) (numbers : List ℤ) → length tags ≡ mostItems → length numbers ≡ mostItems → ((j : ℕ) → getD tags j 0 ≡ 0) → Ready s tags numbers 1
-fresh-ready s tags numbers a b z =
+-- arrays of zeros with room for the sheet's items, in which nothing is remembered
+pub fresh-ready : (s : List ℕ) (most : ℕ) → roomFor s ≤ most → Ready s (replicate most 0) (replicate most (pos 0)) 1
+fresh-ready s most fits =
     record {
-      tag-room = omega (arith, size-room s);
-      number-room = omega (arith, size-room s);
+      tag-room = omega (arith, size-room s, length-replicate {A = ℕ} most 0);
+      number-room = omega (arith, size-room s, length-replicate most (pos 0));
       generations = omega arith;
-      older = λ j h. omega (arith, z j);
+      older = λ j h. omega (arith, same-all 0 most j);
     }
 
--- arrays that are blank, and the lists once they are built
-pub lists-blank : (s heads links : List ℕ) → length heads ≡ mostItems → length links ≡ maxParents * mostItems → ((p : ℕ) → getD heads p 0 ≡ 0)
-    → Lists (sheetOf s) false heads links
+-- such arrays for child lists, and the lists once they are built
+pub lists-blank : (s : List ℕ) (most : ℕ) → roomFor s ≤ most → Lists (sheetOf s) false (replicate most 0) (replicate (maxParents * most) 0)
 unfolding maxParents
-lists-blank s heads links a b empty =
+lists-blank s most fits =
     record {
-      head-room = omega (arith, size-room s);
-      link-room = omega (arith, size-room s);
+      head-room = omega (arith, size-room s, length-replicate {A = ℕ} most 0);
+      link-room = omega (arith, size-room s, length-replicate {A = ℕ} (maxParents * most) 0);
       linked = λ e. let bad : _≡_ {A = ℕ} 0 1 = cc e in absurd (omega arith);
-      blank = λ e p low. empty p;
+      blank = λ e p low. same-all 0 most p;
     }
 
 pub lists-built : (s offsets heads links heads₂ links₂ : List ℕ) → Located s offsets → Lists (sheetOf s) false heads links

@@ -23,7 +23,7 @@ returns c =
     let e = sym (g .1) ∙ k .ensures .0 in (
       measured-index (a .sheet .now) (a .index-len) (a .table-len) (g .0 .0) (g .0 .1 .0) e
           (c .if1 .taken),
-      record { offsets-are = k .ensures .1 .0; levels-are = k .ensures .1 .1; located = located (a .sheet .now) _ _ (k .ensures .1 .0) },
+      record { found = record { offsets-are = k .ensures .1 .0; located = located (a .sheet .now) _ _ (k .ensures .1 .0) }; levels-are = k .ensures .1 .1 },
     )
 
 mul-if2 : tie.Need-mul-if2
@@ -42,7 +42,7 @@ returns-2 c =
     let e = sym (g .1) ∙ k .ensures .0 in (
       measured-table (a .sheet .now) (a .index-len) (a .table-len) (g .0 .0) (g .0 .1 .0) e (c .before .if1 .left)
           (c .if2 .taken),
-      record { offsets-are = k .ensures .1 .0; levels-are = k .ensures .1 .1; located = located (a .sheet .now) _ _ (k .ensures .1 .0) },
+      record { found = record { offsets-are = k .ensures .1 .0; located = located (a .sheet .now) _ _ (k .ensures .1 .0) }; levels-are = k .ensures .1 .1 },
     )
 
 returns-3 : tie.Need-returns-3
@@ -52,7 +52,7 @@ returns-3 c =
     let k = c .before .before .before .before .before .before .before .check in (
       measured-refused (a .sheet .now) (a .index-len) (a .table-len) (g .0 .0) (g .0 .1 .0)
           (sym (g .1) ∙ k .ensures .0),
-      record { offsets-are = k .ensures .1 .0; levels-are = k .ensures .1 .1; located = located (a .sheet .now) _ _ (k .ensures .1 .0) },
+      record { found = record { offsets-are = k .ensures .1 .0; located = located (a .sheet .now) _ _ (k .ensures .1 .0) }; levels-are = k .ensures .1 .1 },
     )
 
 returns-4 : tie.Need-returns-4
@@ -63,7 +63,7 @@ returns-4 c =
     let e = sym (g .1) ∙ k .ensures .0 in (
       measured-items (a .sheet .now) (a .index-len) (a .table-len) (g .0 .0) (g .0 .1 .0) e (c .before .if1 .left)
           (c .if2 .left),
-      record { offsets-are = k .ensures .1 .0; levels-are = k .ensures .1 .1; located = located (a .sheet .now) _ _ (k .ensures .1 .0) },
+      record { found = record { offsets-are = k .ensures .1 .0; located = located (a .sheet .now) _ _ (k .ensures .1 .0) }; levels-are = k .ensures .1 .1 },
     )
 
 pub measure-spec : {M : Type 1} → statement M

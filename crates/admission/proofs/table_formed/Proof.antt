@@ -1,3 +1,4 @@
+-- `admission::table_formed` meets its contract. The loop's invariant: the first k records are in form. Assumes nothing.
 use Rattle.admission.proofs.Admitting.{unformed-record, formed-record, formed-done}
 use Rattle.item.proofs.Located.{located-field}
 use Rattle.table.specs.Bytes.{recordInForm}
@@ -13,10 +14,10 @@ use Rattle.admission.proofs.table_formed.Statement.{statement}
 use Rattle.admission.proofs.table_formed.Tie as tie
 
 abbrev Inv-loop : tie.InvT-loop
-Inv-loop sheet offsets n table k₀ k = (k ≤ n) × (allBelow (recordInForm (sheetOf sheet) table) k ≡ true)
+Inv-loop sheet offsets n table owed k₀ k = (k ≤ n) × (allBelow (recordInForm (sheetOf sheet) table) k ≡ true)
 
 abbrev μ-loop : tie.MeasureT-loop
-μ-loop sheet offsets n table k₀ k = n - k
+μ-loop sheet offsets n table owed k₀ k = n - k
 
 loop-holds : tie.Need-loop-holds Inv-loop μ-loop
 unfolding allBelow
@@ -30,8 +31,8 @@ shared-slice-read-is-figure c = search needs
 
 is-figure-requires : tie.Need-is-figure-requires Inv-loop μ-loop
 is-figure-requires c κs =
-    let a = c .before .before .before .before .before .before .args in
-    let p = c .before .before .before .before .before .before .pre .0 in
+    let a = c .before .before .before .before .before .before .before .args in
+    let p = c .before .before .before .before .before .before .before .pre .0 in
     located-field (a .sheet .now) (a .offsets .now) (p .located) (c .before .before .loop .k) (omega (arith, p .count-is, c .before .loop-test .taken))
 
 record-formed-requires : tie.Need-record-formed-requires Inv-loop μ-loop
@@ -39,8 +40,8 @@ record-formed-requires c κs = omega arith
 
 returns : tie.Need-returns Inv-loop μ-loop
 returns c =
-    let a = c .before .before .before .before .before .before .before .before .before .args in
-    let p = c .before .before .before .before .before .before .before .before .before .pre .0 in
+    let a = c .before .before .before .before .before .before .before .before .before .before .args in
+    let p = c .before .before .before .before .before .before .before .before .before .before .pre .0 in
     let l = c .before .before .before .before .before .loop in
     unformed-record (a .sheet .now) (a .offsets .now) (a .table .now) (p .located) (l .k)
     (omega (arith, p .count-is, c .before .before .before .before .loop-test .taken)) (c .before .before .is-figure .result) (c .before .record-formed .result)
@@ -54,8 +55,8 @@ loop-less c = omega arith
 
 loop-again : tie.Need-loop-again Inv-loop μ-loop
 loop-again c =
-    let a = c .before .before .before .before .before .before .before .before .before .args in
-    let p = c .before .before .before .before .before .before .before .before .before .pre .0 in
+    let a = c .before .before .before .before .before .before .before .before .before .before .args in
+    let p = c .before .before .before .before .before .before .before .before .before .before .pre .0 in
     let l = c .before .before .before .before .before .loop in (
       omega arith,
       formed-record (a .sheet .now) (a .offsets .now) (a .table .now) (p .located) (l .k) (omega (arith, p .count-is, c .before .before .before .before .loop-test .taken))
@@ -65,16 +66,16 @@ loop-again c =
 
 owed-true-requires : tie.Need-owed-true-requires Inv-loop μ-loop
 owed-true-requires c κs =
-    let p = c .before .before .before .before .before .pre in
-    (p .0 .located, (p .0 .count-is, (p .0 .room, p .1)))
+    let p = c .before .before .before .before .before .before .before .pre in
+    (p .0 .located, (p .0 .count-is, ((p .0 .room, p .1 .1), p .1 .0)))
 
 returns-2 : tie.Need-returns-2 Inv-loop μ-loop
 returns-2 c =
-    let a = c .before .before .before .before .before .before .args in
-    let p = c .before .before .before .before .before .before .pre .0 in
-    let l = c .before .before .loop in
-    formed-done (sheetOf (a .sheet .now)) (a .table .now) (l .k) (omega (arith, p .count-is, l .inv .0, c .before .loop-test .left)) (l .inv .1) (c .owed-true .result)
-    (c .owed-true .ensures)
+    let d = c .before .before in
+    let l = d .before .before .before .loop in
+    let e = d .before .before .before .before .before .before .before .before in
+    formed-done (sheetOf (e .args .sheet .now)) (e .args .table .now) (l .k) (omega (arith, e .pre .0 .count-is, l .inv .0, d .before .before .loop-test .left)) (l .inv .1)
+    (d .owed-true .result) (d .owed-true .ensures)
 
 pub table-formed-spec : {M : Type 1} → statement M
 table-formed-spec =
@@ -92,4 +93,5 @@ table-formed-spec =
     loop-less
     loop-again
     owed-true-requires
+    (λ c. search needs)
     returns-2)

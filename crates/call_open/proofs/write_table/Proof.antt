@@ -11,13 +11,13 @@ use Rattle.call_open.proofs.write_table.Statement.{statement}
 use Rattle.call_open.proofs.write_table.Tie as tie
 
 abbrev Inv-loop : tie.InvT-loop
-Inv-loop sheet offsets n table₀ filled k₀ table k = (k ≤ n) × (length table ≡ width * n) × Written filled sheet table k
+Inv-loop sheet offsets n table₀ filled bytes k₀ table k = (k ≤ n) × (length table ≡ width * n) × Written filled sheet table k
 
 abbrev μ-loop : tie.MeasureT-loop
-μ-loop sheet offsets n table₀ filled k₀ table k = n - k
+μ-loop sheet offsets n table₀ filled bytes k₀ table k = n - k
 
 loop-holds : tie.Need-loop-holds Inv-loop μ-loop
-loop-holds c = (omega arith, c .before .before .before .pre .1, λ i h. absurd (omega arith))
+loop-holds c = (omega arith, c .before .before .before .before .pre .1 .0, λ i h. absurd (omega arith))
 
 mul-is-figure : tie.Need-mul-is-figure Inv-loop μ-loop
 mul-is-figure c = search needs
@@ -27,8 +27,8 @@ shared-slice-read-is-figure c = search needs
 
 is-figure-requires : tie.Need-is-figure-requires Inv-loop μ-loop
 is-figure-requires c κs =
-    let a = c .before .before .before .before .before .before .args in
-    let p = c .before .before .before .before .before .before .pre .0 in
+    let a = c .before .before .before .before .before .before .before .args in
+    let p = c .before .before .before .before .before .before .before .pre .0 in
     located-field (a .sheet .now) (a .offsets .now) (p .located) (c .before .before .loop .k) (omega (arith, p .count-is, c .before .loop-test .taken))
 
 first-cell-requires : tie.Need-first-cell-requires Inv-loop μ-loop
@@ -45,8 +45,8 @@ loop-less c = omega arith
 
 loop-again : tie.Need-loop-again Inv-loop μ-loop
 loop-again c =
-    let a = c .before .before .before .before .before .before .before .before .before .before .before .before .args in
-    let p = c .before .before .before .before .before .before .before .before .before .before .before .before .pre .0 in
+    let a = c .before .before .before .before .before .before .before .before .before .before .before .before .before .args in
+    let p = c .before .before .before .before .before .before .before .before .before .before .before .before .before .pre .0 in
     let l = c .before .before .before .before .before .before .before .before .loop in
     let low = c .before .before .before .before .before .before .before .loop-test .taken in (
       omega arith,
@@ -58,23 +58,31 @@ loop-again c =
 
 settle-requires : tie.Need-settle-requires Inv-loop μ-loop
 settle-requires c κs =
-    let a = c .before .before .before .before .before .before .args in
-    let p = c .before .before .before .before .before .before .pre .0 in
-    let l = c .before .before .loop in
-    let formed = written-form (a .sheet .now) (l .table) (a .filled) (a .n) (l .k) (p .count-is) (c .before .loop-test .left) (l .inv .2) in
-    (p .located, (p .count-is, (p .room, (l .inv .1, formed))))
+    let a = c .before .before .before .before .before .before .before .before .args in
+    let p = c .before .before .before .before .before .before .before .before .pre in
+    let l = c .before .before .before .loop in
+    let formed = written-form (a .sheet .now) (l .table) (a .filled) (a .n) (l .k) (p .0 .count-is) (c .before .before .loop-test .left) (l .inv .2) in
+    (p .0 .located, (p .0 .count-is, ((p .0 .room, p .1 .1), (l .inv .1, formed))))
 
 same-length : tie.Need-same-length Inv-loop μ-loop
 same-length c =
-    let p = c .before .before .before .before .before .before .before .before .before .pre in
-    c .before .before .settle .kept .1 .1 .1 .0 ∙ c .before .before .before .before .before .loop .inv .1 ∙ sym (p .1)
+    let c4 = c .before .before .before .before in
+    let c8 = c4 .before .before .before .before in
+    let c13 = c8 .before .before .before .before .before in
+    c4 .settle .kept .1 .1 .1 .0 ∙ c8 .loop .inv .1 ∙ sym (c13 .pre .1 .0)
+
+same-length-2 : tie.Need-same-length-2 Inv-loop μ-loop
+same-length-2 c = search needs
 
 returns : tie.Need-returns Inv-loop μ-loop
 returns c =
-    let a = c .before .before .before .before .before .before .before .before .before .args in
-    let p = c .before .before .before .before .before .before .before .before .before .pre .0 in
-    let l = c .before .before .before .before .before .loop in
-    written-done (a .sheet .now) (l .table) (a .filled) (a .n) (l .k) (p .count-is) (c .before .before .before .before .loop-test .left) (l .inv .2) _ (c .before .before .settle .ensures)
+    let c4 = c .before .before .before .before in
+    let c7 = c4 .before .before .before in
+    let c8 = c7 .before in
+    let c13 = c8 .before .before .before .before .before in
+    let a = c13 .args in
+    let l = c8 .loop in
+    written-done (a .sheet .now) (l .table) (a .filled) (a .n) (l .k) (c13 .pre .0 .count-is) (c7 .loop-test .left) (l .inv .2) _ (c4 .settle .ensures)
 
 pub write-table-spec : {M : Type 1} → statement M
 write-table-spec =
@@ -93,4 +101,5 @@ write-table-spec =
     loop-again
     settle-requires
     same-length
+    same-length-2
     returns)

@@ -2,6 +2,7 @@
 use Rattle.call_step.proofs.StepCall.{mark-low, step-refused, step-done}
 use Rattle.admission.proofs.Admitting.{settle-needs}
 use Rattle.table.specs.Bytes.{decodeTable}
+use native.Mathlib.Omega.{arith}
 use borrow.Author.Needs.{needs}
 use Rattle.call_step.proofs.step_lent.Statement.{statement}
 use Rattle.call_step.proofs.step_lent.Tie as tie
@@ -9,36 +10,38 @@ use Rattle.call_step.proofs.step_lent.Tie as tie
 returns : tie.Need-returns
 returns c =
     λ x.
-    let a = c .before .before .before .before .before .before .before .args in
-    let p = c .before .before .before .before .before .before .before .pre in
+    let e = c .before .before .before .before .before .before .before .before .before .before .before in
     let m = c .before .before .mark-cause in
-    step-refused (p .1 .0) x (a .n) (a .item) (m .result) (p .0 .count-is) (m .ensures) (c .give .result) (c .give .ensures .1) (c .before .if1 .taken)
+    step-refused (e .pre .1 .0) x (e .args .n) (e .args .item) (m .result) (e .pre .0 .count-is) (m .ensures) (c .give .result) (c .give .ensures .1) (c .before .if1 .taken)
     (c .give .ensures .0)
 
 step-once-requires : tie.Need-step-once-requires
 step-once-requires c κs =
-    let a = c .before .before .before .before .before .before .before .args in
-    let p = c .before .before .before .before .before .before .before .pre in
-    let m = c .before .before .mark-cause in
-    let low = mark-low (decodeTable (a .table .now)) (a .n) (a .item) (m .result) (m .ensures) (c .before .if1 .left) in
-    (p .1 .0, (p .0 .count-is, (low, p .1 .1)))
+    let e = c .before .before .before .before .before .before .before .before .before .before .before .before .before .before .before .before in
+    let p = e .pre in
+    let m = c .before .before .before .before .before .before .before .mark-cause in
+    let low = mark-low (decodeTable (e .args .table .now)) (e .args .n) (e .args .item) (m .result) (m .ensures) (c .before .before .before .before .before .before .if1 .left) in
+    (p .1 .0, ((p .0 .count-is, p .1 .1 .1 .0), (low, (p .1 .1 .0, p .1 .1 .1 .1))))
 
 settle-requires : tie.Need-settle-requires
 settle-requires c κs =
-    let p = c .before .before .before .before .before .before .before .before .before .before .before .pre in
-    let d = c .before .before .before .step-once in
-    settle-needs (p .0) (p .1 .0) _ (d .kept .1 .1 .0) (d .ensures .formed)
+    let c13 = c .before .before .before .before .before .before .before .before .before .before .before .before .before in
+    let c30 = c13 .before .before .before .before .before .before .before .before .before .before .before .before .before .before .before .before .before in
+    let p = c30 .pre in
+    let d = c13 .step-once in
+    settle-needs (p .0) (p .1 .0) (omega (arith, p .1 .1 .1 .0, d .kept .1 .1 .1 .1 .1 .0)) _ (d .kept .1 .1 .0) (d .ensures .formed)
 
 returns-2 : tie.Need-returns-2
 returns-2 c =
     λ x.
-    let e = c .before .before .before .before in
-    let a = e .before .before .before .before .before .before .before .before .before .before .before .args in
-    let p = e .before .before .before .before .before .before .before .before .before .before .before .pre in
-    let m = e .before .before .before .before .before .before .mark-cause in
-    let d = e .before .before .before .step-once in
-    step-done (p .1 .0) x (a .n) (a .item) (m .result) (p .0 .count-is) (m .ensures) (c .give2 .result) (c .give2 .ensures .1)
-    (e .before .before .before .before .before .if1 .left) _ (d .ensures) _ (c .before .before .before .settle .ensures) (c .give2 .ensures .0)
+    let c5 = c .before .before .before .before .before in
+    let c19 = c5 .before .before .before .before .before .before .before .before .before .before .before .before .before .before in
+    let o = c19 .before .before .before .before .before .before .before in
+    let c27 = o .before in
+    let e = c27 .before .before .before .before .before .before .before .before .before in
+    let m = c27 .mark-cause in
+    step-done (e .pre .1 .0) x (e .args .n) (e .args .item) (m .result) (e .pre .0 .count-is) (m .ensures) (c .give2 .result) (c .give2 .ensures .1) (o .if1 .left) _
+    (c19 .step-once .ensures) _ (c5 .settle .ensures) (c .give2 .ensures .0)
 
 pub step-lent-spec : {M : Type 1} → statement M
 step-lent-spec =
@@ -51,5 +54,10 @@ step-lent-spec =
     step-once-requires
     settle-requires
     (λ c κs. search needs)
+    (λ c. search needs)
+    (λ c. search needs)
+    (λ c. search needs)
+    (λ c. search needs)
+    (λ c. search needs)
     (λ c. search needs)
     returns-2)

@@ -8,18 +8,17 @@ use Rattle.call_step.proofs.step_once.Tie as tie
 
 refresh-once-requires : tie.Need-refresh-once-requires
 refresh-once-requires c κs =
-    let p = c .before .before .before .before .before .before .before .pre in
-    (p .0, (omega (arith, p .1 .0, p .1 .1 .0), sym (c .before .before .is-noticed .ensures) ∙ c .before .if1 .left))
+    let p = c .before .before .before .before .before .before .before .before .before .before .before .before .before .pre in
+    (p .0, (p .1 .1 .1 .1 .0, (omega (arith, p .1 .0 .0, p .1 .1 .0), sym (c .before .before .before .before .is-noticed .ensures) ∙ c .before .before .before .if1 .left)))
 
 returns : tie.Need-returns
 returns c =
-    let a = c .before .before .before .before .before .before .before .before .before .before .args in
-    left-noticed (a .sheet .now) (a .table .now) (a .i) _ (c .before .before .before .before .before .is-noticed .ensures) (c .before .before .before .before .if1 .taken)
-    _ (c .before .before .notice-once .ensures)
-
-returns-2 : tie.Need-returns-2
-returns-2 c =
-    c .before .before .refresh-once .ensures
+    let c11 = c .before .before .before .before .before .before .before .before .before .before .before in
+    let c18 = c11 .before .before .before .before .before .before .before in
+    let c19 = c18 .before in
+    let c28 = c19 .before .before .before .before .before .before .before .before .before in
+    let a = c28 .args in
+    left-noticed (a .sheet .now) (a .table .now) (a .i) _ (c19 .is-noticed .ensures) (c18 .if1 .taken) _ (c11 .notice-once .ensures)
 
 pub step-once-spec : {M : Type 1} → statement M
 step-once-spec =
@@ -29,6 +28,13 @@ step-once-spec =
     (λ c κs. search needs)
     refresh-once-requires
     (λ c. search needs)
+    (λ c. search needs)
+    (λ c. search needs)
+    (λ c. search needs)
+    (λ c. search needs)
+    (λ c. search needs)
     returns
     (λ c. search needs)
-    returns-2)
+    (λ c. search needs)
+    (λ c. search needs)
+    (λ c. search needs))

@@ -1,7 +1,7 @@
+-- `call_swap::swap` meets its contract. Assumes nothing.
 use Rattle.admission.proofs.Calls.{admits, refuses}
 use Rattle.circuit.specs.Call.{swap}
 use Rattle.value.proofs.Signed.{back}
-use Rattle.layout.specs.Layout.{mostItems, itemLimit}
 use mathlib.Core.Path.{refl}
 use native.Mathlib.Omega.{arith}
 use borrow.Author.Needs.{needs}
@@ -9,50 +9,49 @@ use Rattle.call_swap.proofs.swap.Statement.{statement}
 use Rattle.call_swap.proofs.swap.Tie as tie
 
 swap-lent-requires : tie.Need-swap-lent-requires
-unfolding mostItems itemLimit
 swap-lent-requires c κs =
     let b = c .before .before .before in
-    let m = b .before .before .before .before in
-    let a = m .before .before .before .before .before .before .before .args in
-    let g = admits (a .sheet .now) (a .index .now) (a .table .now) _ (m .admit .ensures .0) (b .n .given .1) (m .admit .ensures .1 .located) (omega (arith, m .admit .kept .1 .1 .1 .0)) in
+    let m = b .before .before .before .before .before .before .admit in
+    let e = b .before .before .before .before .before .before .before .before .before .before .before .before .before .before .before in
+    let a = e .args in
+    let room = e .pre in
+    let g = admits (a .sheet .now) (a .index .now) (a .table .now) _ (m .last .1 .1 .1 .1 .0) (m .ensures .0) (b .n .given .1) (m .ensures .1 .located)
+    (omega (arith, m .kept .1 .1 .1 .0, room .0), omega (arith, m .kept .1 .1 .1 .1 .0, room .1)) in
     (g .placing, (g .lent, g .owes))
 
 returns : tie.Need-returns
 returns c =
     let b = c .before .before in
-    let m = b .before .before .before .before in
-    let a = m .before .before .before .before .before .before .before .args in
-    rw (refuses (a .sheet .now) (a .index .now) (a .table .now) (swap (a .giver) (a .taker) (a .quantity)) (m .admit .ensures .0) (b .number .given .1)) (record {
-      number-is =
-          c .give .ensures .0;
-      offset-is = c .give .ensures .1;
-      table-is = refl;
-    })
+    let m = b .before .before .before .before .before .before .admit in
+    let a = b .before .before .before .before .before .before .before .before .before .before .before .before .before .before .before .args in
+    rw (refuses (a .sheet .now) (a .index .now) (a .table .now) (swap (a .giver) (a .taker) (a .quantity)) (m .ensures .0) (b .number .given .1))
+    (record { number-is = c .give .ensures .0; offset-is = c .give .ensures .1; table-is = refl })
 
 returns-2 : tie.Need-returns-2
-unfolding mostItems itemLimit
 returns-2 c =
     let b = c .before .before .before .before .before .before in
-    let m = b .before .before .before .before in
-    let a = m .before .before .before .before .before .before .before .args in
-    let g = admits (a .sheet .now) (a .index .now) (a .table .now) _ (m .admit .ensures .0) (b .n .given .1) (m .admit .ensures .1 .located) (omega (arith, m .admit .kept .1 .1 .1 .0)) in
-    rw (g .call (swap (a .giver) (a .taker) (a .quantity)))
-    (rw (back (a .quantity) (m .before .before .before .before .before .before .before .fits .quantity)) at (c .before .before .swap-lent .ensures (a .index .now)))
+    let m = b .before .before .before .before .before .before .admit in
+    let e = b .before .before .before .before .before .before .before .before .before .before .before .before .before .before .before in
+    let a = e .args in
+    let room = e .pre in
+    let g = admits (a .sheet .now) (a .index .now) (a .table .now) _ (m .last .1 .1 .1 .1 .0) (m .ensures .0) (b .n .given .1) (m .ensures .1 .located)
+    (omega (arith, m .kept .1 .1 .1 .0, room .0), omega (arith, m .kept .1 .1 .1 .1 .0, room .1)) in
+    rw (g .call (swap (a .giver) (a .taker) (a .quantity))) (rw (back (a .quantity) (e .fits .quantity)) at (c .before .before .swap-lent .ensures (a .index .now)))
 
 pub swap-spec : {M : Type 1} → statement M
-unfolding mostItems itemLimit
 swap-spec =
     tie.close
     (tie.spec
-    (λ c. search needs)
-    (λ c. search needs)
     (λ c κs. search needs)
     (λ c. search needs)
     (λ c κs. search needs)
-    (λ c. search needs)
     (λ c. search needs)
     swap-lent-requires
     (λ c. search needs)
+    (λ c. search needs)
+    (λ c. search needs)
     returns
+    (λ c. search needs)
+    (λ c. search needs)
     (λ c. search needs)
     returns-2)

@@ -2,7 +2,7 @@
 use native.Mathlib.Omega.{arith}
 use Rattle.circuit.specs.Rules.{maxParents}
 use Rattle.layout.specs.Layout.{itemLimit, mostItems}
-use Rattle.item.proofs.Located.{size-most, size-room}
+use Rattle.item.proofs.Located.{size-most, size-limit}
 use Rattle.children.proofs.Building.{Built, built-start, item-there, parents-low, built-next, built-lengths, built-done}
 use Rattle.children.proofs.link.Statement.{statement}
 use Rattle.children.proofs.link.Tie as tie
@@ -68,7 +68,7 @@ head-places-requires c κs =
       (
         parents-low (a .args .s .now) (a .args .offsets .now) (a .pre .0) (a .pre .1 .0) (l .inv .within) more (l .heads) (omega (arith, a .pre .1 .1 .1 .0, kept .0)),
         omega
-            (arith, size-room (a .args .s .now), a .pre .1 .0, l .inv .within),
+            (arith, size-limit (a .args .s .now), a .pre .1 .0, l .inv .within),
       ),
     )
 
