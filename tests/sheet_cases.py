@@ -44,6 +44,7 @@ def sheet(*items, count=None, edition=1):
 
 # --- the reader: the first field at fault counts, and in it the lowest number
 
+ITEMS = {1: 1024, 2: 4096}
 PARENTS = {1: (1, 16), 2: (2, 2), 3: (1, 16), 4: (1, 16), 5: (2, 2), 6: (3, 3), 7: (1, 16), 8: (2, 2)}
 
 
@@ -95,7 +96,7 @@ def read(s):
     if len(c) != 4:
         raise Refused(3, 0)
     edition, count = c[0] + 256 * c[1], c[2] + 256 * c[3]
-    if edition != 1 or not 1 <= count <= 1024:
+    if not 1 <= count <= ITEMS.get(edition, 0):
         raise Refused(4, 0)
     offsets, levels = [], []
     for _ in range(count):
@@ -144,12 +145,27 @@ case('example', EXAMPLE)
 case('empty sheet', b'')
 case('level 64', tower(64))
 case('level 65', tower(65))
-for n in (0, 1, 1024, 1025):
+for n in (0, 1, 128, 129, 1024, 1025):
     case('count %d' % n, sheet(*[A] * n))
+for n in (0, 1, 128, 129, 1024, 1025):
+    case('count %d in edition 2' % n, sheet(*[A] * n, edition=2))
+# Sheets of a few thousand items are large, and the program reads at most 65,536 bytes.
+ABOVE = [figure(1, [4031 + i]) for i in range(63)]
+case('count 4096 in edition 2, the last of 16 parents and at level 64',
+     sheet(*[A] * 4032, *ABOVE, figure(1, [0, 127, 128, 1023, 1024, 1025, 4031] + [4094] * 9), edition=2))
 case('count 2 with 1 item', sheet(A, count=2))
 case('count 1 with 2 items', sheet(A, B, count=1))
-for e in (0, 1, 2, 256):
+for n, items in ((128, 129), (129, 128)):
+    for e in (1, 2):
+        case('count %d with %d items in edition %d' % (n, items, e), sheet(*[A] * items, count=n, edition=e))
+for n in (1024, 1025, 4096, 4097, 8192, 65535):
+    for e in (1, 2, 3):
+        case('count %d with 1 item in edition %d' % (n, e), sheet(A, count=n, edition=e))
+for e in (0, 1, 2, 3, 255, 256, 257, 258, 512, 513, 65535):
     case('edition %d' % e, sheet(A, edition=e))
+case('example in edition 2', EXAMPLE[:3] + u16(2) + EXAMPLE[5:])
+case('item 1 with the parent 1024', sheet(A, figure(1, [1024]), edition=2))
+case('item 1 with the parent 4096', sheet(A, figure(1, [4096]), edition=2))
 for n in (0, 1, 16, 17):
     case('entry with a name of %d' % n, sheet(entry(b'n' * n)))
     case('figure with a name of %d' % n, sheet(A, figure(1, [0], name=b'n' * n)))
@@ -168,6 +184,7 @@ for keep in (0, 1, 2, 255):
     case('keep %d' % keep, sheet(A, figure(1, [0], keep=keep)))
 for spread in (0, 1, 2, 3):
     case('spread %d' % spread, sheet(A, figure(1, [0], spread=spread)))
+    case('spread %d in edition 2' % spread, sheet(A, figure(1, [0], spread=spread), edition=2))
 case('a parent listed twice', sheet(A, figure(1, [0, 0])))
 case('a parent equal to the item', sheet(A, figure(1, [1])))
 case('a parent above the item', sheet(A, figure(1, [2]), B))
@@ -204,8 +221,8 @@ case('1 and 2 in the last field', head(1) + A + bytes([9, 1, 0]))
 case('2 and 3 in the head', field(9, b'\1\0'))
 case('2 and 3 in an item', sheet(field(9, b'')))
 case('2 and 3 in the last field', head(1) + A + field(9, b'x'))
-case('3 and 4 in the head', field(1, b'\2\0\0\0\0') + A + LAST)
-case('edition and count in the head', field(1, b'\2\0\0\0') + LAST)
+case('3 and 4 in the head', field(1, b'\3\0\0\0\0') + A + LAST)
+case('edition and count in the head', field(1, b'\3\0\0\0') + LAST)
 case('3 and 5 in a figure', sheet(A, figure(9, [0], name=b'')))
 case('5 and 6 in a figure', sheet(A, figure(9, [1])))
 case('6 and 7 in a figure', sheet(A, *[figure(1, [i]) for i in range(64)], figure(1, [64, 65])))
@@ -216,6 +233,8 @@ case('2 in the first of two items, 1 in the second', head(2) + field(9, b'A') + 
 case('a level over the second parent', sheet(A, figure(1, [0]), figure(1, [0, 1])))
 for n in range(len(EXAMPLE)):
     case('example cut at %d' % n, EXAMPLE[:n])
+
+assert sum(6 + len(label) + len(s) for label, s in CASES) <= 65536
 
 folder = os.path.join(os.path.dirname(os.path.dirname(os.path.abspath(__file__))), 'crates', 'sheet_cases')
 if len(sys.argv) > 1:

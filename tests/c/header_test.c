@@ -1,8 +1,12 @@
-/* The header against the library: sizes, offsets, the example, each refusal that can be given. */
+/*
+ * The header against the library: sizes, offsets, the example, each refusal that can be given. With
+ * the argument 2 the example is of edition 2, and the same is shown.
+ */
 #include "rozhinal.h"
 
 #include <inttypes.h>
 #include <stdio.h>
+#include <stdlib.h>
 #include <string.h>
 
 _Static_assert(sizeof(rozhinal_answer) == 16, "answer");
@@ -19,6 +23,23 @@ _Static_assert(ROZHINAL_REFUSED_DAY == 16 && ROZHINAL_REFUSED_SIZES == 8, "refus
 _Static_assert(ROZHINAL_REFUSED_LISTS == 17 && ROZHINAL_MAX_BOARD == 64, "the board");
 _Static_assert(ROZHINAL_ITEMS_BYTES(64) == 128 && ROZHINAL_RESULTS_BYTES(64) == 576, "its lists");
 _Static_assert(ROZHINAL_REFUSED_SWAP == 18, "the swap");
+_Static_assert(ROZHINAL_REFUSED_FILE == 19 && ROZHINAL_MAX_DAY_BYTES == 65536, "the day program");
+_Static_assert(ROZHINAL_EDITION == 1 && ROZHINAL_EDITION_LATEST == 2, "editions");
+_Static_assert(ROZHINAL_MAX_ITEMS_EDITION_1 == 1024 && ROZHINAL_MAX_ITEMS == 4096, "their items");
+_Static_assert(ROZHINAL_MAX_ITEMS_EDITION_2 == ROZHINAL_MAX_ITEMS, "the most items");
+_Static_assert(ROZHINAL_EDITION_FOR(1) == 1 && ROZHINAL_EDITION_FOR(1024) == 1, "edition 1");
+_Static_assert(ROZHINAL_EDITION_FOR(1025) == 2 && ROZHINAL_EDITION_FOR(4096) == 2, "edition 2");
+_Static_assert(ROZHINAL_MAX_SHEET_BYTES(1) == 29 && ROZHINAL_MAX_SHEET_BYTES(1024) == 56294
+                   && ROZHINAL_MAX_SHEET_BYTES(4096) == 225254, "the longest sheets");
+_Static_assert(ROZHINAL_STACK_BYTES_128 < ROZHINAL_STACK_BYTES_1024
+                   && ROZHINAL_STACK_BYTES_1024 < ROZHINAL_STACK_BYTES_4096
+                   && ROZHINAL_STACK_BYTES == ROZHINAL_STACK_BYTES_4096, "the stack");
+_Static_assert(ROZHINAL_STACK_BYTES_FOR(0) == ROZHINAL_STACK_BYTES_128
+                   && ROZHINAL_STACK_BYTES_FOR(128) == ROZHINAL_STACK_BYTES_128
+                   && ROZHINAL_STACK_BYTES_FOR(129) == ROZHINAL_STACK_BYTES_1024
+                   && ROZHINAL_STACK_BYTES_FOR(1024) == ROZHINAL_STACK_BYTES_1024
+                   && ROZHINAL_STACK_BYTES_FOR(1025) == ROZHINAL_STACK_BYTES_4096
+                   && ROZHINAL_STACK_BYTES_FOR(65535) == ROZHINAL_STACK_BYTES, "the stack by items");
 _Static_assert(ROZHINAL_LIMIT == INT64_C(1000000000000000) && ROZHINAL_WHOLE == 10000, "the range");
 _Static_assert(ROZHINAL_NUMBER == 3 && ROZHINAL_MARK_NOTICE == 2, "kinds and marks");
 
@@ -48,6 +69,7 @@ struct lent {
 
 static struct lent now, before;
 static size_t sheet_len;
+static uint8_t edition = ROZHINAL_EDITION_1; /* of the example */
 static int faults;
 
 #define SHEET_SLICE now.sheet, sheet_len
@@ -65,6 +87,7 @@ static void start(void)
 {
     memset(&now, 0xEE, sizeof now);
     memcpy(now.sheet, example, sizeof example);
+    now.sheet[3] = edition;
     sheet_len = sizeof example;
     before = now;
 }
@@ -106,6 +129,9 @@ static void the_example(void)
     start();
     require(rozhinal_item_count(now.sheet, sheet_len) == ITEMS, "the item count");
     require(rozhinal_item_count(now.sheet, 6) == 0, "the item count of a short sheet");
+    require(rozhinal_edition(now.sheet, sheet_len) == edition, "the edition");
+    require(rozhinal_edition(now.sheet, 5) == edition, "the edition of a sheet of 5 bytes");
+    require(rozhinal_edition(now.sheet, 4) == 0, "the edition of a short sheet");
     accepted("open bare", rozhinal_open_bare(LENT));
     for (size_t i = 0; i < ITEMS; i++)
         printf("index %zu: %u\n", i, (unsigned)now.index[4 * i]);
@@ -223,7 +249,7 @@ static void too_deep(void)
     const size_t items = ROZHINAL_MAX_LEVEL + 2;
     start();
     uint8_t *p = now.sheet;
-    memcpy(p, (const uint8_t[]){ 1, 4, 0, 1, 0, (uint8_t)items, 0, 2, 1, 0, 'E' }, 11);
+    memcpy(p, (const uint8_t[]){ 1, 4, 0, edition, 0, (uint8_t)items, 0, 2, 1, 0, 'E' }, 11);
     p += 11;
     for (size_t i = 1; i < items; i++, p += 10)
         memcpy(p, (const uint8_t[]){ 3, 7, 0, 1, 0, 0, 1, (uint8_t)(i - 1), 0, 'F' }, 10);
@@ -239,7 +265,8 @@ static void sheet_refusals(void)
     damaged_sheet("an item too long", 8, 200);
     damaged_sheet("a tag of 5", 11, 5);
     damaged_sheet("a name with a blank", 18, ' ');
-    damaged_sheet("edition 2", 3, 2);
+    damaged_sheet("edition 0", 3, 0);
+    damaged_sheet("edition 3", 3, 3);
     damaged_sheet("rule 9", RULE_OF_3, 9);
     damaged_sheet("item 3 with parent 3", 26, 3);
     too_deep();
@@ -689,6 +716,198 @@ static void owed_refusals(void)
     accepted("step 0", rozhinal_step(LENT, 0));
 }
 
+/* ---- Editions and large sheets ---- */
+
+enum { LARGEST = ROZHINAL_MAX_ITEMS + 1 };
+
+/* Of an edition and a size; the bytes after those lent stay as they are. */
+struct large {
+    size_t count, sheet_len, index_len, table_len;
+    uint8_t sheet[ROZHINAL_MAX_SHEET_BYTES(LARGEST)];
+    uint8_t index[ROZHINAL_INDEX_BYTES(LARGEST)];
+    uint8_t table[ROZHINAL_TABLE_BYTES(LARGEST)];
+};
+
+static struct large large, large_before, edition_1;
+
+#define LARGE                                                                                    \
+    large.sheet, large.sheet_len, large.index, large.index_len, large.table, large.table_len
+
+static void add(const uint8_t *bytes, size_t length)
+{
+    memcpy(large.sheet + large.sheet_len, bytes, length);
+    large.sheet_len += length;
+}
+
+/* Entry 0, and figures that each sum it and the item at half their number; all keeps and spreads. */
+static void make_large(unsigned of_edition, size_t count)
+{
+    memset(&large, 0xEE, sizeof large);
+    large.count = count;
+    large.sheet_len = 0;
+    large.index_len = ROZHINAL_INDEX_BYTES(count);
+    large.table_len = ROZHINAL_TABLE_BYTES(count);
+    add((const uint8_t[]){ 1, 4, 0, (uint8_t)(of_edition & 0xFF), (uint8_t)(of_edition >> 8),
+                           (uint8_t)(count & 0xFF), (uint8_t)(count >> 8) }, 7);
+    for (size_t i = 0; i < count && i < LARGEST; i++) {
+        if (i == 0)
+            add((const uint8_t[]){ 2, 1, 0, 'E' }, 4);
+        else
+            add((const uint8_t[]){ 3, 9, 0, ROZHINAL_SUM, i % 2, i % 3, 2, (uint8_t)(i / 2 & 0xFF),
+                                   (uint8_t)(i / 2 >> 8), 0, 0, 'F' }, 12);
+    }
+    add((const uint8_t[]){ 4, 0, 0 }, 3);
+    large_before = large;
+}
+
+/* Entry 0 so many times: once more than the item's number has binary digits. */
+static int64_t times(size_t item)
+{
+    int64_t digits = 0;
+    for (; item > 0; item /= 2)
+        digits++;
+    return digits + 1;
+}
+
+static void require_reading(size_t item, int64_t posted, const char *what)
+{
+    rozhinal_reading r = rozhinal_ask(LARGE, item);
+    require(r.number == 0 && r.kind == ROZHINAL_NUMBER && r.value == posted * times(item), what);
+}
+
+/* A board of the last items, the highest first. */
+static void require_large_board(int64_t posted)
+{
+    uint8_t items[PAIR * MOST] = { 0 }, results[RESULT * MOST];
+    size_t count = large.count < MOST ? large.count : MOST;
+    for (size_t k = 0; k < count; k++) {
+        items[PAIR * k] = (uint8_t)((large.count - 1 - k) & 0xFF);
+        items[PAIR * k + 1] = (uint8_t)((large.count - 1 - k) >> 8);
+    }
+    require(rozhinal_board(LARGE, items, PAIR * count, results, RESULT * count).number == 0,
+            "a large board");
+    for (size_t k = 0; k < count; k++)
+        require(results[RESULT * k] == ROZHINAL_NUMBER
+                    && number_at(results + RESULT * k + 1) == posted * times(large.count - 1 - k),
+                "the results of a large board");
+}
+
+static void require_large_close(int64_t posted)
+{
+    require(rozhinal_close(LARGE).number == 0, "a large close");
+    for (size_t i = 0; i < large.count; i++) {
+        const uint8_t *record = large.table + ROZHINAL_TABLE_BYTES(i);
+        require(record[0] == ROZHINAL_NUMBER && record[1] == ROZHINAL_MARK_NONE
+                    && number_at(record + 2) == posted * times(i)
+                    && record[OWED] == (i == 0 ? large.count > 1 : 2 * i < large.count),
+                "a record after a large close");
+    }
+}
+
+/* Every call but a swap, for which there is one entry only. */
+static void use_large(void)
+{
+    size_t last = large.count - 1;
+    require(rozhinal_open_full(LARGE).number == 0, "a large full opening");
+    require(rozhinal_open_bare(LARGE).number == 0, "a large bare opening");
+    require(rozhinal_post(LARGE, 0, ROZHINAL_NUMBER, 7).number == 0, "a large post");
+    require_reading(last, 7, "a large ask");
+    require(rozhinal_ask(LARGE, large.count).number == ROZHINAL_REFUSED_ITEM, "one item too many");
+    require(rozhinal_swap(LARGE, 0, 0, 1).number == ROZHINAL_REFUSED_SWAP, "a large swap");
+    if (last > 0) {
+        require(rozhinal_keep(LARGE, last).number == 0, "a large keep");
+        require(rozhinal_drop(LARGE, last / 2 + 1).number == 0, "a large drop");
+    }
+    require(rozhinal_post(LARGE, 0, ROZHINAL_NUMBER, -9).number == 0, "a large post");
+    require(rozhinal_step(LARGE, 0).number == 0, "a large step");
+    require_large_board(-9);
+    require_large_close(-9);
+    require(rozhinal_post(LARGE, 0, ROZHINAL_NUMBER, 11).number == 0, "a large post");
+    require_reading(last / 2, 11, "a large ask after a close");
+    require(memcmp(large.sheet, large_before.sheet, sizeof large.sheet) == 0, "a large sheet");
+    require(memcmp(large.index + large.index_len, large_before.index + large.index_len,
+                   sizeof large.index - large.index_len) == 0
+                && memcmp(large.table + large.table_len, large_before.table + large.table_len,
+                          sizeof large.table - large.table_len) == 0,
+            "bytes after a large index or table");
+}
+
+/* On both sides of each size for which the library has scratch. */
+static void the_sizes(void)
+{
+    static const size_t counts[] = { 1, 2, 127, 128, 129, 1023, 1024, 1025, 2048, 4095, 4096 };
+    for (size_t k = 0; k < sizeof counts / sizeof *counts; k++) {
+        if (counts[k] <= ROZHINAL_MAX_ITEMS_EDITION_1) {
+            make_large(1, counts[k]);
+            use_large();
+            edition_1 = large;
+        }
+        make_large(2, counts[k]);
+        use_large();
+        printf("%zu items: a sheet of %zu bytes\n", counts[k], large.sheet_len);
+        edition_1.sheet[3] = 2;
+        if (counts[k] <= ROZHINAL_MAX_ITEMS_EDITION_1)
+            require(memcmp(&large, &edition_1, sizeof large) == 0, "the bytes of both editions");
+    }
+}
+
+static void the_limits(void)
+{
+    static const unsigned heads[][2] = {
+        { 0, 5 },    { 1, 0 },     { 1, 1 },   { 1, 1024 }, { 1, 1025 }, { 1, 4096 }, { 1, 65535 },
+        { 2, 0 },    { 2, 1 },     { 2, 1024 }, { 2, 1025 }, { 2, 4096 }, { 2, 4097 }, { 2, 65535 },
+        { 3, 5 },    { 255, 5 },   { 256, 5 }, { 257, 5 },  { 258, 5 },  { 512, 5 },  { 513, 5 },
+        { 3, 1025 }, { 65535, 5 },
+    };
+    for (size_t k = 0; k < sizeof heads / sizeof *heads; k++) {
+        make_large(heads[k][0], heads[k][1]);
+        /* More than there is room for is refused before index and table are looked at. */
+        if (large.count > LARGEST)
+            large.index_len = large.table_len = 0;
+        large_before = large;
+        rozhinal_answer bare = rozhinal_open_bare(LARGE), full = rozhinal_open_full(LARGE);
+        printf("edition %u, %u items: open bare %" PRIu64 " %" PRIu64 ", open full %" PRIu64
+               " %" PRIu64, heads[k][0], heads[k][1], bare.number, bare.offset, full.number,
+               full.offset);
+        printf(", ask %" PRIu64 ", close %" PRIu64 "\n", rozhinal_ask(LARGE, 0).number,
+               rozhinal_close(LARGE).number);
+        require(bare.number == 0 || memcmp(&large, &large_before, sizeof large) == 0,
+                "a refused large sheet changed a lent byte");
+    }
+}
+
+/* The longest form of every item. */
+static void the_longest(unsigned of_edition, size_t count)
+{
+    uint8_t figure[55] = { 3, 52, 0, ROZHINAL_SUM, 1, 0, ROZHINAL_MAX_PARENTS };
+    memset(figure + 39, 'n', ROZHINAL_MAX_NAME);
+    make_large(of_edition, count);
+    large.sheet_len = 7;
+    add((const uint8_t[]){ 2, 16, 0 }, 3);
+    add(figure + 39, ROZHINAL_MAX_NAME);
+    for (size_t i = 1; i < count; i++)
+        add(figure, sizeof figure);
+    add((const uint8_t[]){ 4, 0, 0 }, 3);
+    require(large.sheet_len == ROZHINAL_MAX_SHEET_BYTES(count), "the most bytes of a sheet");
+    rozhinal_answer opened = rozhinal_open_full(LARGE);
+    rozhinal_answer posted = rozhinal_post(LARGE, 0, ROZHINAL_NUMBER, 3);
+    rozhinal_reading r = rozhinal_ask(LARGE, count - 1);
+    printf("edition %u, %zu bytes: %" PRIu64 ", %" PRIu64 ", %" PRIu64 " %" PRId64, of_edition,
+           large.sheet_len, opened.number, posted.number, r.number, r.value);
+    large.sheet[large.sheet_len++] = 0;
+    opened = rozhinal_open_full(LARGE);
+    printf("; and a byte: %" PRIu64 " %" PRIu64 "\n", opened.number, opened.offset);
+}
+
+static void the_editions(void)
+{
+    the_limits();
+    the_sizes();
+    the_longest(1, ROZHINAL_MAX_ITEMS_EDITION_1);
+    the_longest(2, ROZHINAL_MAX_ITEMS_EDITION_1);
+    the_longest(2, ROZHINAL_MAX_ITEMS_EDITION_2);
+}
+
 /* A null pointer goes with length 0. */
 static void null_pointers(void)
 {
@@ -711,8 +930,9 @@ static void null_pointers(void)
     refused("no items", rozhinal_board(LENT, NULL, 0, now.results, RESULT));
 }
 
-int main(void)
+int main(int count, char **arguments)
 {
+    edition = count == 2 ? (uint8_t)atoi(arguments[1]) : ROZHINAL_EDITION_1;
     the_example();
     the_range();
     sheet_refusals();
@@ -725,6 +945,7 @@ int main(void)
     close_refusals();
     the_owed();
     owed_refusals();
+    the_editions();
     null_pointers();
     return faults == 0 ? 0 : 1;
 }

@@ -1,6 +1,7 @@
 /*
  * Every function with slices that begin, then that end, where memory begins or ends, and with what
- * it only reads in memory that cannot be written. An access outside them ends the program.
+ * it only reads in memory that cannot be written. An access outside them ends the program. The sheets
+ * are the example, and those on both sides of each size for which the library has scratch.
  */
 #define _GNU_SOURCE
 #include "rozhinal.h"
@@ -26,21 +27,33 @@ static void require(int right, const char *what)
     }
 }
 
-/* So many bytes, at the end or at the front of a page between two that cannot be accessed. */
-static uint8_t *slice(size_t length, int at_end)
+/* The bytes of so many whole pages. */
+static size_t whole_pages(size_t length)
 {
-    uint8_t *pages = mmap(NULL, 3 * PAGE, PROT_NONE, MAP_PRIVATE | MAP_ANONYMOUS, -1, 0);
-    require(pages != MAP_FAILED, "no memory");
-    require(mprotect(pages + PAGE, PAGE, PROT_READ | PROT_WRITE) == 0, "no page to write to");
-    memset(pages + PAGE, 0, PAGE);
-    return pages + PAGE + (at_end ? PAGE - length : 0);
+    return (length + PAGE - 1) / PAGE * PAGE;
 }
 
-/* From now on the page of these bytes can only be read. */
-static void only_read(uint8_t *bytes)
+/* So many bytes, at the end or at the front of pages between two that cannot be accessed. */
+static uint8_t *slice(size_t length, int at_end)
+{
+    size_t whole = whole_pages(length);
+    uint8_t *pages = mmap(NULL, whole + 2 * PAGE, PROT_NONE, MAP_PRIVATE | MAP_ANONYMOUS, -1, 0);
+    require(pages != MAP_FAILED, "no memory");
+    require(mprotect(pages + PAGE, whole, PROT_READ | PROT_WRITE) == 0, "no page to write to");
+    memset(pages + PAGE, 0, whole);
+    return pages + PAGE + (at_end ? whole - length : 0);
+}
+
+/* From now on the pages of these bytes can only be read. */
+static void only_read_all(uint8_t *bytes, size_t length)
 {
     uint8_t *page = bytes - (uintptr_t)bytes % PAGE;
-    require(mprotect(page, PAGE, PROT_READ) == 0, "no page to read from");
+    require(mprotect(page, whole_pages(length), PROT_READ) == 0, "no page to read from");
+}
+
+static void only_read(uint8_t *bytes)
+{
+    only_read_all(bytes, PAGE);
 }
 
 #define LENT sheet, sizeof example, index, INDEX, table, TABLE
@@ -90,9 +103,75 @@ static void run(int at_end)
     require(rozhinal_print(ROZHINAL_NUMBER, -7, scratch, ROZHINAL_PRINT_BYTES) == 2, "print");
 }
 
+enum { ENTRY = 4, FIGURE = 12 };
+
+/* Two entries, and figures that each sum the first and the one at half their number. */
+static size_t large_bytes(size_t n)
+{
+    return 7 + 2 * ENTRY + FIGURE * (n - 2) + 3;
+}
+
+static void make_large(uint8_t *sheet, size_t n)
+{
+    const uint8_t head[] = { 1, 4, 0, ROZHINAL_EDITION_FOR(n), 0, (uint8_t)n, (uint8_t)(n >> 8),
+                             2, 1, 0, 'A', 2, 1, 0, 'S' };
+    memcpy(sheet, head, sizeof head);
+    uint8_t *field = sheet + sizeof head;
+    for (size_t i = 2; i < n; i++, field += FIGURE) {
+        const uint8_t figure[FIGURE] = { 3, 9, 0, 1, i % 2, i % 3, 2, (uint8_t)(i / 2),
+                                         (uint8_t)(i / 2 >> 8), 0, 0, 'F' };
+        memcpy(field, figure, FIGURE);
+    }
+    memcpy(field, (const uint8_t[]){ 4, 0, 0 }, 3);
+}
+
+#define LARGE                                                                                    \
+    sheet, large_bytes(n), index, ROZHINAL_INDEX_BYTES(n), table, ROZHINAL_TABLE_BYTES(n)
+
+/* Every figure leans on entry 0, so that all are numbers. */
+static void use_large(const uint8_t *sheet, const uint8_t *index, uint8_t *table, size_t n,
+                      const uint8_t *items, uint8_t *results)
+{
+    require(rozhinal_post(LARGE, 0, ROZHINAL_NUMBER, 1000).number == 0, "a large post");
+    require(rozhinal_keep(LARGE, n - 1).number == 0, "a large keep");
+    require(rozhinal_step(LARGE, 0).number == 0, "a large step");
+    require(rozhinal_swap(LARGE, 0, 1, 400).number == 0, "a large swap");
+    require(rozhinal_board(LARGE, LISTS).number == 0, "a large board");
+    require(rozhinal_drop(LARGE, n - 1).number == 0, "a large drop");
+    rozhinal_reading asked = rozhinal_ask(LARGE, n - 1);
+    require(asked.number == 0 && asked.kind == ROZHINAL_NUMBER, "a large ask");
+    require(results[1] == (asked.value & 0xFF), "the results of a large board");
+    require(rozhinal_close(LARGE).number == 0, "a large close");
+    require(table[ROZHINAL_TABLE_BYTES(n - 1) + 2] == (asked.value & 0xFF), "the last record");
+    require(rozhinal_ask(LARGE, n).number == 11, "a large ask that is refused");
+}
+
+/* On the board the last item stands at the front. */
+static void run_large(size_t n, int at_end)
+{
+    size_t sheet_len = large_bytes(n), index_len = ROZHINAL_INDEX_BYTES(n);
+    uint8_t *sheet = slice(sheet_len, at_end), *index = slice(index_len, at_end);
+    uint8_t *table = slice(ROZHINAL_TABLE_BYTES(n), at_end);
+    uint8_t *items = slice(2 * LISTED, at_end), *results = slice(9 * LISTED, at_end);
+    make_large(sheet, n);
+    for (size_t k = 0; k < LISTED; k++) {
+        items[2 * k] = (uint8_t)((n - 1 - k) & 0xFF);
+        items[2 * k + 1] = (uint8_t)((n - 1 - k) >> 8);
+    }
+    only_read_all(sheet, sheet_len), only_read(items);
+    require(rozhinal_open_full(LARGE).number == 0, "a large full opening");
+    require(rozhinal_open_bare(LARGE).number == 0, "a large bare opening");
+    only_read_all(index, index_len);
+    use_large(sheet, index, table, n, items, results);
+}
+
 int main(void)
 {
-    run(0);
-    run(1);
+    static const size_t counts[] = { 127, 128, 129, 1023, 1024, 1025, 4095, 4096 };
+    for (int at_end = 0; at_end <= 1; at_end++) {
+        run(at_end);
+        for (size_t k = 0; k < sizeof counts / sizeof *counts; k++)
+            run_large(counts[k], at_end);
+    }
     return 0;
 }

@@ -1,6 +1,7 @@
 /*
- * Runs the board, the swap, the close, the catching up, the working out anew and the taking over of
- * an older table of docs/USE.md: the page's C is included, with its main under another name.
+ * Runs the asks in threads, the board, the swap, the close, the catching up, the working out anew
+ * and the taking over of an older table of docs/USE.md: the page's C is included, with its main
+ * under another name.
  */
 #define main page
 #include "use.c"
@@ -22,8 +23,9 @@ static uint8_t stale[ROZHINAL_TABLE_BYTES(5)] = {
 /* Afterwards T is stored as 1000, and B is not stored. */
 static int works_out_anew(const uint8_t *index, size_t index_len)
 {
-    if (work_out_anew(index, index_len, stale, sizeof stale - 1) != ROZHINAL_REFUSED_SIZES
-        || work_out_anew(index, index_len, stale, sizeof stale) != ROZHINAL_ACCEPTED)
+    uint8_t before[sizeof stale];
+    if (work_out_anew(index, index_len, stale, sizeof stale - 1, before) != ROZHINAL_REFUSED_SIZES
+        || work_out_anew(index, index_len, stale, sizeof stale, before) != ROZHINAL_ACCEPTED)
         return 0;
     const uint8_t *record = stale + 3 * ROZHINAL_RECORD_BYTES;
     return record[0] == ROZHINAL_NUMBER && number_at(record + 2) == 1000
@@ -99,8 +101,48 @@ static int catches_up(const uint8_t *index, size_t index_len, const uint8_t *clo
            && number_at(table + ROZHINAL_TABLE_BYTES(4) + 2) == 1500;
 }
 
+enum { FIELD = 10 }; /* bytes of a figure of one parent, with a name of one */
+
+/* An entry and figures with the one before as parent, up to level 64; then all lean on level 63. */
+static size_t make_deep(uint8_t *deep, size_t n)
+{
+    const uint8_t head[] = { 1, 4, 0, ROZHINAL_EDITION_FOR(n), 0, (uint8_t)n, (uint8_t)(n >> 8) };
+    memcpy(deep, head, sizeof head);
+    uint8_t *field = deep + sizeof head;
+    memcpy(field, (const uint8_t[]){ 2, 1, 0, 'E' }, 4);
+    field += 4;
+    for (size_t i = 1; i < n; i++, field += FIELD) {
+        uint8_t parent = i < ROZHINAL_MAX_LEVEL ? (uint8_t)(i - 1) : ROZHINAL_MAX_LEVEL - 1;
+        memcpy(field, (const uint8_t[]){ 3, 7, 0, ROZHINAL_SUM, 0, 0, 1, parent, 0, 'F' }, FIELD);
+    }
+    memcpy(field, (const uint8_t[]){ 4, 0, 0 }, 3);
+    return (size_t)(field + 3 - deep);
+}
+
+/* The last item is worked out through all levels, in a thread with a stack for the sheet. */
+static int asks_in_threads(void)
+{
+    static const size_t counts[] = { 66, 127, 128, 129, 1023, 1024, 1025, 4095, 4096 };
+    static uint8_t deep[7 + FIELD * ROZHINAL_MAX_ITEMS + 3];
+    static uint8_t index[ROZHINAL_INDEX_BYTES(ROZHINAL_MAX_ITEMS)];
+    static uint8_t table[ROZHINAL_TABLE_BYTES(ROZHINAL_MAX_ITEMS)];
+    for (size_t k = 0; k < sizeof counts / sizeof *counts; k++) {
+        size_t n = counts[k], deep_len = make_deep(deep, n);
+        struct asking a = { deep, index, table, deep_len, n, n - 1, { 0, 0, 0, 0 } };
+        size_t index_len = ROZHINAL_INDEX_BYTES(n), table_len = ROZHINAL_TABLE_BYTES(n);
+        if (rozhinal_open_bare(deep, deep_len, index, index_len, table, table_len).number != 0
+            || rozhinal_post(deep, deep_len, index, index_len, table, table_len, 0, ROZHINAL_NUMBER,
+                             (int64_t)n).number != 0
+            || ask_in_thread(&a) != 0 || a.reading.number != 0 || a.reading.value != (int64_t)n)
+            return 0;
+    }
+    return 1;
+}
+
 int main(void)
 {
+    if (!asks_in_threads())
+        return 1;
     uint8_t index[ROZHINAL_INDEX_BYTES(5)], table[ROZHINAL_TABLE_BYTES(5)];
     size_t index_len = sizeof index, table_len = sizeof table;
     if (rozhinal_open_bare(LENT).number != ROZHINAL_ACCEPTED

@@ -2,26 +2,6 @@
 //! machine, which fills cells from a whole solution, catches up in one ascending sweep and mends
 //! the owed bytes at each change, and another printer. It can be made wrong in one respect.
 
-mod board;
-mod choice;
-mod close;
-mod older;
-mod owed;
-mod printer;
-mod step;
-mod swap;
-
-use crate::engine::{DayProgram, Engine};
-use crate::guarded::Guarded;
-use crate::model::calls::{self, Call, Reply};
-use crate::model::day::run_day;
-use crate::model::sheet::{read_sheet, Item, Spread};
-use crate::model::swap::Swap;
-use crate::model::table::{to_pair, Cell, Mark};
-use crate::model::value::{apply, in_range, Value, WHOLE};
-use choice::Where;
-use owed::By;
-
 /// An enum with `ALL`, the list of its variants after the first.
 macro_rules! with_all {
     ($(#[$derive:meta])* pub enum $name:ident { $first:ident, $($variant:ident,)* }) => {
@@ -36,6 +16,29 @@ macro_rules! with_all {
         }
     };
 }
+
+mod board;
+mod choice;
+mod close;
+mod day;
+mod edition;
+mod older;
+mod owed;
+mod printer;
+mod step;
+mod swap;
+
+use crate::engine::Engine;
+use crate::guarded::Guarded;
+use crate::model::calls::{self, Call, Reply};
+use crate::model::sheet::{read_sheet, Item, Spread};
+use crate::model::swap::Swap;
+use crate::model::table::{to_pair, Cell, Mark};
+use crate::model::value::{apply, in_range, Value, WHOLE};
+use choice::Where;
+pub use day::{MockDay, WrongDay};
+use owed::By;
+use std::cell::RefCell;
 
 with_all! {
     #[derive(Clone, Copy, PartialEq, Eq, Debug)]
@@ -269,6 +272,47 @@ with_all! {
         RefusedSwapMarks,
         RefusedSwapMakesNull0,
         RefusedSwapClearsMarks,
+        FirstTakes1025,
+        FirstRefuses1024,
+        FirstTakes4096,
+        SecondTakes4097,
+        SecondRefuses4096,
+        SecondRefuses1025,
+        SecondTakesAnyCount,
+        SecondTakesNoItems,
+        SecondRefused,
+        TakesEdition0,
+        TakesEdition3,
+        EditionInOneByte,
+        CountIn12Bits,
+        CountIn10Bits,
+        ItemsIn12Bits,
+        ItemsIn10Bits,
+        ParentsIn12Bits,
+        ParentsIn10Bits,
+        LosesLastOf128,
+        LosesLastOf1024,
+        LosesLastOf4096,
+        StaleScratchTo128,
+        StaleScratchTo1024,
+        StaleScratchTo4096,
+        FaultBeyond128At0,
+        FaultBeyond1024At0,
+        LongSheetsRefused,
+        LongSheetsCut,
+        FirstForgetDefers,
+        SecondForgetDefers,
+        SecondForgetRefused,
+        SecondOpensOtherwise,
+        SecondPostAlwaysMarks,
+        SecondExchangeUnmarked,
+        SecondKeepLosesNotice,
+        SecondDropLeavesBytes,
+        SecondStepCatchesUp,
+        SecondAskLooksUpFirst,
+        SecondBoardStoresNothing,
+        SecondRunLeavesNotice,
+        SecondChoiceStrict,
     }
 }
 
@@ -290,6 +334,8 @@ struct Sweep<'a> {
     items: &'a [Item],
     cells: Vec<Cell>,
     owed: Vec<bool>,
+    /// What was looked up in the call before, if that is kept.
+    scratch: RefCell<Vec<Option<(Value, bool)>>>,
     wrong: Wrong,
 }
 
@@ -337,13 +383,25 @@ impl Sweep<'_> {
         for i in 0..=last {
             let notice = self.cells[i].mark == Mark::Notice;
             given.push(if self.unstored(i) {
-                let (value, flagged) = self.by_parents(i, &given, Where::LookUp);
-                (value, flagged || notice)
+                self.remembered(i).unwrap_or_else(|| {
+                    let (value, flagged) = self.by_parents(i, &given, Where::LookUp);
+                    (value, flagged || notice)
+                })
             } else {
                 (self.cells[i].stored.unwrap(), notice)
             });
         }
+        if self.wrong.keeps_scratch(self.items.len()) {
+            let mut scratch = self.scratch.borrow_mut();
+            scratch.resize(self.items.len(), None);
+            scratch.iter_mut().zip(&given).for_each(|(kept, &now)| *kept = kept.or(Some(now)));
+        }
         given
+    }
+
+    /// What a scratch that is not begun anew has for an unstored item.
+    fn remembered(&self, i: usize) -> Option<(Value, bool)> {
+        *self.scratch.borrow().get(i)?
     }
 
     fn by_parents(&self, i: usize, given: &[(Value, bool)], place: Where) -> (Value, bool) {
@@ -484,9 +542,8 @@ impl Sweep<'_> {
     }
 }
 
-/// The call with its item cut to its low 32 bits.
-fn cut_item(call: &Call) -> Call {
-    let cut = |item: u64| item & 0xFFFF_FFFF;
+/// The call with another item.
+fn with_item(call: &Call, cut: impl Fn(u64) -> u64) -> Call {
     match *call {
         Call::Post { item, kind, number } => Call::Post { item: cut(item), kind, number },
         Call::Keep { item } => Call::Keep { item: cut(item) },
@@ -496,9 +553,9 @@ fn cut_item(call: &Call) -> Call {
     }
 }
 
-impl Engine for Mock {
-    fn open(
-        &mut self,
+impl Mock {
+    fn give_open(
+        &self,
         full: bool,
         sheet: &mut Guarded,
         index: &mut Guarded,
@@ -514,15 +571,18 @@ impl Engine for Mock {
         reply
     }
 
-    fn call(
-        &mut self,
+    fn give_call(
+        &self,
         call: &Call,
         sheet: &mut Guarded,
         index: &mut Guarded,
         table: &mut Guarded,
     ) -> Reply {
         let wrong = self.0;
-        let call = &if wrong == Wrong::CutsItemTo32Bits { cut_item(call) } else { *call };
+        let call = &match wrong {
+            Wrong::CutsItemTo32Bits => with_item(call, |item| item & 0xFFFF_FFFF),
+            _ => wrong.call_taken(call),
+        };
         let taken = wrong.taken(sheet.bytes(), table.bytes());
         // The model is asked only whether the call is refused.
         let refusal = calls::call(call, sheet.bytes(), index.bytes(), &mut taken.clone());
@@ -549,6 +609,30 @@ impl Engine for Mock {
         }
         reply
     }
+}
+
+impl Engine for Mock {
+    fn open(
+        &mut self,
+        full: bool,
+        sheet: &mut Guarded,
+        index: &mut Guarded,
+        table: &mut Guarded,
+    ) -> Reply {
+        let lengths = [index.length(), table.length()];
+        self.as_taken(sheet, lengths, |mock, sheet| mock.give_open(full, sheet, index, table))
+    }
+
+    fn call(
+        &mut self,
+        call: &Call,
+        sheet: &mut Guarded,
+        index: &mut Guarded,
+        table: &mut Guarded,
+    ) -> Reply {
+        let lengths = [index.length(), table.length()];
+        self.as_taken(sheet, lengths, |mock, sheet| mock.give_call(call, sheet, index, table))
+    }
 
     fn swap(
         &mut self,
@@ -557,11 +641,13 @@ impl Engine for Mock {
         index: &mut Guarded,
         table: &mut Guarded,
     ) -> Reply {
-        self.give_swap(swap, sheet, index, table)
+        let lengths = [index.length(), table.length()];
+        self.as_taken(sheet, lengths, |mock, sheet| mock.give_swap(swap, sheet, index, table))
     }
 
     fn close(&mut self, sheet: &mut Guarded, index: &mut Guarded, table: &mut Guarded) -> Reply {
-        self.give_close(sheet.bytes(), index, table)
+        let lengths = [index.length(), table.length()];
+        self.as_taken(sheet, lengths, |mock, sheet| mock.give_close(sheet.bytes(), index, table))
     }
 
     fn board(
@@ -572,16 +658,13 @@ impl Engine for Mock {
         items: &mut Guarded,
         results: &mut Guarded,
     ) -> Reply {
-        self.give_board(sheet.bytes(), index.bytes(), table.bytes_mut(), items, results)
+        let lengths = [index.length(), table.length()];
+        self.as_taken(sheet, lengths, |mock, sheet| {
+            mock.give_board(sheet.bytes(), index.bytes(), table.bytes_mut(), items, results)
+        })
     }
 
     fn print(&mut self, kind: u64, number: i64, scratch: &mut Guarded) -> i64 {
         self.give_print(kind, number, scratch)
-    }
-}
-
-impl DayProgram for Mock {
-    fn run(&mut self, sheet: Option<&[u8]>, day: Option<&[u8]>) -> Result<Vec<u8>, String> {
-        Ok(run_day(sheet.unwrap_or(&[]), day.unwrap_or(&[])))
     }
 }

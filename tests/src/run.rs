@@ -6,6 +6,7 @@ use crate::harness::choices::run_choices;
 use crate::harness::closes::run_closes;
 use crate::harness::compare::Comparison;
 use crate::harness::days::{compare_fixed_days, compare_random_day};
+use crate::harness::editions::{run_editions, run_large};
 use crate::harness::fixed::run_fixed;
 use crate::harness::lists::run_list;
 use crate::harness::offices::run_offices;
@@ -36,6 +37,10 @@ pub struct Plan {
     pub orders: u64,
     /// Runs of swaps alone.
     pub swaps: u64,
+    /// Lists of which each call is made in both editions.
+    pub editions: u64,
+    /// Large sheets of both editions.
+    pub large: u64,
     pub days: u64,
     /// Slices are lent in blocks of their own, for a run under a memory checker.
     pub alone: bool,
@@ -57,6 +62,8 @@ const BEFORE: u64 = 7 << 40;
 const CHOICES: u64 = 8 << 40;
 const ORDERS: u64 = 9 << 40;
 const SWAPS: u64 = 10 << 40;
+const EDITIONS: u64 = 11 << 40;
+const LARGE: u64 = 12 << 40;
 
 /// Everything compared, or the first difference.
 pub fn run(
@@ -83,6 +90,8 @@ pub fn run(
         (CHOICES, plan.choices),
         (ORDERS, plan.orders),
         (SWAPS, plan.swaps),
+        (EDITIONS, plan.editions),
+        (LARGE, plan.large),
     ];
     for part in kinds.iter().flat_map(|&(first, count)| first..first + count) {
         run_part(plan, part, &mut c, &mut day)?;
@@ -125,6 +134,8 @@ fn run_part(
     c.rng = Rng::part(seed, part);
     let result = match (part, day) {
         (FIXED, _) => run_fixed(c),
+        (LARGE.., _) => run_large(c),
+        (EDITIONS.., _) => run_editions(c),
         (SWAPS.., _) => run_swaps(c),
         (ORDERS.., _) => run_orders(c, part - ORDERS),
         (CHOICES.., _) => run_choices(c),
@@ -148,7 +159,7 @@ mod tests {
     use super::*;
     use crate::harness::orders::run_small;
     use crate::harness::sequences::run_sequences;
-    use crate::mock::{Mock, Wrong};
+    use crate::mock::{Mock, MockDay, Wrong, WrongDay};
 
     const SHORT: Plan = Plan {
         seed: 5,
@@ -162,6 +173,8 @@ mod tests {
         choices: 0,
         orders: 0,
         swaps: 0,
+        editions: 0,
+        large: 0,
         days: 0,
         alone: false,
         only: None,
@@ -185,7 +198,9 @@ mod tests {
             choices: 300,
             orders: 5,
             swaps: 300,
-            days: 60,
+            editions: 200,
+            large: 4,
+            days: 100,
             ..SHORT
         };
         let tally = try_mock(&plan, Wrong::Nothing).unwrap();
@@ -198,7 +213,8 @@ mod tests {
             tally.before_tables > 500 && tally.before_steps > 100 && tally.before_readings > 2_000
         );
         assert_eq!(tally.lists_from_tables, tally.lists.div_ceil(5));
-        assert_eq!(tally.random_days, 60);
+        assert!(tally.random_pairs > 600 && tally.large_sheets == 4);
+        assert_eq!(tally.random_days, 100);
         assert!(tally.damaged_days > 10);
     }
 
@@ -224,7 +240,7 @@ mod tests {
     /// Each wrong engine is found by random calls alone.
     #[test]
     fn wrong_engines_are_found() {
-        for &wrong in Wrong::ALL {
+        for &wrong in Wrong::ALL.iter().filter(|wrong| !Wrong::LARGE.contains(wrong)) {
             let found = try_mock(&SHORT, wrong).err().unwrap_or_default();
             assert!(found.contains("--seed 5 --part"), "{wrong:?} was not found: {found}");
             println!("{wrong:?}: {}", found.lines().last().unwrap());
@@ -293,6 +309,28 @@ mod tests {
         }
     }
 
+    /// What is wrong on large sheets alone is found by runs on these.
+    #[test]
+    fn wrong_large_sheets_are_found() {
+        let plan = Plan { calls: 0, offices: 0, large: 60, ..SHORT };
+        for &wrong in Wrong::LARGE {
+            let found = try_mock(&plan, wrong).unwrap_err();
+            assert!(found.contains("--seed 5 --part"), "{wrong:?}: {found}");
+            println!("{wrong:?}: {}", found.lines().last().unwrap());
+        }
+    }
+
+    /// A day program that is wrong about the length of its files is found by random days alone.
+    #[test]
+    fn wrong_day_programs_are_found() {
+        let plan = Plan { calls: 0, offices: 0, days: 1_000, ..SHORT };
+        for &wrong in WrongDay::ALL {
+            let found = run(&plan, &mut Mock(Wrong::Nothing), Some(&mut MockDay(wrong)));
+            let found = found.err().unwrap_or_default();
+            assert!(found.contains("--seed 5 --part"), "{wrong:?} was not found");
+        }
+    }
+
     /// Wrong steps are found by orders alone: by those of small sheets, and by those of an office.
     #[test]
     fn wrong_steps_are_found() {
@@ -348,6 +386,8 @@ mod tests {
             choices: 300,
             orders: 5,
             swaps: 300,
+            editions: 200,
+            large: 4,
             ..SHORT
         };
         if let Err(difference) = run(&plan, &mut crate::ffi::Linked, None) {

@@ -11,7 +11,7 @@ use std::time::{Instant, SystemTime, UNIX_EPOCH};
 const USAGE: &str =
     "differential [--self] [--trace] [--alone] [--seed N] [--calls N] [--offices N] \
      [--pairs N] [--older N] [--closes N] [--before N] [--choices N] [--orders N] [--swaps N] \
-     [--days N] [--part N]";
+     [--editions N] [--large N] [--days N] [--part N]";
 
 /// What a run compares unless it is told otherwise; its seed is then the clock's.
 const PLAN: Plan = Plan {
@@ -26,6 +26,8 @@ const PLAN: Plan = Plan {
     choices: 5_000,
     orders: 216,
     swaps: 5_000,
+    editions: 2_000,
+    large: 200,
     days: 1_000,
     alone: false,
     only: None,
@@ -79,6 +81,8 @@ fn options() -> Result<Options, String> {
             "--choices" => options.plan.choices = number,
             "--orders" => options.plan.orders = number,
             "--swaps" => options.plan.swaps = number,
+            "--editions" => options.plan.editions = number,
+            "--large" => options.plan.large = number,
             "--days" => options.plan.days = number,
             "--part" => options.plan.only = Some(number),
             _ => return Err(USAGE.to_string()),

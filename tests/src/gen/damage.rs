@@ -1,8 +1,8 @@
 //! Sheets past a limit, and bytes damaged in one to three places.
 
 use super::sheets::{random_specs, small_specs, tower};
-use super::write::{raw, raw_sheet, write_raw, write_sheet, Raw, Spec};
-use crate::model::sheet::{MAX_ITEMS, MAX_LEVEL};
+use super::write::{any_edition, raw, raw_sheet, write_any, write_edition, write_raw, Raw, Spec};
+use crate::model::sheet::{item_limit, MAX_LEVEL};
 use crate::rng::Rng;
 
 /// A sheet just past a limit, or changed in one to three places. It may still be accepted.
@@ -10,8 +10,9 @@ pub fn bad_sheet(rng: &mut Rng) -> Vec<u8> {
     match rng.below(20) {
         0..=2 => too_high(rng),
         3 => {
+            let edition = if rng.percent(10) { 2 } else { 1 };
             let entries = rng.between(20, 80);
-            write_sheet(&random_specs(rng, MAX_ITEMS + 1, entries, 5))
+            write_edition(edition, &random_specs(rng, item_limit(edition) + 1, entries, 5))
         }
         _ => {
             let specs = small_specs(rng);
@@ -24,7 +25,7 @@ pub fn bad_sheet(rng: &mut Rng) -> Vec<u8> {
 fn too_high(rng: &mut Rng) -> Vec<u8> {
     let levels = rng.between(MAX_LEVEL as u64 + 1, MAX_LEVEL as u64 + 3) as usize;
     let specs = tower(rng, levels);
-    let mut fields = raw_sheet(&specs);
+    let mut fields = raw_sheet(any_edition(rng, specs.len()), &specs);
     if rng.percent(60) {
         // After the head, the entries and the highest level.
         let at = 1 + specs.len() - levels + MAX_LEVEL;
@@ -38,9 +39,10 @@ fn too_high(rng: &mut Rng) -> Vec<u8> {
 /// The sheet changed in one to three places.
 pub fn damaged_sheet(rng: &mut Rng, specs: &[Spec]) -> Vec<u8> {
     if rng.percent(30) {
-        return damaged(rng, &write_sheet(specs));
+        let sheet = write_any(rng, specs);
+        return damaged(rng, &sheet);
     }
-    let mut fields = raw_sheet(specs);
+    let mut fields = raw_sheet(any_edition(rng, specs.len()), specs);
     let same_field = rng.percent(50);
     let mut at = rng.below(fields.len() as u64) as usize;
     for _ in 0..rng.between(1, 3) {
@@ -89,10 +91,11 @@ fn damage_field(rng: &mut Rng, fields: &mut Vec<Raw>, at: usize) {
 fn damage_content(rng: &mut Rng, field: &mut Raw, at: usize) {
     let content = &mut field.content;
     if field.tag == 1 && content.len() == 4 {
-        let edition = *rng.pick(&[0, 1, 1, 2, 257]);
+        let edition = *rng.pick(&[0, 1, 1, 1, 2, 2, 2, 3, 256, 257, 258]);
         let count = u16::from_le_bytes([content[2], content[3]]);
-        let count =
-            *rng.pick(&[0, count, count.wrapping_sub(1), count.wrapping_add(1), 1_025, 65_535]);
+        let beside = [count.wrapping_sub(1), count.wrapping_add(1)];
+        let limit = *rng.pick(&[128, 129, 1_024, 1_025, 4_096, 4_097, 65_535]);
+        let count = *rng.pick(&[0, count, count, beside[0], beside[1], limit, limit]);
         content[..2].copy_from_slice(&u16::to_le_bytes(edition));
         content[2..].copy_from_slice(&u16::to_le_bytes(count));
     } else if field.tag == 3 && content.len() > 6 {
@@ -104,7 +107,8 @@ fn damage_content(rng: &mut Rng, field: &mut Raw, at: usize) {
             4 => {
                 // The field at place 1 is item 0.
                 let own = at.saturating_sub(1) as u16;
-                let parent = *rng.pick(&[own, own + 1, own + 256, 65_535]);
+                let parent =
+                    *rng.pick(&[own, own + 1, own + 256, own + 1_024, 1_024, 4_096, 65_535]);
                 let place = if content.len() > 8 { rng.below(2) as usize } else { 0 };
                 content[4 + 2 * place..6 + 2 * place].copy_from_slice(&parent.to_le_bytes());
             }

@@ -11,13 +11,15 @@ mod write;
 pub use boards::{any_board, board_of, good_board};
 pub use calls::{any_call, bad_post, day_field, day_log, good_post, other_call};
 pub use damage::{bad_sheet, damaged, damaged_sheet};
-pub use sheets::{guard_specs, shape, sheet, small_specs, Shape};
+pub use sheets::{guard_specs, random_specs, shape, sheet, small_specs, Shape};
 pub use swaps::{any_swap, bad_swap, good_swap, numbers_of};
 pub use tables::{
     accepted_table, beyond, choose_numbers, damaged_index, damaged_table, make_owed_true, narrow,
     number, older_table, share_pair, Numbers, OLDER_LIMIT,
 };
-pub use write::{plain_chain, spec_figure, write_sheet, Spec};
+pub use write::{
+    in_edition, plain_chain, spec_figure, write_any, write_edition, write_sheet, Spec,
+};
 
 #[cfg(test)]
 mod tests {
@@ -26,7 +28,7 @@ mod tests {
     use crate::model::field::{field_at, u16_at};
     use crate::model::machine::Machine;
     use crate::model::sheet::read_sheet;
-    use crate::model::sheet::{Item, MAX_ITEMS, MAX_LEVEL};
+    use crate::model::sheet::{item_limit, Item, MAX_LEVEL};
     use crate::model::table::{decode, RECORD};
     use crate::model::value::{count_fits, Value, LIMIT, WHOLE};
     use crate::rng::Rng;
@@ -34,14 +36,19 @@ mod tests {
     #[test]
     fn sheets_are_accepted() {
         let mut rng = Rng::new(1);
-        for shape in [Shape::Small, Shape::Medium, Shape::Deep, Shape::Wide] {
+        for shape in [Shape::Small, Shape::Medium, Shape::Deep, Shape::Wide, Shape::Vast] {
+            let mut editions = [0; 3];
             for _ in 0..20 {
                 let specs = sheet(&mut rng, shape);
-                let items = read_sheet(&write_sheet(&specs)).unwrap();
+                let bytes = write_any(&mut rng, &specs);
+                editions[u16_at(&bytes, 3) as usize] += 1;
+                let items = read_sheet(&bytes).unwrap();
                 assert_eq!(items.len(), specs.len());
+                assert_eq!(items.len() > item_limit(1), shape == Shape::Vast);
                 let table = accepted_table(&mut rng, &items);
                 assert!(decode(&items, &table).is_some());
             }
+            assert!(editions[2] > 2 && (editions[1] > 2 || shape == Shape::Vast), "{editions:?}");
         }
     }
 
@@ -53,14 +60,15 @@ mod tests {
         let (mut highest, mut most) = (0, 0);
         for _ in 0..3_000 {
             let shape = shape(&mut rng);
-            let items = read_sheet(&write_sheet(&sheet(&mut rng, shape))).unwrap();
+            let specs = sheet(&mut rng, shape);
+            let items = read_sheet(&write_any(&mut rng, &specs)).unwrap();
             most = most.max(items.len());
             highest = highest.max(items.iter().map(|i| i.level).max().unwrap());
             for f in items.iter().filter_map(|i| i.figure.as_ref()) {
                 met[f.rule as usize][f.keep as usize][f.spread as usize][f.parents.len()] += 1;
             }
         }
-        assert_eq!((highest, most), (MAX_LEVEL, MAX_ITEMS));
+        assert_eq!((highest, most), (MAX_LEVEL, item_limit(2)));
         for rule in 1..=8 {
             for count in (1..=16).filter(|&c| count_fits(rule, c)) {
                 let least = met[rule as usize].iter().flatten().map(|m| m[count]).min();
@@ -150,12 +158,13 @@ mod tests {
     #[test]
     fn bad_sheets_meet_every_refusal() {
         let mut rng = Rng::new(2);
-        let mut met = [0; 8];
-        for _ in 0..4_000 {
+        let mut met = [[0; 8]; 3];
+        for _ in 0..8_000 {
             let bytes = bad_sheet(&mut rng);
-            met[read_sheet(&bytes).map_or_else(|f| f.number, |_| 0) as usize] += 1;
+            let edition = bytes.get(3).map_or(0, |&edition| edition.min(2)) as usize;
+            met[edition][read_sheet(&bytes).map_or_else(|f| f.number, |_| 0) as usize] += 1;
         }
-        assert!(met.iter().all(|&m| m >= 20), "{met:?}");
+        assert!(met[1..].iter().flatten().all(|&m| m >= 20), "{met:?}");
     }
 
     /// Every number that a figure's field is at fault with, its parents read as far as they go.

@@ -1,7 +1,7 @@
 //! Random sheets that are accepted.
 
 use super::write::Spec;
-use crate::model::sheet::{MAX_ITEMS, MAX_LEVEL};
+use crate::model::sheet::{item_limit, MAX_LEVEL};
 use crate::rng::Rng;
 
 fn name(rng: &mut Rng) -> Vec<u8> {
@@ -90,7 +90,10 @@ pub enum Shape {
     Small,
     Medium,
     Deep,
+    /// At most 1,024 items.
     Wide,
+    /// More, up to 4,096.
+    Vast,
 }
 
 pub fn shape(rng: &mut Rng) -> Shape {
@@ -98,7 +101,23 @@ pub fn shape(rng: &mut Rng) -> Shape {
         0..=719 => Shape::Small,
         720..=929 => Shape::Medium,
         930..=984 => Shape::Deep,
-        _ => Shape::Wide,
+        985..=997 => Shape::Wide,
+        _ => Shape::Vast,
+    }
+}
+
+/// An item count of a wide sheet, or of a vast one: often at a limit, or beside one.
+fn many(rng: &mut Rng, shape: Shape) -> u64 {
+    let (first, second) = (item_limit(1) as u64, item_limit(2) as u64);
+    match (shape, rng.below(10)) {
+        (Shape::Vast, 0..=3) => second,
+        (Shape::Vast, 4) => second - 1,
+        (Shape::Vast, 5) => first + 1,
+        (Shape::Vast, _) => rng.between(first + 1, second),
+        (_, 0..=2) => first,
+        (_, 3) => first - 1,
+        (_, 4 | 5) => rng.between(127, 129),
+        _ => rng.between(100, first),
     }
 }
 
@@ -115,9 +134,8 @@ pub fn sheet(rng: &mut Rng, shape: Shape) -> Vec<Spec> {
             let levels = if rng.percent(60) { MAX_LEVEL as u64 } else { rng.between(20, 64) };
             tower(rng, levels as usize)
         }
-        Shape::Wide => {
-            let most = MAX_ITEMS as u64;
-            let count = if rng.percent(50) { most } else { rng.between(100, most) };
+        Shape::Wide | Shape::Vast => {
+            let count = many(rng, shape);
             let (entries, level) = (rng.between(5, 90), *rng.pick(&[1, 2, 5, 20, MAX_LEVEL]));
             random_specs(rng, count as usize, entries, level)
         }

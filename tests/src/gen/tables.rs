@@ -1,6 +1,6 @@
 //! Random numbers, tables and indexes.
 
-use crate::model::sheet::Item;
+use crate::model::sheet::{item_limit, Item};
 use crate::model::table::{encode, owed, Cell, Mark, OWED, RECORD};
 use crate::model::value::{Value, LIMIT, WHOLE};
 use crate::rng::Rng;
@@ -140,7 +140,9 @@ pub fn older_table(rng: &mut Rng, items: &[Item]) -> Vec<u8> {
 }
 
 fn table_with(rng: &mut Rng, items: &[Item], numbers: Numbers) -> Vec<u8> {
-    let (marked, stored) = (*rng.pick(&[0, 10, 50, 90]), *rng.pick(&[10, 50, 70, 100]));
+    // Few marks on a large sheet, for the time that catching up takes.
+    let often: &[u64] = if items.len() > item_limit(1) { &[0, 0, 1] } else { &[0, 10, 50, 90] };
+    let (marked, stored) = (*rng.pick(often), *rng.pick(&[10, 50, 70, 100]));
     let cells: Vec<Cell> = items
         .iter()
         .enumerate()

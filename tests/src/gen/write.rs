@@ -1,6 +1,7 @@
 //! Items and fields as bytes.
 
-use crate::model::sheet::EDITION;
+use crate::model::sheet::item_limit;
+use crate::rng::Rng;
 
 /// An item to be written.
 #[derive(Clone, Debug)]
@@ -25,8 +26,8 @@ pub fn raw(tag: u8, content: Vec<u8>) -> Raw {
     Raw { tag, content, length: None }
 }
 
-pub fn raw_sheet(specs: &[Spec]) -> Vec<Raw> {
-    let mut head = EDITION.to_le_bytes().to_vec();
+pub fn raw_sheet(edition: u16, specs: &[Spec]) -> Vec<Raw> {
+    let mut head = edition.to_le_bytes().to_vec();
     head.extend((specs.len() as u16).to_le_bytes());
     let mut fields = vec![raw(1, head)];
     for spec in specs {
@@ -54,8 +55,33 @@ pub fn write_raw(fields: &[Raw]) -> Vec<u8> {
     bytes
 }
 
+/// A sheet of edition 1.
 pub fn write_sheet(specs: &[Spec]) -> Vec<u8> {
-    write_raw(&raw_sheet(specs))
+    write_edition(1, specs)
+}
+
+pub fn write_edition(edition: u16, specs: &[Spec]) -> Vec<u8> {
+    write_raw(&raw_sheet(edition, specs))
+}
+
+/// An edition that takes so many items.
+pub fn any_edition(rng: &mut Rng, count: usize) -> u16 {
+    match count > item_limit(1) {
+        true => 2,
+        false => *rng.pick(&[1, 2]),
+    }
+}
+
+/// A sheet of either edition, if both take its items.
+pub fn write_any(rng: &mut Rng, specs: &[Spec]) -> Vec<u8> {
+    write_edition(any_edition(rng, specs.len()), specs)
+}
+
+/// The sheet with another edition in its head, whatever else is in it.
+pub fn in_edition(edition: u16, sheet: &[u8]) -> Vec<u8> {
+    let mut sheet = sheet.to_vec();
+    sheet[3..5].copy_from_slice(&edition.to_le_bytes());
+    sheet
 }
 
 /// Entry 0 and a chain of sums above it, each of the item before, keep and spread 0.

@@ -26,7 +26,8 @@ struct Sides<'i> {
 
 pub fn run_before(c: &mut Comparison) -> Result<(), String> {
     let (shape, numbers) = (gen::shape(&mut c.rng), gen::choose_numbers(&mut c.rng));
-    let sheet = gen::write_sheet(&gen::sheet(&mut c.rng, shape));
+    let specs = gen::sheet(&mut c.rng, shape);
+    let sheet = gen::write_any(&mut c.rng, &specs);
     let items = read_sheet(&sheet).unwrap();
     let (index, table) = (c.rng.bytes(4 * items.len()), c.rng.bytes(RECORD * items.len()));
     let (mut lent, full) = (Lent { sheet, index, table }, c.rng.percent(40));

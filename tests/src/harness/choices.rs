@@ -128,7 +128,8 @@ fn reads_stored(c: &mut Comparison, lent: &Lent) -> Result<(), String> {
 
 /// A random table from before version 4.0.0.
 pub fn run_choices(c: &mut Comparison) -> Result<(), String> {
-    let sheet = gen::write_sheet(&gen::guard_specs(&mut c.rng));
+    let specs = gen::guard_specs(&mut c.rng);
+    let sheet = gen::write_any(&mut c.rng, &specs);
     let items = read_sheet(&sheet).unwrap();
     let lent = strict_table(&mut c.rng, sheet, &items);
     c.tally.strict_tables += 1;

@@ -6,7 +6,7 @@ use super::compare::{Act, Comparison, Lent};
 use super::fixed::expect;
 use super::lists::{plain_call, Office};
 use super::tally::Tally;
-use crate::gen;
+use crate::gen::{self, Shape};
 use crate::model::calls::{Call, Reply};
 use crate::model::field::i64_at;
 use crate::model::fresh::FreshOffice;
@@ -62,7 +62,8 @@ pub fn plain_close(
     let often = match office.items.len() {
         0..=12 => 25,
         13..=100 => 5,
-        _ => 1,
+        101..=1_024 => 1,
+        _ => 0,
     };
     if c.rng.percent(often) {
         as_asks(c, &before, lent)?;
@@ -167,14 +168,15 @@ pub fn same_closes(
 /// A run on any accepted table of any sheet, and a list that goes on from what it leaves.
 pub fn run_closes(c: &mut Comparison) -> Result<(), String> {
     let (shape, numbers) = (gen::shape(&mut c.rng), gen::choose_numbers(&mut c.rng));
-    let sheet = gen::write_sheet(&gen::sheet(&mut c.rng, shape));
+    let specs = gen::sheet(&mut c.rng, shape);
+    let sheet = gen::write_any(&mut c.rng, &specs);
     let items = read_sheet(&sheet).unwrap();
     let table = gen::accepted_table(&mut c.rng, &items);
     let mut lent = Lent { sheet, index: index_of(&items), table };
     c.tally.closed_tables += 1;
     plain_close(c, &mut lent, &mut None)?;
     let mut office = Some(Office::of_table(&items, &lent.table));
-    for _ in 0..c.rng.below(8) {
+    for _ in 0..c.rng.below(if shape == Shape::Vast { 3 } else { 8 }) {
         let call = gen::any_call(&mut c.rng, &items, &lent.table, numbers);
         plain_call(c, call, &mut lent, &mut office)?;
     }

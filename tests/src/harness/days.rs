@@ -1,10 +1,11 @@
 //! Whole days, by their printed bytes.
 
 use super::compare::hex;
-use super::fixed::post;
+use super::fixed::{longest_sheet, post, EDITIONS};
+use super::fixed_editions::sheet_of_bytes;
 use super::tally::Tally;
 use crate::engine::DayProgram;
-use crate::gen::{self, Shape};
+use crate::gen::{self, in_edition, Shape};
 use crate::model::calls::Call;
 use crate::model::day::{run_day, MOST};
 use crate::model::sheet::{read_sheet, EXAMPLE, MAX_LEVEL};
@@ -74,7 +75,7 @@ pub fn compare_random_day(
 }
 
 /// The example day, each shorter one, each byte of its log changed, days at the limits and with
-/// figures that are owed or not, and faults far in a log.
+/// figures that are owed or not, faults far in a log, and sheets of both editions and of each length.
 pub fn compare_fixed_days(program: &mut dyn DayProgram, tally: &mut Tally) -> Result<(), String> {
     let (sheet, log) = (EXAMPLE.to_vec(), example_log());
     for (log, output) in
@@ -110,7 +111,95 @@ pub fn compare_fixed_days(program: &mut dyn DayProgram, tally: &mut Tally) -> Re
     for log in logs_at_the_limit(&log) {
         compare_day(program, Some(&sheet), Some(&log), tally)?;
     }
-    Ok(())
+    for (sheet, log, output) in editions_and_lengths() {
+        if run_day(&sheet, &log) != output.as_bytes() {
+            return Err(format!("the model does not print {output:?}"));
+        }
+        compare_day(program, Some(&sheet), Some(&log), tally)?;
+    }
+    // Whatever the day is.
+    let long = sheet_of_bytes(2, MOST + 1);
+    compare_day(program, Some(&long), None, tally)?;
+    logs_at_the_limit(&log)
+        .iter()
+        .try_for_each(|log| compare_day(program, Some(&long), Some(log), tally))
+}
+
+/// What a day program prints for a sheet that is too long.
+const TOO_LONG: &str = "SHEET 19 0\n";
+
+/// Days on sheets of both editions, at the limit of items and of bytes, and one beyond, with what they
+/// print.
+fn editions_and_lengths() -> Vec<(Vec<u8>, Vec<u8>, &'static str)> {
+    let (log, lines) = (log_of(&[post(0, 7), ask(0)]), "OK\nASK 0 7\n");
+    let mut days = vec![(in_edition(2, &EXAMPLE), example_log(), EXAMPLE_OUTPUT)];
+    for edition in [0, 3, 256, 257, 258] {
+        days.push((in_edition(edition, &EXAMPLE), example_log(), "SHEET 4 0\n"));
+    }
+    // Entries, and a sum of the first and of the last of them.
+    for (edition, most) in EDITIONS {
+        let mut specs = vec![gen::Spec::Entry(b"A".to_vec()); most - 1];
+        specs.push(gen::spec_figure(1, 1, 0, &[0, most as u16 - 2]));
+        let calls = |last: u64| {
+            let (ask, step) = (|item| Call::Ask { item }, |item| Call::Step { item });
+            let (first, second) = ([post(0, 5), post(last - 1, 7)], [step(0), ask(last)]);
+            log_of(
+                &[&first[..], &second, &[post(last, 1), ask(last + 1), post(0, 6), ask(last)]]
+                    .concat(),
+            )
+        };
+        let output = match edition {
+            1 => "OK\nOK\nOK\nASK 1023 12\nNO 12\nNO 11\nOK\nASK 1023 13\n",
+            _ => "OK\nOK\nOK\nASK 4095 12\nNO 12\nNO 11\nOK\nASK 4095 13\n",
+        };
+        let last = most as u64 - 1;
+        days.push((gen::write_edition(edition, &specs), calls(last), output));
+        specs.push(gen::Spec::Entry(b"A".to_vec()));
+        days.push((gen::write_edition(edition, &specs), calls(last), "SHEET 4 0\n"));
+        if edition == 1 {
+            days.push((gen::write_edition(2, &specs), calls(last), output_of_1025()));
+        }
+    }
+    for bytes in [MOST - 1, MOST] {
+        days.push((sheet_of_bytes(2, bytes), log.clone(), lines));
+    }
+    days.push((sheet_of_bytes(2, MOST + 1), log.clone(), TOO_LONG));
+    days.push((sheet_of_bytes(2, 70_000), log.clone(), TOO_LONG));
+    days.push((longest_sheet(2, 4_096), log.clone(), TOO_LONG));
+    days.push((longest_sheet(1, 1_024), log.clone(), lines));
+    // A whole sheet, and then a byte: within the bytes that are read, and beyond them.
+    let mut after = sheet_of_bytes(2, MOST - 1);
+    after.push(0);
+    days.push((after, log.clone(), "SHEET 2 65535\n"));
+    let mut after = sheet_of_bytes(2, MOST);
+    after.push(0);
+    days.push((after, log.clone(), TOO_LONG));
+    // Faults near the end, and without a last field.
+    let mut cut = sheet_of_bytes(2, MOST + 3);
+    cut.truncate(MOST);
+    days.push((cut, log.clone(), "SHEET 1 65536\n"));
+    // Each fault, in a file that is too long for any to be read.
+    for mut sheet in refused_sheets() {
+        sheet.resize(MOST + 1, 0);
+        days.push((sheet, log.clone(), TOO_LONG));
+    }
+    for bytes in [1, 2, 3, 4, 255] {
+        days.push((vec![bytes; MOST + 1], log.clone(), TOO_LONG));
+        days.push((vec![bytes; 2 * MOST], vec![], TOO_LONG));
+    }
+    let faulty = |length| {
+        let mut sheet = EXAMPLE.to_vec();
+        sheet.resize(length, 0);
+        sheet
+    };
+    days.push((faulty(MOST), log.clone(), "SHEET 2 46\n"));
+    days.push((faulty(MOST + 1), log, TOO_LONG));
+    days
+}
+
+/// The same calls on 1,025 items of edition 2, where item 1,024 is an entry.
+fn output_of_1025() -> &'static str {
+    "OK\nOK\nOK\nASK 1023 12\nNO 12\nASK 1024 -\nOK\nASK 1023 13\n"
 }
 
 /// Logs that end at the limit of a file, with a whole field or within one.
@@ -128,7 +217,7 @@ fn logs_at_the_limit(log: &[u8]) -> Vec<Vec<u8>> {
 /// A sheet for each refusal from 1 to 7.
 pub fn refused_sheets() -> Vec<Vec<u8>> {
     let mut sheets = vec![EXAMPLE[..45].to_vec()];
-    for (at, byte) in [(7, 9), (10, 32), (3, 2), (22, 9), (26, 3)] {
+    for (at, byte) in [(7, 9), (10, 32), (3, 3), (22, 9), (26, 3)] {
         let mut sheet = EXAMPLE.to_vec();
         sheet[at] = byte;
         sheets.push(sheet);
@@ -236,12 +325,12 @@ fn compare_day(
 
 /// Sheet and log, and whether one of them was changed.
 fn random_day(rng: &mut Rng) -> (Vec<u8>, Vec<u8>, bool) {
-    let shape = gen::shape(rng);
+    let shape = if rng.percent(1) { Shape::Vast } else { gen::shape(rng) };
     let specs = gen::sheet(rng, shape);
-    let mut sheet = gen::write_sheet(&specs);
+    let mut sheet = gen::write_any(rng, &specs);
     let items = read_sheet(&sheet).unwrap();
     let calls = match (shape, rng.below(100)) {
-        (Shape::Wide, _) => rng.below(12),
+        (Shape::Wide | Shape::Vast, _) => rng.below(12),
         (_, 0) => MOST as u64 / 6,
         (_, 1..=9) => rng.below(500),
         _ => rng.below(50),
@@ -252,7 +341,11 @@ fn random_day(rng: &mut Rng) -> (Vec<u8>, Vec<u8>, bool) {
         0..=24 => day = gen::damaged(rng, &day),
         25..=34 => sheet = gen::damaged_sheet(rng, &specs),
         35..=39 => sheet = gen::bad_sheet(rng),
-        40 => sheet.resize(MOST + rng.below(10) as usize - 5, 4),
+        40 | 50 => {
+            let edition = *rng.pick(&[0, 1, 1, 2, 2, 3]);
+            sheet = in_edition(edition, &sheet);
+            sheet.resize(MOST + rng.below(10) as usize - 4, 4);
+        }
         41 => day.resize(MOST + rng.below(10) as usize - 5, 0),
         42 => sheet.clear(),
         43..=44 => day.clear(),
@@ -262,14 +355,26 @@ fn random_day(rng: &mut Rng) -> (Vec<u8>, Vec<u8>, bool) {
             let fields = MOST / 5 + rng.below(4) as usize;
             day = [17, 2, 0, 4, 0].repeat(fields);
         }
+        // A whole sheet of about as many bytes as there may be, and one of which the end is cut.
+        46..=48 => {
+            sheet = sheet_of_bytes(2, MOST + rng.below(5) as usize - 1);
+            if rng.percent(20) {
+                day.clear();
+            }
+        }
+        49 => {
+            sheet = sheet_of_bytes(2, MOST + rng.below(40) as usize);
+            sheet.truncate(MOST + rng.below(5) as usize - 2);
+        }
         _ => {}
     }
-    (sheet, day, change <= 41)
+    (sheet, day, change <= 41 || change == 50)
 }
 
 #[cfg(test)]
 mod tests {
     use super::*;
+    use crate::mock::{MockDay, WrongDay};
 
     #[test]
     fn refused_sheets_have_each_number() {
@@ -283,6 +388,19 @@ mod tests {
         let printed: Vec<Vec<u8>> = faults_far_in().iter().map(|l| run_day(&EXAMPLE, l)).collect();
         for (lines, offset) in printed.iter().zip([10, 99, 100, 999, 1_000, 9_999, 10_000]) {
             assert!(lines.ends_with(format!("\nDAY 16 {offset}\n").as_bytes()), "{offset}");
+        }
+    }
+
+    /// Each program that is wrong about the length of its files is found.
+    #[test]
+    fn wrong_lengths_are_found() {
+        let try_program =
+            |wrong| compare_fixed_days(&mut MockDay(wrong), &mut Tally::default()).err();
+        assert_eq!(try_program(WrongDay::Nothing), None);
+        assert_eq!(WrongDay::ALL.len(), 17);
+        for &wrong in WrongDay::ALL {
+            let found = try_program(wrong).unwrap_or_default();
+            assert!(found.starts_with("day\n"), "{wrong:?}: {found}");
         }
     }
 

@@ -7,6 +7,7 @@ use super::compare::{Act, Comparison, Lent};
 use super::fixed_boards::run_fixed_boards;
 use super::fixed_choices::run_fixed_choices;
 use super::fixed_closes::{closes_to, run_fixed_closes};
+use super::fixed_editions::run_fixed_editions;
 use super::fixed_orders::run_fixed_orders;
 use super::fixed_owed::run_fixed_owed;
 use super::fixed_swaps::run_fixed_swaps;
@@ -14,13 +15,16 @@ use super::lists::{plain_call, Office};
 use super::older::older_example;
 use super::prints::run_prints;
 use super::shares::fixed_shares;
-use crate::gen::{self, plain_chain, spec_figure, write_sheet, Spec};
+use crate::gen::{self, plain_chain, spec_figure, write_edition, write_sheet, Spec};
 use crate::model::board::Board;
 use crate::model::calls::Call;
-use crate::model::sheet::{index_of, read_sheet, EXAMPLE, MAX_ITEMS, MAX_LEVEL};
+use crate::model::sheet::{index_of, read_sheet, EXAMPLE, MAX_LEVEL};
 use crate::model::swap::Swap;
 use crate::model::table::{OWED, RECORD};
 use crate::model::value::LIMIT;
+
+/// The editions, and the most items of each.
+pub const EDITIONS: [(u16, usize); 2] = [(1, 1_024), (2, 4_096)];
 
 pub fn run_fixed(c: &mut Comparison) -> Result<(), String> {
     run_prints(c)?;
@@ -41,7 +45,8 @@ pub fn run_fixed(c: &mut Comparison) -> Result<(), String> {
     run_fixed_swaps(c)?;
     run_fixed_owed(c)?;
     run_fixed_choices(c)?;
-    run_fixed_orders(c)
+    run_fixed_orders(c)?;
+    run_fixed_editions(c)
 }
 
 pub fn post(item: u64, number: i64) -> Call {
@@ -206,22 +211,23 @@ fn levels(c: &mut Comparison) -> Result<(), String> {
 }
 
 /// So many items, each as long as it can be: figures of all levels above one entry.
-pub fn longest_sheet(count: usize) -> Vec<u8> {
+pub fn longest_sheet(edition: u16, count: usize) -> Vec<u8> {
     let mut specs = vec![Spec::Entry(vec![b'~'; 16])];
     for i in 1..count {
         let parents = vec![(i.min(MAX_LEVEL) - 1) as u16; 16];
         let (keep, spread) = ((i % 2) as u8, (i % 3) as u8);
         specs.push(Spec::Figure { rule: 3, keep, spread, parents, name: vec![b'!'; 16] });
     }
-    write_sheet(&specs)
+    write_edition(edition, &specs)
 }
 
-/// The most items, as long as they can be, and one more.
+/// The most items of edition 1, as long as they can be, and one more.
 fn item_counts(c: &mut Comparison) -> Result<(), String> {
-    for count in [MAX_ITEMS, MAX_ITEMS + 1] {
-        let (mut lent, number) = opened(c, longest_sheet(count), count, true)?;
-        expect("item count", number, if count > MAX_ITEMS { 4 } else { 0 })?;
-        let last = MAX_ITEMS as u64 - 1;
+    let (edition, most) = EDITIONS[0];
+    for count in [most, most + 1] {
+        let (mut lent, number) = opened(c, longest_sheet(edition, count), count, true)?;
+        expect("item count", number, if count > most { 4 } else { 0 })?;
+        let last = most as u64 - 1;
         for call in [post(0, 5), Call::Ask { item: last }, Call::Ask { item: last + 1 }] {
             c.act(&Act::Give(call), &mut lent)?;
         }

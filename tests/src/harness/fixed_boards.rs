@@ -3,11 +3,11 @@
 
 use super::boards::as_asks;
 use super::compare::{Act, Comparison, Lent};
-use super::fixed::{busy_example, expect, opened, post};
-use crate::gen::{plain_chain, spec_figure, write_sheet, Spec};
+use super::fixed::{busy_example, expect, opened, post, EDITIONS};
+use crate::gen::{plain_chain, spec_figure, write_edition, write_sheet, Spec};
 use crate::model::board::{Board, ITEM, MOST_ITEMS, RESULT};
 use crate::model::calls::Call;
-use crate::model::sheet::{MAX_ITEMS, MAX_LEVEL};
+use crate::model::sheet::MAX_LEVEL;
 use crate::model::value::LIMIT;
 
 pub fn run_fixed_boards(c: &mut Comparison) -> Result<(), String> {
@@ -16,7 +16,7 @@ pub fn run_fixed_boards(c: &mut Comparison) -> Result<(), String> {
     order_of_tests(c)?;
     repeated_items(c)?;
     tower(c)?;
-    most_items(c)
+    EDITIONS.iter().try_for_each(|&(edition, most)| most_items(c, edition, most))
 }
 
 fn board(listed: &[u16], results: usize) -> Board {
@@ -101,7 +101,7 @@ fn order_of_tests(c: &mut Comparison) -> Result<(), String> {
         lent.table.push(0);
         given(c, lists.clone(), &lent, 8)?;
         for (at, byte, right) in
-            [(8, 200, 1), (11, 5, 2), (18, 32, 3), (3, 2, 4), (22, 9, 5), (26, 3, 6)]
+            [(8, 200, 1), (11, 5, 2), (18, 32, 3), (3, 3, 4), (22, 9, 5), (26, 3, 6)]
         {
             let mut lent = lent.clone();
             lent.sheet[at] = byte;
@@ -141,14 +141,14 @@ fn tower(c: &mut Comparison) -> Result<(), String> {
     Ok(())
 }
 
-/// The most items: the highest ones are figures of the first, and the next is none.
-fn most_items(c: &mut Comparison) -> Result<(), String> {
-    let (first, last) = ((MAX_ITEMS - MOST_ITEMS) as u16, MAX_ITEMS as u16 - 1);
+/// The most items of an edition: the highest ones are figures of the first, and the next is none.
+fn most_items(c: &mut Comparison, edition: u16, most: usize) -> Result<(), String> {
+    let (first, last) = ((most - MOST_ITEMS) as u16, most as u16 - 1);
     let mut specs = vec![Spec::Entry(b"A".to_vec()); first as usize];
     specs.extend(
         (first..=last).map(|i| spec_figure(1, (i % 2) as u8, (i % 3) as u8, &[0, i - first])),
     );
-    let (mut lent, _) = opened(c, write_sheet(&specs), MAX_ITEMS, true)?;
+    let (mut lent, _) = opened(c, write_edition(edition, &specs), most, true)?;
     c.act(&Act::Give(post(0, 3)), &mut lent)?;
     given(c, board(&[last, 0, last - 1, 255, 256], 5 * RESULT), &lent, 0)?;
     let beyond: Vec<u16> = (first + 1..=last + 1).collect();

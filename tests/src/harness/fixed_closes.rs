@@ -4,11 +4,13 @@
 use super::closes::{as_asks, as_keeps, once_more};
 use super::compare::{Act, Comparison, Lent};
 use super::days::refused_sheets;
-use super::fixed::{busy_example, expect, longest_sheet, opened, pair_of, post, Given, OUT};
+use super::fixed::{
+    busy_example, expect, longest_sheet, opened, pair_of, post, Given, EDITIONS, OUT,
+};
 use crate::gen::{make_owed_true, spec_figure, write_sheet, Spec};
 use crate::model::calls::Call;
 use crate::model::field::i64_at;
-use crate::model::sheet::{read_sheet, EXAMPLE, MAX_ITEMS, MAX_LEVEL};
+use crate::model::sheet::{read_sheet, EXAMPLE, MAX_LEVEL};
 use crate::model::table::{OWED, RECORD};
 use crate::model::value::LIMIT;
 
@@ -163,16 +165,18 @@ fn towers(c: &mut Comparison) -> Result<(), String> {
     Ok(())
 }
 
-/// One item; then the most, each as long as it can be, and one more.
+/// One item; then the most of each edition, each as long as it can be, and one more.
 fn item_counts(c: &mut Comparison) -> Result<(), String> {
     let (mut lent, _) = opened(c, write_sheet(&[Spec::Entry(b"A".to_vec())]), 1, false)?;
     closed(c, &mut lent)?;
     c.act(&Act::Give(post(0, -LIMIT)), &mut lent)?;
     closes_to(c, &lent, 0, Some(-LIMIT))?;
     closed(c, &mut lent)?;
-    for (count, right) in [(MAX_ITEMS, 0), (MAX_ITEMS + 1, 4)] {
-        for full in [false, true] {
-            let (mut lent, number) = opened(c, longest_sheet(count), count, full)?;
+    let counts = EDITIONS.iter().flat_map(|&(e, most)| [(e, most, 0), (e, most + 1, 4)]);
+    for (edition, count, right) in counts {
+        let openings: &[bool] = if edition == 1 { &[false, true] } else { &[true] };
+        for &full in openings {
+            let (mut lent, number) = opened(c, longest_sheet(edition, count), count, full)?;
             given(c, &lent, right)?;
             if number == 0 {
                 c.act(&Act::Give(post(0, 5)), &mut lent)?;

@@ -2,11 +2,11 @@
 //! bytes of each item, and lists of which the owed bytes and marks are spelled out after each call.
 
 use super::compare::{Act, Comparison, Lent};
-use super::fixed::{acts, busy_example, expect, opened, post, reads};
-use crate::gen::{make_owed_true, plain_chain, spec_figure, write_sheet, Spec};
+use super::fixed::{acts, busy_example, expect, opened, post, reads, EDITIONS};
+use crate::gen::{make_owed_true, plain_chain, spec_figure, write_edition, write_sheet, Spec};
 use crate::model::board::Board;
 use crate::model::calls::Call;
-use crate::model::sheet::{read_sheet, EXAMPLE, MAX_ITEMS, MAX_LEVEL};
+use crate::model::sheet::{read_sheet, EXAMPLE, MAX_LEVEL};
 use crate::model::table::{OWED, RECORD};
 
 pub fn run_fixed_owed(c: &mut Comparison) -> Result<(), String> {
@@ -26,10 +26,11 @@ pub fn entry() -> Spec {
     Spec::Entry(b"A".to_vec())
 }
 
-/// Tables of 10n, 11n - 1, 11n, 11n + 1 and 12n bytes, for one item, five and the most.
+/// Tables of 10n, 11n - 1, 11n, 11n + 1 and 12n bytes, for one item, five and the most of each edition.
 fn lengths(c: &mut Comparison) -> Result<(), String> {
-    let most = write_sheet(&vec![entry(); MAX_ITEMS]);
-    for (sheet, n) in [(write_sheet(&[entry()]), 1), (EXAMPLE.to_vec(), 5), (most, MAX_ITEMS)] {
+    let most = EDITIONS.map(|(edition, n)| (write_edition(edition, &vec![entry(); n]), n));
+    for (sheet, n) in [(write_sheet(&[entry()]), 1), (EXAMPLE.to_vec(), 5)].into_iter().chain(most)
+    {
         let (lent, number) = opened(c, sheet, n, true)?;
         expect("an opening", number, 0)?;
         let calls = [posted(0, 5), ask(0), board(0), Act::Close];

@@ -5,14 +5,14 @@ use super::boards::same_boards;
 use super::closes::{plain_close, same_closes};
 use super::compare::{Act, Comparison, Lent};
 use super::days::refused_sheets;
-use super::fixed::{busy_example, expect, opened, post, post_given, Given};
+use super::fixed::{busy_example, expect, opened, post, post_given, Given, EDITIONS};
 use super::fixed_owed::{entry, sum};
 use super::lists::{plain_call, Office};
 use super::swaps::{and_back, as_posts, plain_swap, BESIDE};
-use crate::gen::{make_owed_true, write_sheet};
+use crate::gen::{make_owed_true, write_edition, write_sheet};
 use crate::model::calls::Call;
 use crate::model::field::i64_at;
-use crate::model::sheet::{read_sheet, Item, EXAMPLE, MAX_ITEMS};
+use crate::model::sheet::{read_sheet, Item, EXAMPLE};
 use crate::model::swap::Swap;
 use crate::model::table::{no_mark, RECORD};
 use crate::model::value::LIMIT;
@@ -229,24 +229,28 @@ fn order_of_tests(c: &mut Comparison) -> Result<(), String> {
     Ok(())
 }
 
-/// One entry alone, and the most: the last of them gives, takes, and the next is none.
+/// One entry alone, and the most of each edition: the last of them gives, takes, and the next is none.
 fn item_counts(c: &mut Comparison) -> Result<(), String> {
     let (one, _) = opened(c, write_sheet(&[entry()]), 1, false)?;
     for (giver, taker, right) in [(0, 0, 18), (0, 1, 11), (1, 0, 11)] {
         given(c, swap(giver, taker, 1), &one, right)?;
     }
-    let (most, _) = opened(c, write_sheet(&vec![entry(); MAX_ITEMS]), MAX_ITEMS, true)?;
-    let last = MAX_ITEMS as u64 - 1;
-    for other in [0, 255, 256, 511, last - 1] {
-        for (giver, taker) in [(other, last), (last, other)] {
-            let after = given(c, swap(giver, taker, LIMIT), &most, 0)?;
-            holds(&after, giver, -LIMIT)?;
-            holds(&after, taker, LIMIT)?;
+    let others: [&[u64]; 2] = [&[0, 255, 256, 511, 1_022], &[0, 4_094]];
+    for ((edition, count), others) in EDITIONS.into_iter().zip(others) {
+        let (most, _) = opened(c, write_edition(edition, &vec![entry(); count]), count, true)?;
+        let last = count as u64 - 1;
+        for &other in others {
+            for (giver, taker) in [(other, last), (last, other)] {
+                let after = given(c, swap(giver, taker, LIMIT), &most, 0)?;
+                holds(&after, giver, -LIMIT)?;
+                holds(&after, taker, LIMIT)?;
+            }
+            given(c, swap(last + 1, other, 1), &most, 11)?;
+            given(c, swap(other, last + 1, 1), &most, 11)?;
         }
-        given(c, swap(last + 1, other, 1), &most, 11)?;
-        given(c, swap(other, last + 1, 1), &most, 11)?;
+        given(c, swap(last, last, 1), &most, 18)?;
     }
-    given(c, swap(last, last, 1), &most, 18).map(|_| ())
+    Ok(())
 }
 
 /// Entries 0, 1 and 2, a sum of each, and one of the first two; all are stored and nothing is marked.

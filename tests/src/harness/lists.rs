@@ -19,7 +19,7 @@ use std::fmt::Debug;
 pub fn run_list(c: &mut Comparison, from_table: bool) -> Result<(), String> {
     let (shape, numbers) = (gen::shape(&mut c.rng), gen::choose_numbers(&mut c.rng));
     let specs = gen::sheet(&mut c.rng, shape);
-    let sheet = gen::write_sheet(&specs);
+    let sheet = gen::write_any(&mut c.rng, &specs);
     let items = read_sheet(&sheet).unwrap();
     let (mut lent, mut office) = begin(c, sheet, &items, from_table)?;
     for _ in 0..list_length(&mut c.rng, shape) {
@@ -79,6 +79,7 @@ pub fn list_length(rng: &mut Rng, shape: Shape) -> u64 {
         Shape::Small | Shape::Medium => rng.between(5, 60),
         Shape::Deep => rng.between(5, 25),
         Shape::Wide => rng.between(2, 8),
+        Shape::Vast => rng.between(1, 4),
     }
 }
 
@@ -112,7 +113,7 @@ pub fn plain_call(
 }
 
 /// The bytes with table (1), index (2) and sheet (4) changed, as the bits of `what` say.
-fn changed_bytes(
+pub fn changed_bytes(
     c: &mut Comparison,
     specs: &[gen::Spec],
     items: &[Item],
@@ -142,6 +143,20 @@ fn changed_bytes(
     changed
 }
 
+/// An opening, a board, a close, a swap or one of 01's five calls.
+pub fn any_act(c: &mut Comparison, items: &[Item], table: &[u8]) -> Act {
+    match c.rng.below(100) {
+        0..=19 => Act::Open { full: c.rng.percent(50) },
+        20..=34 => Act::Board(gen::any_board(&mut c.rng, items)),
+        35..=49 => Act::Close,
+        50..=64 => {
+            let held = gen::numbers_of(items, table);
+            Act::Swap(gen::any_swap(&mut c.rng, items, &held))
+        }
+        _ => Act::Give(gen::any_call(&mut c.rng, items, table, Numbers::Any)),
+    }
+}
+
 /// A call or opening on changed bytes. Afterwards the list goes on with the bytes before it,
 /// unless only the table was changed and the call was accepted.
 fn changed_call(
@@ -153,16 +168,7 @@ fn changed_call(
 ) -> Result<(), String> {
     let what = c.rng.between(1, 7);
     let mut changed = changed_bytes(c, specs, items, lent, what);
-    let act = match c.rng.below(100) {
-        0..=19 => Act::Open { full: c.rng.percent(50) },
-        20..=34 => Act::Board(gen::any_board(&mut c.rng, items)),
-        35..=49 => Act::Close,
-        50..=64 => {
-            let held = gen::numbers_of(items, &lent.table);
-            Act::Swap(gen::any_swap(&mut c.rng, items, &held))
-        }
-        _ => Act::Give(gen::any_call(&mut c.rng, items, &lent.table, Numbers::Any)),
-    };
+    let act = any_act(c, items, &lent.table);
     let reply = c.act(&act, &mut changed)?;
     let only_table = what == 1 && !matches!(act, Act::Open { .. });
     if only_table && reply.number == 0 && changed.table != lent.table {

@@ -15,10 +15,12 @@ use crate::model::table::{to_pair, RECORD};
 
 pub fn run_offices(c: &mut Comparison) -> Result<(), String> {
     let (shape, numbers) = (gen::shape(&mut c.rng), gen::choose_numbers(&mut c.rng));
-    let sheet = gen::write_sheet(&gen::sheet(&mut c.rng, shape));
+    let specs = gen::sheet(&mut c.rng, shape);
+    let sheet = gen::write_any(&mut c.rng, &specs);
     let items = read_sheet(&sheet).unwrap();
     c.tally.offices += 1;
     let most = match shape {
+        Shape::Vast => 2,
         Shape::Wide => 4,
         Shape::Small if c.rng.percent(5) => 150,
         _ => 15,
@@ -33,6 +35,7 @@ pub fn run_offices(c: &mut Comparison) -> Result<(), String> {
     let ((mut one, first), (mut two, second)) = (one, two);
     let n = items.len() as u64;
     let mut asked: Vec<u64> = match shape {
+        Shape::Vast => vec![c.rng.below(n), n - 1],
         Shape::Wide => (0..10).map(|_| c.rng.below(n)).collect(),
         _ => (0..n).collect(),
     };

@@ -86,7 +86,8 @@ pub fn opened_anew(c: &mut Comparison, items: &[Item], older: &Lent) -> Result<L
 /// Any call, any swap, any board and a close on a random older table of a small sheet: without its owed bytes,
 /// and with them, when it is never refused for the table.
 pub fn run_older(c: &mut Comparison) -> Result<(), String> {
-    let sheet = gen::write_sheet(&gen::small_specs(&mut c.rng));
+    let specs = gen::small_specs(&mut c.rng);
+    let sheet = gen::write_any(&mut c.rng, &specs);
     let items = read_sheet(&sheet).unwrap();
     let table = gen::older_table(&mut c.rng, &items);
     let lent = Lent { sheet, index: index_of(&items), table };

@@ -86,9 +86,11 @@ pub fn run_sequences(c: &mut Comparison) -> Result<(), String> {
         0..=39 => Shape::Small,
         40..=74 => Shape::Medium,
         75..=89 => Shape::Deep,
+        _ if c.rng.percent(10) => Shape::Vast,
         _ => Shape::Wide,
     };
-    let sheet = write_sheet(&gen::sheet(&mut c.rng, shape));
+    let specs = gen::sheet(&mut c.rng, shape);
+    let sheet = gen::write_any(&mut c.rng, &specs);
     let items = read_sheet(&sheet).unwrap();
     let (start, office) = match c.rng.percent(25) {
         true => {
@@ -101,7 +103,8 @@ pub fn run_sequences(c: &mut Comparison) -> Result<(), String> {
         arrived(c, &items, &start, &office.fresh)?;
     }
     let one = c.rng.below(ORDERS.len() as u64) as usize;
-    for which in (0..ORDERS.len()).filter(|&which| shape != Shape::Wide || which == one) {
+    let many = [Shape::Wide, Shape::Vast].contains(&shape);
+    for which in (0..ORDERS.len()).filter(|&which| !many || which == one) {
         let mut order = Order::new(&mut c.rng, which, items.len());
         let limit = most_steps(&mut c.rng, items.len());
         let (end, _) = take(c, &items, &start, &mut order, limit)?;
@@ -131,6 +134,10 @@ fn busy_office<'i>(
         Shape::Wide => {
             expect("a close", c.act(&Act::Close, &mut lent)?.number, 0)?;
             items.len() as u64 / 8
+        }
+        Shape::Vast => {
+            expect("a close", c.act(&Act::Close, &mut lent)?.number, 0)?;
+            4
         }
         _ => c.rng.between(1, 5),
     };
@@ -208,6 +215,7 @@ fn most_steps(rng: &mut Rng, items: usize) -> usize {
         _ if rng.percent(20) => rng.below(items as u64 + 1).min(100) as usize,
         0..=12 => 400,
         13..=LARGE => 40 + 3 * items,
+        1_025.. => 100,
         _ => 20 * items,
     }
 }

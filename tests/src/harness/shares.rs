@@ -3,7 +3,7 @@
 
 use super::compare::{Act, Comparison};
 use super::fixed::{figure, opened, post, OUT};
-use crate::gen::{self, spec_figure, write_sheet, Spec};
+use crate::gen::{self, spec_figure, write_any, Spec};
 use crate::model::calls::{Call, Reply};
 
 /// The pairs of one part of a run.
@@ -45,7 +45,8 @@ pub fn fixed_shares(c: &mut Comparison) -> Result<(), String> {
 pub fn run_pairs(c: &mut Comparison) -> Result<(), String> {
     let entry = || Spec::Entry(b"A".to_vec());
     let (keep, spread) = (c.rng.below(2) as u8, c.rng.below(3) as u8);
-    let sheet = write_sheet(&[entry(), entry(), spec_figure(5, keep, spread, &[0, 1])]);
+    let specs = [entry(), entry(), spec_figure(5, keep, spread, &[0, 1])];
+    let sheet = write_any(&mut c.rng, &specs);
     let full = c.rng.percent(50);
     let (mut lent, _) = opened(c, sheet, 3, full)?;
     for _ in 0..BATCH {

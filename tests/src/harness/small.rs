@@ -1,6 +1,6 @@
 //! Small sheets with every keep and spread, and all their tables with a few values.
 
-use crate::gen::{make_owed_true, spec_figure, write_sheet, Spec};
+use crate::gen::{make_owed_true, spec_figure, write_edition, Spec};
 use crate::model::sheet::read_sheet;
 use crate::model::table::RECORD;
 
@@ -77,8 +77,9 @@ impl Small {
         6u64.pow(self.0.iter().filter(|item| item.0 != 0).count() as u32)
     }
 
-    /// The sheet with one of them.
+    /// The sheet with one of them, of either edition.
     pub fn sheet(&self, mut way: u64) -> Vec<u8> {
+        let edition = 1 + (way / 3 % 2) as u16;
         let mut specs = vec![Spec::Entry(b"A".to_vec())];
         for &(rule, parents) in self.0 {
             if rule == 0 {
@@ -88,7 +89,7 @@ impl Small {
             specs.push(spec_figure(rule, (way % 2) as u8, (way / 2 % 3) as u8, parents));
             way /= 6;
         }
-        write_sheet(&specs)
+        write_edition(edition, &specs)
     }
 }
 

@@ -9,7 +9,7 @@ use crate::gen::{self, Shape};
 use crate::model::calls::Reply;
 use crate::model::field::i64_at;
 use crate::model::fresh::FreshOffice;
-use crate::model::sheet::{index_of, read_sheet, Item};
+use crate::model::sheet::{index_of, item_limit, read_sheet, Item};
 use crate::model::swap::Swap;
 use crate::model::table::{OWED, RECORD};
 use crate::model::value::{Value, LIMIT};
@@ -262,7 +262,8 @@ pub fn and_back(
 /// A sheet, mostly with two entries or more.
 fn sheet_of_entries(c: &mut Comparison, shape: Shape) -> (Vec<u8>, Vec<Item>) {
     loop {
-        let sheet = gen::write_sheet(&gen::sheet(&mut c.rng, shape));
+        let specs = gen::sheet(&mut c.rng, shape);
+        let sheet = gen::write_any(&mut c.rng, &specs);
         let items = read_sheet(&sheet).unwrap();
         let entries = items.iter().filter(|item| item.figure.is_none()).count();
         if entries > 1 || c.rng.percent(10) {
@@ -285,7 +286,7 @@ fn begin<'i>(
     let mut lent = Lent { sheet, index, table: vec![0; RECORD * items.len()] };
     let mut office = Some(open(c, items, &mut lent)?);
     let numbers = gen::choose_numbers(&mut c.rng);
-    for _ in 0..c.rng.below(10) {
+    for _ in 0..c.rng.below(if items.len() > item_limit(1) { 3 } else { 10 }) {
         let call = gen::any_call(&mut c.rng, items, &lent.table, numbers);
         plain_call(c, call, &mut lent, &mut office)?;
     }
@@ -300,7 +301,12 @@ pub fn run_swaps(c: &mut Comparison) -> Result<(), String> {
     let (mut lent, mut office) = begin(c, sheet, &items)?;
     let (start, sum) = (lent.clone(), sum_of(&items, &lent.table));
     c.tally.swap_runs += 1;
-    for _ in 0..c.rng.between(1, if shape == Shape::Wide { 8 } else { 30 }) {
+    let most = match shape {
+        Shape::Vast => 3,
+        Shape::Wide => 8,
+        _ => 30,
+    };
+    for _ in 0..c.rng.between(1, most) {
         let numbers = gen::numbers_of(&items, &lent.table);
         let (swap, before) = (gen::any_swap(&mut c.rng, &items, &numbers), lent.table.clone());
         let number = plain_swap(c, swap, &mut lent, &mut office)?.number;

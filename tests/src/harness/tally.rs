@@ -2,13 +2,14 @@
 
 use super::choices;
 use super::compare::Act;
+use super::editions;
 use super::orders::{self, power, DONE, LARGE, ORDERS};
 use super::owed;
 use super::prints::MOST_DIGITS;
 use super::swaps;
 use crate::model::board::{Board, ITEM, MOST_ITEMS, RESULT};
 use crate::model::calls::Call;
-use crate::model::sheet::{Item, MAX_ITEMS, MAX_LEVEL};
+use crate::model::sheet::{Item, MAX_LEVEL};
 use crate::model::table::{decode, Cell, Mark};
 use crate::model::value::Value;
 use std::fmt;
@@ -47,7 +48,7 @@ pub const BOARDS: [&str; 8] = [
 ];
 
 /// What accepted closes must find or do: in their tables, then in their sheets.
-pub const CLOSES: [&str; 11] = [
+pub const CLOSES: [&str; 12] = [
     "an entry marked",
     "a figure marked refresh",
     "a figure marked notice",
@@ -58,6 +59,7 @@ pub const CLOSES: [&str; 11] = [
     "another value becomes OUT",
     "nothing changes",
     "1,024 items",
+    "4,096 items",
     "64 levels",
 ];
 
@@ -72,12 +74,20 @@ const WIDE: &str = "a product beyond a signed 64-bit number";
 
 /// The refusals in the lines of a day, by the line's first word.
 pub const LINES: [(&str, &[usize]); 3] =
-    [("NO", &[11, 12, 13, 14]), ("SHEET", &[1, 2, 3, 4, 5, 6, 7]), ("DAY", &[16])];
+    [("NO", &[11, 12, 13, 14]), ("SHEET", &[1, 2, 3, 4, 5, 6, 7, 19]), ("DAY", &[16])];
 
 #[derive(Default, Clone, Debug)]
 pub struct Tally {
     /// How often each function gave each number; 0 is accepted.
     pub given: [[u64; 19]; FUNCTIONS.len()],
+    /// How often each function but the printer met each of `editions::MET`.
+    pub editions: [editions::Times; PRINT],
+    /// Calls that were made in both editions, and those of random lists.
+    pub edition_pairs: u64,
+    pub random_pairs: u64,
+    /// Runs on large sheets, and those of more than 1,024 items.
+    pub large_sheets: u64,
+    pub vast_sheets: u64,
     /// Printed numbers of each of `DIGITS` by how many digits they have.
     pub digits: [[u64; MOST_DIGITS + 1]; 2],
     /// How often each of `BOARDS` was met.
@@ -134,11 +144,11 @@ pub struct Tally {
     pub damaged_days: u64,
     pub day_lines: u64,
     /// How often each of `LINES` had each number.
-    pub printed: [[u64; 17]; LINES.len()],
+    pub printed: [[u64; 20]; LINES.len()],
 }
 
 impl Tally {
-    pub fn count_act(&mut self, act: &Act, number: u64) {
+    pub fn count_act(&mut self, act: &Act, number: u64, sheet: &[u8]) {
         let function = match act {
             Act::Open { full: false } => 0,
             Act::Open { full: true } => 1,
@@ -151,12 +161,17 @@ impl Tally {
             Act::Board(_) => BOARD,
             Act::Close => CLOSE,
         };
+        self.count(function, number, sheet);
+    }
+
+    fn count(&mut self, function: usize, number: u64, sheet: &[u8]) {
         self.given[function][number as usize] += 1;
+        editions::count(&mut self.editions[function], number, sheet);
     }
 
     /// Counts a board by its lists as lent.
-    pub fn count_board(&mut self, lists: &Board, number: u64) {
-        self.given[BOARD][number as usize] += 1;
+    pub fn count_board(&mut self, lists: &Board, number: u64, sheet: &[u8]) {
+        self.count(BOARD, number, sheet);
         let (items, results) = (&lists.items, lists.results.len());
         let (count, even) = (items.len() / ITEM, items.len() % ITEM == 0);
         let within = even && count <= MOST_ITEMS;
@@ -192,7 +207,8 @@ impl Tally {
             any(|_, old, new| changes(old, new) && old.stored == Some(Value::Out)),
             any(|_, old, new| changes(old, new) && new.stored == Some(Value::Out)),
             before == after,
-            items.len() == MAX_ITEMS,
+            items.len() == 1_024,
+            items.len() == 4_096,
             items.iter().any(|item| item.level == MAX_LEVEL),
         ];
         self.closes.iter_mut().zip(met).for_each(|(times, met)| *times += met as u64);
@@ -233,16 +249,22 @@ impl Tally {
         self.given[..PRINT].iter().flatten().sum()
     }
 
-    /// The refusals that some function can give, or a day print, the lists of boards, the tables and
-    /// sheets of closes, what is done to owed bytes and false ones, the entries and causes of swaps,
-    /// the parents of choices, what steps do and their orders, and numbers of each length in print, that were never met; also products of
-    /// shares beyond a signed 64-bit number, and values of the choice of before, if they were fewer than
-    /// one in twenty.
+    /// The refusals that some function can give, or a day print, the editions and item counts that each
+    /// function but the printer is lent, the lists of boards, the tables and sheets of closes, what is
+    /// done to owed bytes and false ones, the entries and causes of swaps, the parents of choices, what
+    /// steps do and their orders, and numbers of each length in print, that were never met; also products
+    /// of shares beyond a signed 64-bit number, and values of the choice of before, if they were fewer
+    /// than one in twenty.
     pub fn never_met(&self) -> Vec<String> {
         let mut missing = Vec::new();
         for ((name, numbers), given) in FUNCTIONS.iter().zip(&self.given) {
             for &number in numbers.iter().chain(&[0]).filter(|&&n| given[n] == 0) {
                 missing.push(format!("{name} {number}"));
+            }
+        }
+        for ((function, _), met) in FUNCTIONS.iter().zip(&self.editions) {
+            for (name, _) in editions::MET.iter().zip(met).filter(|(_, &times)| times == 0) {
+                missing.push(format!("{function}, {name}"));
             }
         }
         for (what, names, met) in [
@@ -313,6 +335,26 @@ impl Tally {
             f,
             "tables from before 4.0.0: {} ({} without a mark and with {STRICT})",
             self.strict_tables, self.strict_values
+        )
+    }
+
+    fn write_editions(&self, f: &mut fmt::Formatter) -> fmt::Result {
+        let (taken, refused) = (0..editions::REFUSED, editions::REFUSED..editions::MET.len());
+        let least = |at: usize| self.editions.iter().map(|met| met[at]).min().unwrap();
+        let met = |part: Range<usize>| {
+            named(&editions::MET[part.clone()], &part.map(least).collect::<Vec<u64>>())
+        };
+        writeln!(f, "sheets accepted, the fewest by a function: {}", met(taken))?;
+        writeln!(f, "sheets refused, the fewest by a function: {}", met(refused))?;
+        writeln!(
+            f,
+            "calls made in both editions: {} ({} in random lists)",
+            self.edition_pairs, self.random_pairs
+        )?;
+        writeln!(
+            f,
+            "runs on large sheets: {} ({} of more than 1,024 items)",
+            self.large_sheets, self.vast_sheets
         )
     }
 
@@ -391,6 +433,7 @@ impl fmt::Display for Tally {
         for ((name, _), given) in FUNCTIONS.iter().zip(&self.given) {
             writeln!(f, "  {name:9}{}", times(given))?;
         }
+        self.write_editions(f)?;
         self.write_boards_and_closes(f)?;
         self.write_owed(f)?;
         self.write_choices(f)?;
@@ -431,6 +474,7 @@ mod tests {
         let mut tally = Tally { days: 1, ..Tally::default() };
         (tally.boards, tally.closes) = ([1; BOARDS.len()], [1; CLOSES.len()]);
         (tally.owed, tally.swaps) = ([1; owed::MET.len()], [1; swaps::MET.len()]);
+        tally.editions.iter_mut().for_each(|met| met.fill(1));
         tally.choices.iter_mut().for_each(|met| met.fill(1));
         let orders = &mut tally.orders;
         (orders.done, orders.ended) = ([1; DONE.len()], [1; ORDERS.len()]);
@@ -465,7 +509,7 @@ mod tests {
         }
     }
 
-    /// The same of each sort of board, close, owed byte, swap and choice.
+    /// The same of each sort of board, close, owed byte, swap, sheet and choice.
     #[test]
     fn each_sort_is_missed() {
         for (at, name) in BOARDS.iter().enumerate() {
@@ -487,6 +531,13 @@ mod tests {
             let mut tally = full();
             tally.swaps[at] = 0;
             assert_eq!(tally.never_met(), [format!("swap, {name}")]);
+        }
+        for (function, (does, _)) in FUNCTIONS[..PRINT].iter().enumerate() {
+            for (at, name) in editions::MET.iter().enumerate() {
+                let mut tally = full();
+                tally.editions[function][at] = 0;
+                assert_eq!(tally.never_met(), [format!("{does}, {name}")]);
+            }
         }
         for (way, does) in choices::WAYS.iter().enumerate() {
             for (at, name) in choices::PARENTS.iter().enumerate() {
@@ -569,7 +620,7 @@ mod tests {
         let mut numbers: Vec<usize> = tables.flat_map(|t| t.1).copied().collect();
         numbers.sort();
         numbers.dedup();
-        assert_eq!(numbers, (1..=18).collect::<Vec<usize>>());
+        assert_eq!(numbers, (1..=19).collect::<Vec<usize>>());
     }
 
     /// Each of the lists counts as what it is, and as nothing else.
@@ -590,7 +641,7 @@ mod tests {
         for (items, results, number, at) in cases {
             let mut tally = Tally::default();
             let list = (0..items).map(|i| if items == 4 { 0 } else { i as u8 }).collect();
-            tally.count_board(&Board { items: list, results: vec![0; results] }, number);
+            tally.count_board(&Board { items: list, results: vec![0; results] }, number, &EXAMPLE);
             let mut right = [0; BOARDS.len()];
             right[at] = 1;
             assert_eq!((tally.boards, tally.given[BOARD][number as usize]), (right, 1));
@@ -631,11 +682,12 @@ mod tests {
     #[test]
     fn lines_are_counted() {
         let mut tally = Tally::default();
-        for line in ["OK", "ASK 4 700", "NO 12", "SHEET 2 46", "DAY 16 0"] {
+        for line in ["OK", "ASK 4 700", "NO 12", "SHEET 2 46", "SHEET 19 0", "DAY 16 0"] {
             tally.count_line(line);
         }
-        assert_eq!(tally.day_lines, 5);
-        assert_eq!((tally.printed[0][12], tally.printed[1][2], tally.printed[2][16]), (1, 1, 1));
-        assert_eq!(tally.printed.iter().flatten().sum::<u64>(), 3);
+        assert_eq!(tally.day_lines, 6);
+        assert_eq!((tally.printed[0][12], tally.printed[2][16]), (1, 1));
+        assert_eq!((tally.printed[1][2], tally.printed[1][19]), (1, 1));
+        assert_eq!(tally.printed.iter().flatten().sum::<u64>(), 4);
     }
 }

@@ -74,7 +74,8 @@ impl Mock {
         results: &mut Guarded,
     ) -> Reply {
         let wrong = self.0;
-        let lists = Board { items: items.bytes().to_vec(), results: results.bytes().to_vec() };
+        let (listed_items, left) = (wrong.list_taken(items.bytes()), results.bytes().to_vec());
+        let lists = Board { items: listed_items, results: left };
         let (taken, mut b) = (wrong.taken(sheet, table), lists.results.clone());
         // The model is asked only whether the board is refused.
         let mut reply = board::board(sheet, index, &mut taken.clone(), &lists.items, &mut b);

@@ -8,6 +8,7 @@ use crate::model::close;
 use crate::model::sheet::{read_sheet, Item};
 use crate::model::table::{decode, Cell, Mark, RECORD};
 use crate::model::value::Value;
+use std::cell::RefCell;
 
 impl Wrong {
     /// Those that close otherwise than they must; their names say so.
@@ -98,8 +99,8 @@ impl Sweep<'_> {
             // Of a parent nothing but its old record is there.
             Wrong::CloseFromTheTop => old.iter().map(stored).collect(),
             Wrong::CloseFromTheOldTable => {
-                let owed = self.owed.clone();
-                Sweep { cells: old.to_vec(), owed, ..*self }.all(old.len() - 1)
+                let (cells, owed, scratch) = (old.to_vec(), self.owed.clone(), RefCell::default());
+                Sweep { cells, owed, scratch, ..*self }.all(old.len() - 1)
             }
             _ => return self.all(old.len() - 1).iter().map(|g| g.0).collect(),
         };

@@ -6,6 +6,7 @@ use crate::gen::{make_owed_true, narrow};
 use crate::model::sheet::{read_sheet, Item};
 use crate::model::table::{decode, record, Cell, Mark, OWED, RECORD};
 use crate::model::value::Value;
+use std::cell::RefCell;
 
 /// What stores a figure, or forgets it.
 #[derive(Clone, Copy, PartialEq, Eq, Debug)]
@@ -90,7 +91,8 @@ impl<'a> Sweep<'a> {
     /// The machine of a table that is in form.
     pub(super) fn new(items: &'a [Item], table: &[u8], wrong: Wrong) -> Self {
         let owed = table.chunks(RECORD).map(|record| record[OWED] == 1).collect();
-        Sweep { items, cells: decode(items, table).unwrap(), owed, wrong }
+        let cells = decode(items, table).unwrap();
+        Sweep { items, cells, owed, scratch: RefCell::default(), wrong }
     }
 
     /// Whether a child makes its parents owed.
@@ -106,7 +108,9 @@ impl<'a> Sweep<'a> {
     }
 
     pub(super) fn children(&self, i: usize) -> impl Iterator<Item = usize> + '_ {
-        (i + 1..self.items.len()).filter(move |&child| lists(&self.items[child], i))
+        let n = self.items.len();
+        let end = if self.wrong.loses_last(n) { n - 1 } else { n };
+        (i + 1..end).filter(move |&child| lists(&self.items[child], i))
     }
 
     pub(super) fn parents(&self, i: usize) -> &'a [usize] {

@@ -188,7 +188,7 @@ impl Mock {
         table: &mut Guarded,
     ) -> Reply {
         let wrong = self.0;
-        let swap = wrong.swap_taken(swap);
+        let swap = wrong.exchange_taken(&wrong.swap_taken(swap));
         let taken = wrong.taken(sheet.bytes(), table.bytes());
         // The model is asked only whether what is lent is refused; a close has no other refusals.
         let lent = close::close(sheet.bytes(), index.bytes(), &mut taken.clone());

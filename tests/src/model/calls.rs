@@ -255,8 +255,10 @@ mod tests {
         }
         let mut short = EXAMPLE[..45].to_vec();
         assert_eq!(call(&ask, &short, &bad_index, &mut bad_table).number, 1);
-        short[3] = 2;
+        short[3] = 3;
         assert_eq!(call(&ask, &short, &bad_index, &mut bad_table).number, 4);
+        short[3] = 2;
+        assert_eq!(call(&ask, &short, &bad_index, &mut bad_table).number, 1);
     }
 
     #[test]

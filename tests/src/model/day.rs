@@ -6,14 +6,18 @@ use super::printer::text_of;
 use super::sheet::read_sheet;
 use super::table::{from_pair, RECORD};
 
-/// So many bytes of each file are read.
+/// A sheet of more bytes is refused, and so many of the day are read.
 pub const MOST: usize = 65_536;
 
 pub fn run_day(sheet: &[u8], day: &[u8]) -> Vec<u8> {
-    lines(&sheet[..sheet.len().min(MOST)], &day[..day.len().min(MOST)]).into_bytes()
+    if sheet.len() > MOST {
+        return b"SHEET 19 0\n".to_vec();
+    }
+    lines(sheet, &day[..day.len().min(MOST)]).into_bytes()
 }
 
-fn lines(sheet: &[u8], day: &[u8]) -> String {
+/// The lines for these bytes, however many.
+pub fn lines(sheet: &[u8], day: &[u8]) -> String {
     let count = match read_sheet(sheet) {
         Ok(items) => items.len(),
         Err(fault) => return format!("SHEET {} {}\n", fault.number, fault.offset),
@@ -135,14 +139,48 @@ mod tests {
     }
 
     #[test]
-    fn files_are_cut_at_their_limit() {
+    fn a_day_is_cut_at_its_limit() {
         let asks = other(17, 0).repeat(MOST / 5 + 10);
         let output = String::from_utf8(run_day(&EXAMPLE, &asks)).unwrap();
         assert_eq!(output.lines().count(), MOST / 5 + 1);
         assert!(output.ends_with(&format!("DAY 16 {}\n", MOST / 5 * 5)));
-        let mut long = EXAMPLE.to_vec();
-        long.resize(MOST + 5, 0);
-        assert_eq!(run_day(&long, &[]), b"SHEET 2 46\n");
         assert_eq!(run_day(&[], &asks), b"SHEET 1 0\n");
+    }
+
+    /// Entries and one name that is longer, so that the sheet has so many bytes.
+    fn sheet_of(bytes: usize) -> Vec<u8> {
+        let items = bytes - 10;
+        let count = items.div_ceil(19);
+        let mut sheet = vec![1, 4, 0, 2, 0];
+        sheet.extend((count as u16).to_le_bytes());
+        for k in 0..count {
+            let name = items / count + (k < items % count) as usize - 3;
+            sheet.extend([2, name as u8, 0]);
+            sheet.extend(vec![b'A'; name]);
+        }
+        sheet.extend([4, 0, 0]);
+        assert_eq!(sheet.len(), bytes);
+        assert!(read_sheet(&sheet).is_ok());
+        sheet
+    }
+
+    /// By the length of the file alone, whatever is in it, and whatever the day is.
+    #[test]
+    fn a_sheet_is_refused_above_its_limit() {
+        let day = [post(0, 3, 7), other(17, 0)].concat();
+        assert_eq!(run_day(&sheet_of(MOST - 1), &day), b"OK\nASK 0 7\n");
+        assert_eq!(run_day(&sheet_of(MOST), &day), b"OK\nASK 0 7\n");
+        assert_eq!(run_day(&sheet_of(MOST + 1), &day), b"SHEET 19 0\n");
+        let mut long = EXAMPLE.to_vec();
+        long.resize(MOST, 0);
+        assert_eq!(run_day(&long, &day), b"SHEET 2 46\n");
+        for byte in 0..=255 {
+            long.push(byte);
+            for day in [&day[..], &[], &[99]] {
+                assert_eq!(run_day(&long, day), b"SHEET 19 0\n");
+            }
+        }
+        assert_eq!(run_day(&vec![0; MOST], &day), b"SHEET 2 0\n");
+        assert_eq!(run_day(&vec![0; MOST + 1], &day), b"SHEET 19 0\n");
     }
 }

@@ -2,10 +2,18 @@
 
 use super::field::{field_at, u16_at, Field};
 use super::value::count_fits;
+use std::ops::RangeInclusive;
 
-pub const EDITION: u16 = 1;
-pub const MAX_ITEMS: usize = 1_024;
 pub const MAX_LEVEL: usize = 64;
+
+/// The most items of a sheet of this edition; none of an edition that is not known.
+pub const fn item_limit(edition: u16) -> usize {
+    match edition {
+        1 => 1_024,
+        2 => 4_096,
+        _ => 0,
+    }
+}
 
 /// A refusal: its number and the offset that goes with it.
 #[derive(Clone, Copy, PartialEq, Eq, Debug)]
@@ -41,8 +49,16 @@ pub enum Spread {
 
 /// The items of a sheet, or the first field at fault with its lowest number.
 pub fn read_sheet(bytes: &[u8]) -> Result<Vec<Item>, Fault> {
+    read_limited(bytes, &|edition| 1..=item_limit(edition))
+}
+
+/// The same, with the item counts that each edition may have.
+pub fn read_limited(
+    bytes: &[u8],
+    counts: &dyn Fn(u16) -> RangeInclusive<usize>,
+) -> Result<Vec<Item>, Fault> {
     let head = cut(bytes, 0)?;
-    let count = read_head(&head).map_err(|number| fault(number, 0))?;
+    let count = read_head(&head, counts).map_err(|number| fault(number, 0))?;
     let mut items: Vec<Item> = Vec::new();
     let mut offset = head.end();
     for _ in 0..count {
@@ -74,7 +90,7 @@ fn cut(bytes: &[u8], offset: usize) -> Result<Field<'_>, Fault> {
 }
 
 /// The item count.
-fn read_head(field: &Field) -> Result<usize, u64> {
+fn read_head(field: &Field, counts: &dyn Fn(u16) -> RangeInclusive<usize>) -> Result<usize, u64> {
     if field.tag != 1 {
         return Err(2);
     }
@@ -83,7 +99,7 @@ fn read_head(field: &Field) -> Result<usize, u64> {
     }
     let edition = u16_at(field.content, 0);
     let count = u16_at(field.content, 2) as usize;
-    if edition != EDITION || !(1..=MAX_ITEMS).contains(&count) {
+    if !counts(edition).contains(&count) {
         return Err(4);
     }
     Ok(count)
@@ -243,16 +259,97 @@ mod tests {
         assert_eq!(refused(&[head(1, 1), entry(), field(4, &[0])]), (3, 11));
     }
 
+    /// So many entries, with a head that says so.
+    fn entries(edition: u16, count: usize) -> Vec<u8> {
+        [head(edition, count as u16), entry().repeat(count), end()].concat()
+    }
+
+    /// Each edition that is known has its own limit, and every other none. An edition has two bytes.
     #[test]
     fn edition_and_count() {
-        assert_eq!(refused(&[head(0, 1)]), (4, 0));
-        assert_eq!(refused(&[head(2, 1)]), (4, 0));
-        assert_eq!(refused(&[head(257, 1)]), (4, 0));
-        assert_eq!(refused(&[head(1, 0)]), (4, 0));
-        let many: Vec<u8> = (0..1025).flat_map(|_| entry()).collect();
-        assert_eq!(refused(&[head(1, 1025), many.clone(), end()]), (4, 0));
-        let fitting = many[4..].to_vec();
-        assert_eq!(accepted(&[head(1, 1024), fitting, end()]).len(), 1024);
+        for edition in [0, 3, 4, 255, 256, 257, 258, 512, 513, 32_769, 65_535] {
+            for count in [0, 1, 5, 1_024, 4_096] {
+                assert_eq!(refused(&[entries(edition, count)]), (4, 0), "{edition} {count}");
+            }
+        }
+        for (edition, most) in [(1, 1_024), (2, 4_096)] {
+            for count in [1, 2, 127, 128, 129, 1_023, 1_024, most - 1, most] {
+                assert_eq!(accepted(&[entries(edition, count)]).len(), count);
+            }
+            for count in [0, most + 1, most + 2, 8_192, 65_535] {
+                assert_eq!(refused(&[entries(edition, count)]), (4, 0), "{edition} {count}");
+            }
+        }
+        assert_eq!(refused(&[entries(1, 4_096)]), (4, 0));
+        assert_eq!(accepted(&[entries(2, 1_025)]).len(), 1_025);
+    }
+
+    /// The head's own faults, in their order: those of its form come before edition and count.
+    #[test]
+    fn a_head_at_fault() {
+        for edition in [1, 2, 3] {
+            for length in 0..7 {
+                assert_eq!(refused(&[head(edition, 1)[..length].to_vec()]), (1, 0));
+            }
+            let mut other = head(edition, 4_097);
+            other[0] = 2;
+            assert_eq!(refused(&[other]), (2, 0));
+            assert_eq!(refused(&[field(1, &[edition as u8, 0, 1, 16, 0])]), (3, 0));
+            assert_eq!(refused(&[field(1, &[edition as u8, 0, 1])]), (3, 0));
+            assert_eq!(refused(&[head(edition, 4_097), vec![9]]), (4, 0));
+        }
+    }
+
+    /// A count that is not that of the items, on both sides of each limit.
+    #[test]
+    fn a_count_that_is_false() {
+        for (edition, count) in [(1, 128), (2, 128), (1, 1_023), (2, 1_024), (2, 4_095)] {
+            let items = entry().repeat(count);
+            let after = 7 + 4 * count as u64;
+            let more = head(edition, count as u16 + 1);
+            assert_eq!(refused(&[more.clone(), items.clone(), end()]), (2, after));
+            assert_eq!(refused(&[more, items.clone()]), (1, after));
+            let fewer = head(edition, count as u16 - 1);
+            assert_eq!(refused(&[fewer, items, end()]), (2, after - 4));
+        }
+    }
+
+    /// What an edition does not decide is the same in both, spread 2 included.
+    #[test]
+    fn both_editions_have_the_same_items() {
+        let mut second = EXAMPLE;
+        second[3] = 2;
+        assert_eq!(read_sheet(&second), read_sheet(&EXAMPLE));
+        for spread in 0..=3 {
+            let sheets = [1, 2].map(|edition| {
+                let parts =
+                    [head(edition, 2), entry(), figure(1, 1, spread, &[0], b"F"), end()].concat();
+                read_sheet(&parts)
+            });
+            assert_eq!(sheets[0], sheets[1]);
+            assert_eq!(sheets[1].is_ok(), spread < 3);
+        }
+    }
+
+    /// The longest sheet: 4,096 items of 55 bytes, the last with parents up to item 4,094.
+    #[test]
+    fn the_longest_sheet() {
+        let mut parts = vec![head(2, 4_096), field(2, &[33; 16])];
+        for i in 1..4_096u16 {
+            let parents: Vec<u16> =
+                (0..16).map(|k| if i == 4_095 { 4_079 + k } else { 0 }).collect();
+            parts.push(figure(1, 1, 2, &parents, &[126; 16]));
+        }
+        parts.push(end());
+        let items = accepted(&parts);
+        assert_eq!(items[4_095].figure.as_ref().unwrap().parents[15], 4_094);
+        assert_eq!((items[4_095].level, items[4_095].offset), (2, 7 + 19 + 4_094 * 55));
+        assert_eq!(index_of(&items)[4 * 4_095..], (225_196u32).to_le_bytes());
+        // A parent that fits 12 bits only if it is cut.
+        parts[4_096] = figure(1, 1, 2, &[4_096], b"F");
+        assert_eq!(refused(&parts), (6, 225_196));
+        parts[4_096] = figure(1, 1, 2, &[4_095], b"F");
+        assert_eq!(refused(&parts), (6, 225_196));
     }
 
     #[test]
