@@ -499,6 +499,63 @@ static void count_steps(const struct state *state, size_t groups)
         fail("the steps differ from an ask");
 }
 
+/* ---- Larger sheets --------------------------------------------------------------------------- */
+
+/* The tables of both sides, to be gone back to. */
+static uint8_t saved[sizeof library.table];
+
+static void save_tables(void)
+{
+    memcpy(saved, library.table, sizeof saved);
+}
+
+static void restore_tables(void)
+{
+    memcpy(library.table, saved, sizeof saved);
+    memcpy(plain.table, saved, sizeof saved);
+}
+
+/*
+ * The workloads that smaller sheets have too, in the same states. A state costs many calls here, so
+ * that what several have in common is made once.
+ */
+static void count_larger(size_t groups)
+{
+    make_ledger(&sheet, groups, 1);
+    count("open bare", call_of(OPEN_BARE, 0));
+    settle(OPEN_FULL);
+    save_tables();
+    count("post", post_of(0, POSTED));
+    count("ask after one post, all stored", call_of(ASK, sheet.top));
+    restore_tables();
+    post_every_entry(amount, 1);
+    save_tables();
+    count("ask after every entry was posted", call_of(ASK, sheet.top));
+    restore_tables();
+    count("close after every entry was posted", call_of(CLOSE, 0));
+    make_ledger(&sheet, groups, 0);
+    settle(OPEN_BARE);
+    save_tables();
+    prepare(post_of(0, POSTED));
+    count("ask after one post, none stored", call_of(ASK, sheet.top));
+    restore_tables();
+    keep_half_the_figures();
+    prepare(post_of(0, POSTED));
+    count("ask after one post, half stored", call_of(ASK, sheet.top));
+}
+
+/* ---- Sheets of other forms ------------------------------------------------------------------- */
+
+/* A call on a few items: what it costs to be called at all. */
+static void count_example(void)
+{
+    make_example(&sheet);
+    count("open bare, the example", call_of(OPEN_BARE, 0));
+    prepare(post_of(0, POSTED));
+    count("post, the example", post_of(1, SWAPPED));
+    count("ask, the example", call_of(ASK, sheet.top));
+}
+
 static void count_chain(void)
 {
     make_chain(&sheet);
@@ -605,7 +662,7 @@ static void count_printer(void)
 
 int main(void)
 {
-    enum { MOST_GROUPS = 8 };
+    enum { MOST_GROUPS = 8, LARGER_GROUPS = 2 * MOST_GROUPS, LARGEST_GROUPS = 4 * MOST_GROUPS };
     count_openings(MOST_GROUPS);
     count_small_calls(MOST_GROUPS);
     count_swap(MOST_GROUPS);
@@ -623,6 +680,9 @@ int main(void)
         count_keeps(&states[k], MOST_GROUPS);
     for (size_t groups = MOST_GROUPS; groups > 0; groups /= 2)
         count_steps(&states[STATES - 1], groups);
+    count_larger(LARGER_GROUPS);
+    count_larger(LARGEST_GROUPS);
+    count_example();
     count_chain();
     count_fan();
     count_unstored_fan(800);

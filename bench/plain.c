@@ -13,9 +13,14 @@ enum { FIELD_HEADER = 3, HEAD_LENGTH = 4, FIRST_NAME_BYTE = 33, LAST_NAME_BYTE =
 enum { RULE_AT = 3, KEEP_AT = 4, SPREAD_AT = 5, PARENT_COUNT_AT = 6, PARENTS_AT = 7 };
 enum { KIND_AT = 0, MARK_AT = 1, NUMBER_AT = 2, OWED_AT = 10 };
 
-enum { MOST_LINKS = ROZHINAL_MAX_ITEMS * ROZHINAL_MAX_PARENTS, NO_LINK = 0xFFFF };
+/* item 0 is no figure, so that a link is never NO_LINK */
+enum { MOST_LINKS = (ROZHINAL_MAX_ITEMS - 1) * ROZHINAL_MAX_PARENTS, NO_LINK = 0xFFFF };
+_Static_assert(MOST_LINKS <= NO_LINK, "a link fits two bytes");
 
-/* What the reading of a sheet leaves: how many items there are, and where. */
+/*
+ * What the reading of a sheet leaves: how many items there are, and where. There is room for either
+ * edition, and only what the sheet needs is written.
+ */
 struct layout {
     size_t count;
     uint32_t offset[ROZHINAL_MAX_ITEMS];
@@ -294,6 +299,19 @@ static uint64_t check_item(const uint8_t *field, size_t length, size_t i, uint8_
     return name_allowed(field + FIELD_HEADER, length) ? 0 : ROZHINAL_REFUSED_LENGTH;
 }
 
+/* No sheet of another edition has any items. */
+static size_t most_items(size_t edition)
+{
+    switch (edition) {
+    case ROZHINAL_EDITION_1:
+        return ROZHINAL_MAX_ITEMS_EDITION_1;
+    case ROZHINAL_EDITION_2:
+        return ROZHINAL_MAX_ITEMS_EDITION_2;
+    default:
+        return 0;
+    }
+}
+
 /* The cause to refuse the first field, or 0. */
 static uint64_t check_head(const uint8_t *sheet, size_t sheet_len)
 {
@@ -304,7 +322,7 @@ static uint64_t check_head(const uint8_t *sheet, size_t sheet_len)
     if (get_u16(sheet + 1) != HEAD_LENGTH)
         return ROZHINAL_REFUSED_LENGTH;
     size_t count = get_u16(sheet + 5);
-    if (get_u16(sheet + 3) != ROZHINAL_EDITION || count < 1 || ROZHINAL_MAX_ITEMS < count)
+    if (count < 1 || most_items(get_u16(sheet + 3)) < count)
         return ROZHINAL_REFUSED_COUNT;
     return 0;
 }

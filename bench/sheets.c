@@ -46,7 +46,7 @@ static void begin_sheet(struct sheet *sheet, size_t count)
     sheet->count = 0;
     put(sheet, ROZHINAL_TAG_HEAD);
     put_two(sheet, 4);
-    put_two(sheet, ROZHINAL_EDITION);
+    put_two(sheet, ROZHINAL_EDITION_FOR(count));
     put_two(sheet, count);
 }
 
@@ -165,6 +165,22 @@ static void draw_item(struct figure *group, size_t i)
 }
 
 /* ---- Sheets ---------------------------------------------------------------------------------- */
+
+void make_example(struct sheet *sheet)
+{
+    static const struct figure items[] = {
+        { .name_length = 1, .name = "A" },
+        { .name_length = 1, .name = "L" },
+        { .name_length = 1, .name = "S" },
+        { ROZHINAL_SUM, 1, ROZHINAL_DEFER, 2, { 0, 2 }, 1, "T", 1, 0 },
+        { ROZHINAL_DIFFERENCE, 0, ROZHINAL_DEFER, 2, { 3, 1 }, 1, "B", 2, 0 },
+    };
+    enum { ITEMS = sizeof items / sizeof *items };
+    begin_sheet(sheet, ITEMS);
+    for (size_t i = 0; i < ITEMS; i++)
+        put_item(sheet, &items[i], 0);
+    end_sheet(sheet);
+}
 
 void make_ledger(struct sheet *sheet, size_t groups, int keeping)
 {

@@ -4,7 +4,8 @@
 
 #include "rozhinal.h"
 
-enum { SHEET_BYTES = 65536, GROUP_ITEMS = 125, COMMON_ENTRIES = 4, RATE = 1 };
+enum { SHEET_BYTES = ROZHINAL_MAX_SHEET_BYTES(ROZHINAL_MAX_ITEMS) };
+enum { GROUP_ITEMS = 125, COMMON_ENTRIES = 4, RATE = 1 };
 enum { MOST_POSTED = 100000000 }; /* grams */
 enum { RATES = 8, SHARED = 24 };
 
@@ -17,6 +18,9 @@ struct sheet {
     size_t count;
     size_t top; /* the last item of the highest level */
 };
+
+/* The example of README.md: entries A, L and S, and figures T = A + S and B = T - L. */
+void make_example(struct sheet *sheet);
 
 /*
  * A fleet's ledger: groups of GROUP_ITEMS items each, a quarter of them entries. The groups are

@@ -1,5 +1,6 @@
 /*
- * Shows a sheet, an item a line; for a refused sheet what is wrong with it, and where.
+ * Shows a sheet: its edition, then an item a line; of a refused sheet what is wrong with it, and
+ * where.
  *
  *     lister SHEET
  *
@@ -28,7 +29,7 @@ static void list_item(size_t i, const struct item *items, const size_t *levels)
 
 static void list_items(const uint8_t *sheet, const uint8_t *index, size_t count)
 {
-    static struct item items[ROZHINAL_MAX_ITEMS];
+    static struct item items[ROZHINAL_MAX_ITEMS]; /* of either edition */
     static size_t levels[ROZHINAL_MAX_ITEMS];
     puts("item  name              level  rule        keep    spread  parents");
     for (size_t i = 0; i < count; i++) {
@@ -54,6 +55,8 @@ static int list_sheet(const uint8_t *sheet, size_t sheet_len)
                                                     index, ROZHINAL_INDEX_BYTES(count),
                                                     table, ROZHINAL_TABLE_BYTES(count));
         if (answer.number == ROZHINAL_ACCEPTED) {
+            printf("edition %u, %zu item%s\n", rozhinal_edition(sheet, sheet_len), count,
+                   count == 1 ? "" : "s");
             list_items(sheet, index, count);
             status = 0;
         } else {

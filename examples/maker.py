@@ -9,6 +9,11 @@ A sheet in text has an item a line; items are numbered from 0 in this order:
     entry NAME
     figure NAME RULE KEEP SPREAD = PARENT PARENT ...
 
+A sheet of up to 1024 items is of edition 1. One of more, up to 4096, is of edition 2, and the maker
+says so. A line before the items asks for an edition:
+
+    edition 2
+
 RULE is sum, difference, smallest, largest, share, choice, count or at-least. KEEP is keep or
 nokeep. SPREAD is defer, renew or forget. A PARENT is the name of an earlier item, or # and its
 number. A name has 1 to 16 characters, none a blank, all ASCII.
@@ -28,10 +33,11 @@ its line, and nothing is written.
 import sys
 from collections import namedtuple
 
-MAX_ITEMS = 1024
+# edition: its most items
+EDITIONS = {1: 1024, 2: 4096}
 MAX_LEVEL = 64
 MAX_NAME = 16
-MAX_DAY = 65536
+MAX_DAY = 65536  # bytes that the day program takes, of a sheet and of a log
 MAX_ITEM_NUMBER = 65535
 
 # word: code, least and most parents
@@ -50,6 +56,23 @@ SPREADS = {"defer": 0, "renew": 1, "forget": 2}
 CALLS = {"post": 16, "ask": 17, "keep": 18, "drop": 19, "step": 20}
 
 Item = namedtuple("Item", "name level tag content")
+
+
+class Sheet:
+    """The items, the numbers that each name has, and the edition that is asked for, if one is."""
+
+    def __init__(self):
+        self.items = []
+        self.numbers = {}
+        self.asked = None
+
+    def add(self, item):
+        self.numbers.setdefault(item.name, []).append(len(self.items))
+        self.items.append(item)
+
+    def edition(self):
+        """The one asked for, or the lowest that has room for the items."""
+        return self.asked or min(e for e, most in EDITIONS.items() if len(self.items) <= most)
 
 
 class Mistake(Exception):
@@ -83,14 +106,14 @@ def number_of(digits):
     return int(digits) if len(digits) <= 20 else 10**20
 
 
-def item_number(word, items, where=""):
+def item_number(word, sheet, where=""):
     """The number of the item that the word names; with # it may be beyond the items."""
     if word.startswith("#") and is_digits(word[1:]):
         number = number_of(word[1:])
         if number > MAX_ITEM_NUMBER:
             raise Mistake(f"{word} is above {MAX_ITEM_NUMBER}")
         return number
-    found = [i for i, item in enumerate(items) if item.name == word]
+    found = sheet.numbers.get(word, [])
     if not found:
         hint = f"; by number it is #{word}" if is_digits(word) else ""
         raise Mistake(f"there is no item named {word!a}{where}{hint}")
@@ -100,10 +123,10 @@ def item_number(word, items, where=""):
     return found[0]
 
 
-def parent_number(word, items):
-    number = item_number(word, items, " on an earlier line")
-    if number >= len(items):
-        raise Mistake(f"parent {word} is not an earlier item; this one is #{len(items)}")
+def parent_number(word, sheet):
+    number = item_number(word, sheet, " on an earlier line")
+    if number >= len(sheet.items):
+        raise Mistake(f"parent {word} is not an earlier item; this one is #{len(sheet.items)}")
     return number
 
 
@@ -113,32 +136,51 @@ def read_entry(words):
     return Item(words[1], 0, 2, name_bytes(words[1]))
 
 
-def read_figure(words, items):
+def read_figure(words, sheet):
     if len(words) < 7 or words[5] != "=":
         raise Mistake("a figure is written: figure NAME RULE KEEP SPREAD = PARENT ...")
     name = name_bytes(words[1])
     code, least, most = choose(RULES, words[2], "rule")
     keep = choose(KEEPS, words[3], "keep")
     spread = choose(SPREADS, words[4], "spread")
-    parents = [parent_number(word, items) for word in words[6:]]
+    parents = [parent_number(word, sheet) for word in words[6:]]
     if not least <= len(parents) <= most:
         wanted = str(least) if least == most else f"{least} to {most}"
         raise Mistake(f"{words[2]} takes {wanted} parents, not {len(parents)}")
-    level = 1 + max(items[p].level for p in parents)
+    level = 1 + max(sheet.items[p].level for p in parents)
     if level > MAX_LEVEL:
         raise Mistake(f"{words[1]} has level {level}, {MAX_LEVEL} is the highest")
     numbers = b"".join(p.to_bytes(2, "little") for p in parents)
     return Item(words[1], level, 3, bytes([code, keep, spread, len(parents)]) + numbers + name)
 
 
-def read_item(words, items):
-    if len(items) == MAX_ITEMS:
-        raise Mistake(f"a sheet has at most {MAX_ITEMS} items")
-    if words[0] == "entry":
-        return read_entry(words)
-    if words[0] == "figure":
-        return read_figure(words, items)
-    raise Mistake(f"a line begins with entry or figure, not {words[0]!a}")
+def read_edition(words, sheet):
+    if len(words) != 2 or words[1] not in map(str, EDITIONS):
+        raise Mistake("an edition is written: edition 1, or edition 2")
+    if sheet.items or sheet.asked:
+        raise Mistake("an edition is asked for once, before the items")
+    sheet.asked = int(words[1])
+
+
+def check_room(sheet):
+    """Sees that the edition has room for one more item; if none was asked for, that any has."""
+    edition = sheet.asked or max(EDITIONS)
+    if len(sheet.items) == EDITIONS[edition]:
+        hint = f"; edition 2 has up to {EDITIONS[2]}" if edition == 1 else ""
+        raise Mistake(f"a sheet of edition {edition} has at most {EDITIONS[edition]} items{hint}")
+
+
+def read_line(words, sheet):
+    if words[0] == "edition":
+        read_edition(words, sheet)
+    elif words[0] == "entry":
+        check_room(sheet)
+        sheet.add(read_entry(words))
+    elif words[0] == "figure":
+        check_room(sheet)
+        sheet.add(read_figure(words, sheet))
+    else:
+        raise Mistake(f"a line begins with entry or figure, not {words[0]!a}")
 
 
 def posted(word):
@@ -154,12 +196,12 @@ def posted(word):
     return bytes([3]) + number.to_bytes(8, "little", signed=True)
 
 
-def read_call(words, items):
+def read_call(words, sheet):
     tag = choose(CALLS, words[0], "call")
     wanted = "ITEM NUMBER" if words[0] == "post" else "ITEM"
     if len(words) != 1 + len(wanted.split()):
         raise Mistake(f"this call is written: {words[0]} {wanted}")
-    item = item_number(words[1], items).to_bytes(2, "little")
+    item = item_number(words[1], sheet).to_bytes(2, "little")
     return field(tag, item + (posted(words[2]) if words[0] == "post" else b""))
 
 
@@ -172,8 +214,9 @@ def lines_of(path):
                 yield number, words
 
 
-def read_lines(path, read, done):
-    """Adds what each line gives to the list."""
+def read_lines(path, read):
+    """What each line gives."""
+    done = []
     for number, words in lines_of(path):
         try:
             done.append(read(words))
@@ -183,20 +226,29 @@ def read_lines(path, read, done):
 
 
 def read_sheet(path):
-    items = []
-    read_lines(path, lambda words: read_item(words, items), items)
-    if not items:
+    sheet = Sheet()
+    read_lines(path, lambda words: read_line(words, sheet))
+    if not sheet.items:
         sys.exit(f"{path}: a sheet has at least one item")
-    return items
+    return sheet
 
 
-def sheet_bytes(items):
-    head = field(1, (1).to_bytes(2, "little") + len(items).to_bytes(2, "little"))
-    return head + b"".join(field(item.tag, item.content) for item in items) + field(4, b"")
+def sheet_bytes(sheet):
+    head = field(1, sheet.edition().to_bytes(2, "little") + len(sheet.items).to_bytes(2, "little"))
+    return head + b"".join(field(item.tag, item.content) for item in sheet.items) + field(4, b"")
 
 
-def day_bytes(path, items):
-    day = b"".join(read_lines(path, lambda words: read_call(words, items), []))
+def remarks(sheet, length):
+    """What is to be known of a sheet of so many bytes."""
+    edition = sheet.edition()
+    if edition > 1 and not sheet.asked:
+        yield f"{len(sheet.items)} items, so the sheet is of edition {edition}"
+    if length > MAX_DAY:
+        yield f"the sheet has {length} bytes; the day program takes {MAX_DAY}"
+
+
+def day_bytes(path, sheet):
+    day = b"".join(read_lines(path, lambda words: read_call(words, sheet)))
     if len(day) > MAX_DAY:
         sys.exit(f"{path}: the day log has {len(day)} bytes; the day program reads {MAX_DAY}")
     return day
@@ -204,7 +256,10 @@ def day_bytes(path, items):
 
 def main(words):
     if len(words) == 3 and words[0] == "sheet":
-        result = sheet_bytes(read_sheet(words[1]))
+        sheet = read_sheet(words[1])
+        result = sheet_bytes(sheet)
+        for remark in remarks(sheet, len(result)):
+            print(f"{words[1]}: {remark}", file=sys.stderr)
     elif len(words) == 4 and words[0] == "day":
         result = day_bytes(words[2], read_sheet(words[1]))
     else:

@@ -74,6 +74,7 @@ const char *refusal_words(uint64_t number)
         "a field of the day log is wrong",
         "the list of a board or of its results has the wrong length",
         "giver and taker are one entry, or the quantity is under 1",
+        "the file of the sheet is too long for the day program",
     };
     return number < sizeof words / sizeof *words ? words[number] : "an unknown refusal";
 }
@@ -103,6 +104,16 @@ static void print_bytes(FILE *to, const uint8_t *sheet, size_t sheet_len, size_t
     fputs(size > SHOWN ? " ...\n" : "\n", to);
 }
 
+/* What the head states, and what it may. */
+static void print_editions(FILE *to, const uint8_t *sheet, size_t sheet_len)
+{
+    size_t count = rozhinal_item_count(sheet, sheet_len);
+    fprintf(to, "it is of edition %u, with %zu item%s; ", rozhinal_edition(sheet, sheet_len), count,
+            count == 1 ? "" : "s");
+    fprintf(to, "edition 1 has 1 to %d items, edition 2 1 to %d\n", ROZHINAL_MAX_ITEMS_EDITION_1,
+            ROZHINAL_MAX_ITEMS_EDITION_2);
+}
+
 void print_refusal(FILE *to, const uint8_t *sheet, size_t sheet_len, rozhinal_answer answer)
 {
     fprintf(to, "refused with %" PRIu64 ": %s\n", answer.number, refusal_words(answer.number));
@@ -125,6 +136,8 @@ void print_refusal(FILE *to, const uint8_t *sheet, size_t sheet_len, rozhinal_an
     }
     fputc(':', to);
     print_bytes(to, sheet, sheet_len, offset);
+    if (answer.number == ROZHINAL_REFUSED_COUNT)
+        print_editions(to, sheet, sheet_len);
 }
 
 uint8_t *read_file(const char *path, size_t most, size_t *length)

@@ -26,7 +26,7 @@ const char *refusal_words(uint64_t number);
 
 /*
  * Prints what was refused, in words. For a fault of the sheet also the place: the item, and the
- * bytes at the offset.
+ * bytes at the offset; for one of edition or item count what they are, and the limits.
  */
 void print_refusal(FILE *to, const uint8_t *sheet, size_t sheet_len, rozhinal_answer answer);
 
@@ -36,8 +36,7 @@ void print_refusal(FILE *to, const uint8_t *sheet, size_t sheet_len, rozhinal_an
  */
 uint8_t *read_file(const char *path, size_t most, size_t *length);
 
-/* No sheet that opens is longer: head, items of the longest form, end. */
-#define SHEET_MOST                                                                               \
-    (7 + (size_t)ROZHINAL_MAX_ITEMS * (3 + 4 + 2 * ROZHINAL_MAX_PARENTS + ROZHINAL_MAX_NAME) + 3)
+/* No sheet that opens is longer, of either edition. */
+#define SHEET_MOST ROZHINAL_MAX_SHEET_BYTES(ROZHINAL_MAX_ITEMS)
 
 #endif

@@ -1,5 +1,5 @@
 /*
- * Rozhinal 4.2.0: an engine for quota ledgers.
+ * Rozhinal 4.3.0: an engine for quota ledgers.
  *
  * A sheet is a circuit of items. An entry is posted; a figure is worked out from earlier items, its
  * parents, by one of eight rules. The caller lends three slices of bytes to each call:
@@ -36,10 +36,16 @@
  * A refused call changes no lent byte. An accepted call never fails halfway.
  *
  * Stack: looking up goes from a figure to its parents, so the depth is bounded by the levels of a
- * sheet (at most ROZHINAL_MAX_LEVEL), and each call has scratch space for ROZHINAL_MAX_ITEMS items.
- * On sheets of 64 levels an ask and a board were measured at 102,320 bytes, a step at 101,712, a
- * keep at 65,584, a close at 11,592, a drop at 11,544, a post and a swap at 10,536;
- * ROZHINAL_STACK_BYTES is enough for every call.
+ * sheet (at most ROZHINAL_MAX_LEVEL). Scratch goes by the item count n that the sheet states: there
+ * is scratch for 128 items, for 1,024 or for 4,096, the least of these that is enough. So a small
+ * sheet takes a small stack: ROZHINAL_STACK_BYTES_FOR(n) is enough for every call on a sheet of n
+ * items, ROZHINAL_STACK_BYTES for every call. On sheets of 64 levels, in bytes, as tests/c/stack.c
+ * measures them:
+ *
+ *   items            ask, board      step      keep     close   post, swap   drop   openings
+ *   up to 128            48,960    48,240    43,520     1,913        1,785  1,753      1,705
+ *   up to 1,024         101,824   101,104    65,936     9,977        9,849  9,817      9,769
+ *   up to 4,096         283,072   282,352   142,736    37,625       37,497 37,465     37,417
  */
 #ifndef ROZHINAL_H
 #define ROZHINAL_H
@@ -52,9 +58,9 @@ extern "C" {
 #endif
 
 #define ROZHINAL_VERSION_MAJOR 4
-#define ROZHINAL_VERSION_MINOR 2
+#define ROZHINAL_VERSION_MINOR 3
 #define ROZHINAL_VERSION_PATCH 0
-#define ROZHINAL_VERSION "4.2.0"
+#define ROZHINAL_VERSION "4.3.0"
 
 /* ---- Limits ---------------------------------------------------------------------------------- */
 
@@ -63,12 +69,46 @@ extern "C" {
 /* The second parent of a share lies from 0 to ROZHINAL_WHOLE: it counts ten-thousandths. */
 #define ROZHINAL_WHOLE INT64_C(10000)
 
-#define ROZHINAL_EDITION 1
-#define ROZHINAL_MAX_ITEMS 1024
+/*
+ * The editions of sheets. They differ in how many items a sheet may have, and in nothing else: a
+ * sheet that states edition 1 and at most 1,024 items gives the same answers with its edition number
+ * changed to 2, and every opening and call leaves the same bytes.
+ */
+#define ROZHINAL_EDITION_1 1
+#define ROZHINAL_EDITION_2 2
+#define ROZHINAL_EDITION_LATEST ROZHINAL_EDITION_2
+#define ROZHINAL_MAX_ITEMS_EDITION_1 1024
+#define ROZHINAL_MAX_ITEMS_EDITION_2 4096
+/* The most items of any edition. */
+#define ROZHINAL_MAX_ITEMS ROZHINAL_MAX_ITEMS_EDITION_2
+/* The edition that every version of the library takes. */
+#define ROZHINAL_EDITION ROZHINAL_EDITION_1
+/* The lowest edition for n items. Versions before 4.3.0 take edition 1 alone. */
+#define ROZHINAL_EDITION_FOR(n)                                                                  \
+    ((n) <= ROZHINAL_MAX_ITEMS_EDITION_1 ? ROZHINAL_EDITION_1 : ROZHINAL_EDITION_2)
+
 #define ROZHINAL_MAX_PARENTS 16
 #define ROZHINAL_MAX_LEVEL 64
 #define ROZHINAL_MAX_NAME 16
 #define ROZHINAL_MAX_BOARD 64
+
+/*
+ * The stack that no call exceeds, by the items of its sheet: see the head of this file. A thread
+ * that makes calls needs so much besides what its own functions take.
+ */
+#define ROZHINAL_STACK_BYTES_128 65536
+#define ROZHINAL_STACK_BYTES_1024 131072
+#define ROZHINAL_STACK_BYTES_4096 393216
+#define ROZHINAL_STACK_BYTES ROZHINAL_STACK_BYTES_4096
+#define ROZHINAL_STACK_BYTES_FOR(n)                                                              \
+    ((n) <= 128 ? ROZHINAL_STACK_BYTES_128                                                       \
+                : (n) <= 1024 ? ROZHINAL_STACK_BYTES_1024 : ROZHINAL_STACK_BYTES_4096)
+
+/*
+ * The day program refuses a sheet.bin of more bytes with 19, and reads no more of a day.bin. The
+ * functions know no such limit.
+ */
+#define ROZHINAL_MAX_DAY_BYTES 65536
 
 /* ---- The sheet ------------------------------------------------------------------------------- */
 
@@ -77,7 +117,8 @@ extern "C" {
  * are little-endian.
  *
  *   tag                   content
- *   ROZHINAL_TAG_HEAD     edition (2 bytes), item count n (2 bytes, 1 to ROZHINAL_MAX_ITEMS)
+ *   ROZHINAL_TAG_HEAD     edition (2 bytes, 1 or 2), item count n (2 bytes, 1 to 1,024 in edition 1
+ *                         and 1 to 4,096 in edition 2)
  *   then n items, numbered from 0, each one of
  *   ROZHINAL_TAG_ENTRY    name
  *   ROZHINAL_TAG_FIGURE   rule, keep, spread, parent count p (1 byte each), p parents (2 bytes
@@ -126,12 +167,26 @@ enum rozhinal_spread {
 };
 
 /*
+ * The most bytes of a sheet of n items that opens: the head, an entry, n - 1 figures of 16 parents
+ * and the end, all names of 16 bytes. That is 56,294 in edition 1, and 225,254 in edition 2.
+ */
+#define ROZHINAL_MAX_SHEET_BYTES(n)                                                              \
+    (7 + 3 + (size_t)ROZHINAL_MAX_NAME                                                           \
+     + ((size_t)(n) - 1) * (7 + 2 * ROZHINAL_MAX_PARENTS + ROZHINAL_MAX_NAME) + 3)
+
+/*
  * The item count n that the sheet states: bytes 5 and 6. It means something only if the sheet
  * opens; 0 for a sheet too short to state it. Use it to size index and table before an opening.
  */
 static inline size_t rozhinal_item_count(const uint8_t *sheet, size_t sheet_len)
 {
     return sheet_len < 7 ? 0 : (size_t)sheet[5] + 256 * (size_t)sheet[6];
+}
+
+/* The edition that the sheet states, bytes 3 and 4; 0 for a sheet too short to state it. */
+static inline unsigned rozhinal_edition(const uint8_t *sheet, size_t sheet_len)
+{
+    return sheet_len < 5 ? 0 : (unsigned)sheet[3] + 256 * (unsigned)sheet[4];
 }
 
 /* ---- Index and table ------------------------------------------------------------------------- */
@@ -189,7 +244,8 @@ enum rozhinal_refusal {
     ROZHINAL_REFUSED_FIELD = 1,  /* a field runs past the end, or is absent */
     ROZHINAL_REFUSED_TAG = 2,    /* a tag is wrong for its place, or bytes follow the last field */
     ROZHINAL_REFUSED_LENGTH = 3, /* a field's length or a name is wrong */
-    ROZHINAL_REFUSED_COUNT = 4,  /* the edition or the item count is wrong */
+    ROZHINAL_REFUSED_COUNT = 4,  /* the edition is neither 1 nor 2, or the item count is 0 or above
+                                    the edition's limit */
     ROZHINAL_REFUSED_RULE = 5,   /* rule, keep or spread, or the parent count for the rule */
     ROZHINAL_REFUSED_PARENT = 6, /* a parent is not an earlier item */
     ROZHINAL_REFUSED_LEVEL = 7,  /* a level above ROZHINAL_MAX_LEVEL */
@@ -212,7 +268,9 @@ enum rozhinal_refusal {
     ROZHINAL_REFUSED_LISTS = 17, /* items_len is odd or for over ROZHINAL_MAX_BOARD items, or
                                     results_len is not the size for so many items */
     /* faults of a swap; tested before 13 */
-    ROZHINAL_REFUSED_SWAP = 18 /* one entry on both sides, or a quantity under 1 */
+    ROZHINAL_REFUSED_SWAP = 18, /* one entry on both sides, or a quantity under 1 */
+    /* the day program's alone; no function gives it, and each takes longer sheets */
+    ROZHINAL_REFUSED_FILE = 19 /* sheet.bin is over ROZHINAL_MAX_DAY_BYTES */
 };
 
 /* The answer of a call. Accepted: number 0 and offset 0. */
@@ -373,8 +431,6 @@ rozhinal_answer rozhinal_close(const uint8_t *sheet, size_t sheet_len,
  * after it.
  */
 #define ROZHINAL_PRINT_BYTES 20
-/* stack that no call exceeds */
-#define ROZHINAL_STACK_BYTES 131072
 
 /*
  * Writes a value at the front of scratch: decimal digits, '-' before a negative number, "-" for
