@@ -44,8 +44,8 @@ module _ (s : List ℕ) (a b : ℕ) where
   measured-refused k at e = rw (checked.refusal s k at e)
 
   module _ (edition count : ℕ) (e : Opens edition count ≡ checkedOf (readSheet s)) where
-    pub count-most : count < 65_536
-    count-most = omega (arith, checked.opening s edition count e .count-is, Rattle.item.proofs.Located.size-most s)
+    pub count-small : count < 65_536
+    count-small = omega (arith, checked.opening s edition count e .count-is, Rattle.item.proofs.Located.size-most s)
 
     measured-opens : (w : Bool) → lengthsOff count a b ≡ w → itemsUnless (firstCause (test 8 w ∷ [])) count ≡ measuredOf s a b
     unfolding measuredOf

@@ -22,10 +22,6 @@ pub room-most : (s : List ℕ) → roomFor s ≤ mostItems
 unfolding roomFor
 room-most s = omega arith
 
-pub room-said : (s : List ℕ) → roomFor s ≤ countSaid s
-unfolding roomFor
-room-said s = omega arith
-
 -- the items that are read after a first field without a fault
 pub head-room : (s : List ℕ) → judge headTests s (cutAt s 0) ≡ 0 → countIn (headContent s) ≤ roomFor s
 unfolding roomFor

@@ -54,8 +54,8 @@ module _ (s : List ℕ) (tag start len next : ℕ) (cut : cutAt s 0 ≡ Field ta
     count-found : count ≡ countIn (headContent s)
     count-found = e₂ ∙ ap (λ k. le16At s (k + countAt)) (placed-at .0) ∙ sym (content16 s headerLength headLength countAt (omega arith))
 
-    pub count-most : count ≤ roomFor s
-    count-most = rw count-found (rooms.head-room s e)
+    pub count-room : count ≤ roomFor s
+    count-room = rw count-found (rooms.head-room s e)
 
     pub head-accepted : (r : Checked) (offsets offsets₀ levels levels₀ : List ℕ) → r ≡ checkedOf (conclude edition (scanLast s (scan s edition count)))
         → offsets ≡ over (offsetsOf (soundItems s edition count)) offsets₀ → levels ≡ over (levelsOf (soundItems s edition count)) levels₀

@@ -3,7 +3,7 @@ use native.Mathlib.Omega.{arith}
 use mathlib.Core.Path.{sym, _∙_}
 use borrow.Author.Needs.{needs}
 use Rattle.sheet.proofs.Located.{located}
-use Rattle.admission.proofs.Admitting.{count-most, measured-refused, measured-index, measured-table, measured-items}
+use Rattle.admission.proofs.Admitting.{count-small, measured-refused, measured-index, measured-table, measured-items}
 use Rattle.admission.proofs.measure.Statement.{statement}
 use Rattle.admission.proofs.measure.Tie as tie
 
@@ -13,7 +13,7 @@ mul-if1 c =
     let g = c .before .count .given in
     let k = c .before .before .before .before .before .before .before .check in
     let e = sym (g .1) ∙ k .ensures .0 in
-    omega (arith, count-most (a .sheet .now) (a .index-len) (a .table-len) (g .0 .0) (g .0 .1 .0) e)
+    omega (arith, count-small (a .sheet .now) (a .index-len) (a .table-len) (g .0 .0) (g .0 .1 .0) e)
 
 returns : tie.Need-returns
 returns c =
@@ -32,7 +32,7 @@ mul-if2 c =
     let g = c .before .before .count .given in
     let k = c .before .before .before .before .before .before .before .before .check in
     let e = sym (g .1) ∙ k .ensures .0 in
-    omega (arith, count-most (a .sheet .now) (a .index-len) (a .table-len) (g .0 .0) (g .0 .1 .0) e)
+    omega (arith, count-small (a .sheet .now) (a .index-len) (a .table-len) (g .0 .0) (g .0 .1 .0) e)
 
 returns-2 : tie.Need-returns-2
 returns-2 c =

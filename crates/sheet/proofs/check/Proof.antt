@@ -4,7 +4,7 @@ use mathlib.Core.Path.{sym, ap, _∙_}
 use Rattle.field.proofs.Cutting.{matched-field}
 use Rattle.layout.specs.Read.{headTests, judge}
 use Rattle.sheet.proofs.Fields.{missing}
-use Rattle.sheet.proofs.Whole.{head-refused, head-room, count-most, head-accepted}
+use Rattle.sheet.proofs.Whole.{head-refused, head-room, count-room, head-accepted}
 use borrow.Author.Needs.{needs}
 use Rattle.sheet.proofs.check.Statement.{statement}
 use Rattle.sheet.proofs.check.Tie as tie
@@ -61,7 +61,7 @@ check-items-requires c κs =
     let f = c .before .before .before .before .before .before .before .tag .given in
     let cut = sym (c .before .before .before .before .before .before .before .before .before .field-at .ensures) ∙ f .1 in
     let j = ap (judge headTests (a .s .now)) cut ∙ sym (c .before .before .before .before .before .head-cause .ensures) in
-    let m = count-most (a .s .now) (f .0 .0) (f .0 .1 .0) (f .0 .1 .1 .0) (f .0 .1 .1 .1 .0) cut (j ∙ c .before .before .before .before .if1 .left)
+    let m = count-room (a .s .now) (f .0 .0) (f .0 .1 .0) (f .0 .1 .1 .0) (f .0 .1 .1 .1 .0) cut (j ∙ c .before .before .before .before .if1 .left)
     (c .before .before .before .u16-at .result) (c .before .before .u16-at2 .result) (c .before .before .before .u16-at .ensures .0) (c .before .before .u16-at2 .ensures .0) in
     (omega arith, omega arith)
 
