@@ -1,7 +1,9 @@
 // The day program: reads a sheet and a day log from the files sheet.bin and day.bin, and prints the day's lines.
+ghost use mathlib.Core.Path.{_≡_};
+ghost use lib.ListN.{length};
 ghost use Rattle.io.specs.Counts.{Counts};
-ghost use Rattle.day_meaning.specs.Day.{runDay};
-ghost use Rattle.day_meaning.specs.Room.{DayLent, Shown};
+ghost use Rattle.day_meaning.specs.Day.{fileLimit, runDay};
+ghost use Rattle.day_meaning.specs.Room.{sheetRoom, DayLent, Shown};
 use day::FILE_LIMIT;
 use libc::STDOUT_FILENO;
 use limits::INDEX_WIDTH;
@@ -35,6 +37,19 @@ fn load(path: &[u8], bytes: &mut [u8]) -> usize
     n
 }
 
+// What is taken of the two files: the room for each is the definitions', so that a sheet over the limit is known and a log is cut there.
+fn load_sheet(bytes: &mut [u8; SHEET_ROOM]) -> usize
+    ensures { λ r. ⌜ Counts r (now (bytes .exit)) × (length (now (bytes .exit)) ≡ sheetRoom) ⌝ }
+{
+    load(b"sheet.bin", bytes)
+}
+
+fn load_log(bytes: &mut [u8; FILE_LIMIT]) -> usize
+    ensures { λ r. ⌜ Counts r (now (bytes .exit)) × (length (now (bytes .exit)) ≡ fileLimit) ⌝ }
+{
+    load(b"day.bin", bytes)
+}
+
 // Runs the day with lent bytes, which are enough for its whole text, and writes its lines to standard output.
 fn show_day(sheet: &[u8], log: &[u8], index: &mut [u8], table: &mut [u8], out: &mut [u8])
     requires { ⌜ DayLent (now sheet) (now log) (now index) (now table) (now out) ⌝ }
@@ -50,7 +65,7 @@ fn main() {
     let mut index = [0u8; INDEX_ROOM];
     let mut table = [0u8; TABLE_ROOM];
     let mut out = [0u8; OUTPUT_ROOM];
-    let s = load(b"sheet.bin", &mut sheet);
-    let d = load(b"day.bin", &mut log);
+    let s = load_sheet(&mut sheet);
+    let d = load_log(&mut log);
     show_day(&sheet[..s], &log[..d], &mut index, &mut table, &mut out);
 }
