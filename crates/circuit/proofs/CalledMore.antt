@@ -12,7 +12,7 @@ use lib.Dec.{eqb, ltb}
 use borrow.Author.Tests.{eqb-true, eqb-false, ltb-true, ltb-false}
 use Rattle.circuit.specs.Value.{Value, null, same}
 use Rattle.circuit.specs.Circuit.{Listed}
-use Rattle.circuit.specs.Sheet.{Sheet, Spread, defer, renew, forget, size, itemAt, keptOf, parents, spreadOf, isChild, evaluate, Ordered}
+use Rattle.circuit.specs.Sheet.{Sheet, Spread, defer, renew, size, itemAt, keptOf, parents, spreadOf, isChild, evaluate, Ordered}
 use Rattle.circuit.specs.Table.{Table, Cell, Mark, unmarked, refresh, notice, unk, held, upd, isStored, noticeIf, isMark, isMarked}
 use Rattle.circuit.specs.Owed.{owed, leans}
 use Rattle.circuit.specs.Machine.{Looked, gather, workOutBy, lookCell, lookUp, workOut, renewed, tellStored, tellCell, tellChild, tellIf, tellBelow, tell}
@@ -26,6 +26,7 @@ use Rattle.circuit.proofs.Closure.{member-listed, lowest-marked}
 use Rattle.circuit.proofs.Owed.{Within, stored-leans, false-before, parent-leans, within-refl, within-upd, within-owed, within-trans, work-within}
 use Rattle.circuit.proofs.CatchUp.{caught-unique, QuietBelow, none-quiet, some-quiet, lowest-some, catchUp-ascends, catchUp-still, catchUp-ends, lowest-none, ascended-quiet, stepMarked-below}
 use Rattle.circuit.proofs.CalledOn.{filled-stored, below-within, tell-unowed}
+use Rattle.circuit.proofs.StepOwed.{step-leant}
 
 unmarked-both : (f g : Bool) → (f ≡ true → g ≡ true) → isMark (noticeIf g) ≡ false → f ≡ g
 unmarked-both true g more e = sym (more refl)
@@ -206,7 +207,6 @@ module _ (S : Sheet) (ordered : Ordered S) where
   stored-near b T U c defer v refresh e near = near-upd b T U c _ _ refl (λ s. rw e) near
   stored-near b T U c defer v notice e near = renewed-near b T U c v notice _ e near
   stored-near b T U c renew v m e near = renewed-near b T U c v m _ e near
-  stored-near b T U c forget v m e near = near-upd b T U c _ _ refl (λ s. never (cc)) near
 
   -- a notice more in U
   near-more : (b : ℕ) (T U : Table) (c : ℕ) (f : Bool) → b ≤ c → c < size S → T c ≡ unk f → owed S T c ≡ false → Near b T U
@@ -379,29 +379,9 @@ module _ (S : Sheet) (ordered : Ordered S) where
           by false q = rw (clear-still U i q) (clear-next i T U near)
 
   -- a step leaves nothing leaning that did not
-  tell-within : (T : Table) (i : ℕ) → Within S T (clearMark (tell S T i) i)
-  unfolding tell clearMark
-  tell-within T i =
-      within-upd S T U i (clearCell (U i)) (λ s. below-within S ordered T i (size S) i (stored (U i) s)) (below-within S ordered T i (size S))
-    where
-      U : Table
-      U = tellBelow S i T (size S)
-
-      stored : (c : Cell) → isStored (clearCell c) ≡ true → isStored c ≡ true
-      stored (held v m) s = refl
-      stored (unk f) s = s
-
   step-within : (T : Table) (i : ℕ) → Within S T (stepMarked S T i)
-  step-within T i = rw (marked-cell T i) (go (T i) refl)
-    where
-      go : (c : Cell) → T i ≡ c → Within S T (stepCell S T i c)
-      go (unk true) e = tell-within T i
-      go (unk false) e = within-refl S T
-      go (held v unmarked) e = within-refl S T
-      go (held v refresh) e =
-          let leant : leans S T i ≡ true = rw e in
-          within-upd S T (workOut S T i .table) i _ (λ s. leant) (work-within S ordered T i leant T (within-refl S T))
-      go (held v notice) e = tell-within T i
+  unfolding stepItem
+  step-within T i = rw (marked-cell T i) (step-leant S ordered T i .within)
 
   ascended-within : (T : Table) (k : ℕ) → Within S T (ascendBelow S T k)
   unfolding ascendBelow

@@ -1,6 +1,6 @@
--- Which children telling calls on. In one telling, owed at a child is the same at the start and when the child is told (`told-owed`), so
+-- Which children telling calls on. In one telling, what is owed stays what it was at the start (`told-owed`), so
 -- that it may go by what was owed at its start (`tell-by`); where the item is not owed it tells nobody (`tell-unowed`); and it leaves nothing
--- leaning that did not (`below-within`). Assumes that the sheet is ordered.
+-- leaning that did not (`below-within`), and stored what was (`below-stored`). Assumes that the sheet is ordered.
 use Prim.Native.Nat.{ℕ, zero, suc, _<_, _≤_}
 use native.Mathlib.Omega.{arith}
 use mathlib.Core.Path.{_≡_, refl, sym, ap, _∙_}
@@ -13,7 +13,7 @@ use Rattle.circuit.specs.Owed.{owed}
 use Rattle.circuit.specs.Machine.{tellCell, tellChild, tellIf, tellBelow, tell}
 use Rattle.circuit.specs.Ascending.{tellChildBy, tellIfBy, tellBelowBy, tellWhere, tellBy}
 use Rattle.circuit.proofs.View.{never}
-use Rattle.circuit.proofs.Fill.{upd-other, Filling, stays, fills}
+use Rattle.circuit.proofs.Fill.{upd-cases, Filling, stays, fills}
 use Rattle.circuit.proofs.Closure.{member-listed}
 use Rattle.circuit.proofs.Owed.{Within, stored-leans, owed-child, owed-same, within-refl, within-upd, within-trans}
 use Rattle.circuit.proofs.Tell.{TellsOne, tells-one}
@@ -27,16 +27,14 @@ module _ (S : Sheet) (ordered : Ordered S) where
   -- ---- one telling
 
   -- telling a child leaves nothing leaning that did not
-  child-within : (T : Table) (c : ℕ) → Within S T (tellChild S T c)
-  child-within T c =
-      let one : TellsOne S T c (tellChild S T c) = tells-one S ordered T c in
-      rw (one .after) (within-upd S T (one .between) c (one .cell) (one .leant) (one .within))
+  pub one-within : (T U : Table) (c : ℕ) → TellsOne S T c U → Within S T U
+  one-within T U c one = rw (one .after) (within-upd S T (one .between) c (one .cell) (one .leant) (one .within))
 
-  -- and leaves stored what was, elsewhere
-  child-stored : (T : Table) (c j : ℕ) → (j ≡ c → ⊥) → isStored (T j) ≡ true → isStored (tellChild S T c j) ≡ true
-  child-stored T c j n s =
-      let one : TellsOne S T c (tellChild S T c) = tells-one S ordered T c in
-      rw (one .after, upd-other (one .between) c (one .cell) j n) (filled-stored (one .fill j) s)
+  -- and leaves stored what was
+  pub one-stored : (T U : Table) (c : ℕ) → TellsOne S T c U → (j : ℕ) → isStored (T j) ≡ true → isStored (U j) ≡ true
+  one-stored T U c one =
+      rw (one .after)
+      (upd-cases (λ j x. isStored (T j) ≡ true → isStored x ≡ true) (one .between) c (one .cell) (one .stored) (λ j n. filled-stored (one .fill j)))
 
   pub below-within : (T : Table) (i k : ℕ) → Within S T (tellBelow S i T k)
   unfolding tellBelow
@@ -47,27 +45,26 @@ module _ (S : Sheet) (ordered : Ordered S) where
       U = tellBelow S i T k
 
       go : (b : Bool) → Within S T U → Within S T (tellIf b S U k)
-      go true h = within-trans S ordered T U (tellChild S U k) h (child-within U k)
+      go true h = within-trans S ordered T U (tellChild S U k) h (one-within U (tellChild S U k) k (tells-one S ordered U k))
       go false h = h
 
-  below-stored : (T : Table) (i k j : ℕ) → k ≤ j → isStored (T j) ≡ true → isStored (tellBelow S i T k j) ≡ true
+  pub below-stored : (T : Table) (i k j : ℕ) → isStored (T j) ≡ true → isStored (tellBelow S i T k j) ≡ true
   unfolding tellBelow
-  below-stored T i zero j l s = s
-  below-stored T i (suc k) j l s = go (isChild S i k) (below-stored T i k j (omega arith) s)
+  below-stored T i zero j s = s
+  below-stored T i (suc k) j s = go (isChild S i k) (below-stored T i k j s)
     where
       U : Table
       U = tellBelow S i T k
 
       go : (b : Bool) → isStored (U j) ≡ true → isStored (tellIf b S U k j) ≡ true
-      go true h = child-stored U k j (λ e. omega arith) h
+      go true h = one-stored U (tellChild S U k) k (tells-one S ordered U k) j h
       go false h = h
 
-  -- owed at k when it is told
-  pub told-owed : (T : Table) (i k : ℕ) → owed S (tellBelow S i T k) k ≡ owed S T k
-  told-owed T i k =
+  -- what is owed while the children are told
+  pub told-owed : (T : Table) (i k j : ℕ) → owed S (tellBelow S i T k) j ≡ owed S T j
+  told-owed T i k j =
       let U : Table = tellBelow S i T k in
-      sym (owed-same S ordered T U k (λ j l s. below-within T i k j s)
-      (λ j l s. stored-leans (U j) (owed S U j) (below-stored T i k j (omega arith) s)))
+      sym (owed-same S ordered T U (below-within T i k) (λ l s. stored-leans (U l) (owed S U l) (below-stored T i k l s)) j)
 
   below-by : (T : Table) (i k : ℕ) → tellBelowBy (owed S T) S i T k ≡ tellBelow S i T k
   unfolding tellBelow tellBelowBy tellChild tellChildBy
@@ -78,7 +75,7 @@ module _ (S : Sheet) (ordered : Ordered S) where
       U = tellBelow S i T k
 
       go : (b : Bool) → tellIfBy b (owed S T k) S U k ≡ tellIf b S U k
-      go true = ap (λ o. tellCell o S U k (U k)) (sym (told-owed T i k))
+      go true = ap (λ o. tellCell o S U k (U k)) (sym (told-owed T i k k))
       go false = refl
 
   -- where i is not owed, nobody is told

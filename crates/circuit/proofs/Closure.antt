@@ -12,7 +12,7 @@ use lib.ListN.{List·getD-eq-default}
 use borrow.Author.Tests.{eqb-true, eq-eqb, ltb-true, ltb-false}
 use Rattle.circuit.specs.Value.{Value, same}
 use Rattle.circuit.specs.Circuit.{Listed}
-use Rattle.circuit.specs.Sheet.{Sheet, entry, Spread, defer, renew, forget, size, itemAt, parents, spreadOf, isChild, member}
+use Rattle.circuit.specs.Sheet.{Sheet, entry, Spread, defer, renew, size, itemAt, parents, spreadOf, isChild, member}
 use Rattle.circuit.specs.Table.{Table, Cell, Mark, unmarked, refresh, notice, unk, held, upd, isMarked}
 use Rattle.circuit.specs.Owed.{owed}
 use Rattle.circuit.specs.Machine.{workOut, tellChild, tellCell, tellStored, tellIf, tellBelow, tell, clearMark, stepItem, stepCell, renewed}
@@ -81,7 +81,6 @@ module _ (S : Sheet) (Here : ℕ → Type 0) (P : Table → Type 0) (closed : Cl
   tellStored-closed defer T c v refresh low here h = closed .stores T c _ here h
   tellStored-closed defer T c v notice low here h = renewed-closed T c v notice low here h
   tellStored-closed renew T c v m low here h = renewed-closed T c v _ low here h
-  tellStored-closed forget T c v m low here h = closed .stores T c _ here h
 
   pub tellChild-closed : (T : Table) (c : ℕ) → c < size S → Here c → P T → P (tellChild S T c)
   unfolding tellChild

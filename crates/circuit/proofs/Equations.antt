@@ -25,6 +25,7 @@ use Rattle.circuit.proofs.Closing.{close-above, close-works}
 use Rattle.circuit.proofs.Closure.{lowest-marked, listed-member, member-listed}
 use Rattle.circuit.proofs.Owed.{Child, stored-leans, leaning-cases, cases-leaning, owed-child, owed-finds, owed-unique, owed-leads, leads-owed}
 use Rattle.circuit.proofs.CalledOn.{told-owed, tell-unowed}
+use Rattle.circuit.proofs.StepOwed.{step-owed, caught-owed}
 use Rattle.circuit.proofs.CalledMore.{reached-by, caught-by}
 use Rattle.circuit.proofs.RuleLaws.{same-true, same-refl, allNull-map, all-null, out-gives-out, choice-out, choice-null, choice-picks}
 use Rattle.circuit.proofs.CatchUp.{caught-unique, lowest-none, lowest-some, none-quiet, some-quiet, catchUp-quiet, catchUp-ends}
@@ -82,7 +83,6 @@ module _ (S : Sheet) (T : Table) (c : ℕ) where
       record {
         calls-on = λ f e o. rw (o, e);
         passes-over = λ f e o. rw (o, e);
-        forgets = λ v m e s. ap (tellCell (owed S T c) S T c) e ∙ ap (λ x. tellStored x S T c v m) s;
         defers = λ v m e s n. ap (tellCell (owed S T c) S T c) e ∙ ap (λ x. tellStored x S T c v m) s ∙ deferred v m n;
         renews = λ v m e how. renewal v m (ap (tellCell (owed S T c) S T c) e ∙ by v m how);
       }
@@ -117,6 +117,8 @@ owing S ordered T =
       leads = λ i. (owed-leads S ordered T i, λ k. leads-owed S ordered T i (k .0) (k .1 .0) (stored-leans (T (k .0)) (owed S T (k .0)) (k .1 .1)));
       when-told = told-owed S ordered T;
       none-called = tell-unowed S ordered T;
+      stepped = step-owed S ordered T;
+      caught-up = caught-owed S ordered T;
     }
 
 telling : (S : Sheet) (i : ℕ) (T : Table) → Telling S i T

@@ -71,6 +71,14 @@ pub kept-figure : (it : Item) → keptOf it ≡ true → isFigure it ≡ true
 kept-figure entry e = cc
 kept-figure (figure op k s ps) e = refl
 
+-- look-ups that agree on the items of a list
+pub gather-ext : (look find : Table → ℕ → Looked) (ps : List ℕ) → ((T : Table) (p : ℕ) → Listed p ps → look T p ≡ find T p)
+    → (T : Table) → gather look T ps ≡ gather find T ps
+unfolding gather
+gather-ext look find [] h T = refl
+gather-ext look find (p ∷ ps) h T =
+    rw (h T p (inl refl), gather-ext look find ps (λ U q l. h U q (inr l)) (find T p .table))
+
 module _ (S : Sheet) (ordered : Ordered S) where
   -- a fill changes no view
   pub fill-view : (T U : Table) → Fill S T U → (i : ℕ) → view S U i ≡ view S T i
@@ -202,13 +210,6 @@ module _ (S : Sheet) (ordered : Ordered S) where
           store-fill T (lookUp S T i .table) i f (held (lookUp S T i .value) (noticeIf (lookUp S T i .flag))) k e (rw (r .value, r .flag)) (r .fill)
 
   -- the bound on the depth plays no part
-  gather-ext : (look find : Table → ℕ → Looked) (ps : List ℕ) → ((T : Table) (p : ℕ) → Listed p ps → look T p ≡ find T p)
-      → (T : Table) → gather look T ps ≡ gather find T ps
-  unfolding gather
-  gather-ext look find [] h T = refl
-  gather-ext look find (p ∷ ps) h T =
-      rw (h T p (inl refl), gather-ext look find ps (λ U q l. h U q (inr l)) (find T p .table))
-
   lookCell-ext : (look find : Table → ℕ → Looked) (T : Table) (i : ℕ) (c : Cell)
       → ((U : Table) (p : ℕ) → p < i → look U p ≡ find U p) → lookCell look S T i c ≡ lookCell find S T i c
   unfolding workOutBy

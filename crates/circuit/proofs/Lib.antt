@@ -15,9 +15,11 @@ pub mod Accepted
 pub mod Postings
 pub mod Swaps
 pub mod Invariant
+pub mod Spreads
 pub mod Tell
 pub mod CatchUp
 pub mod CalledOn
+pub mod StepOwed
 pub mod CalledMore
 pub mod Equations
 pub mod Memo

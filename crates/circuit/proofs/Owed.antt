@@ -1,6 +1,6 @@
 -- What owed is: its equation without the bound (`owed-child`, `owed-finds`), that it alone solves it (`owed-unique`), and that an item is
--- owed exactly if it leads to some stored item (`owed-leads`, `leads-owed`). Owed at an item depends on the stored items above it only, and
--- one law compares two tables (`leans-within`): if what is stored in U leans in T, then what leans in U leans in T. A look-up for an item
+-- owed exactly if it leads to some stored item (`owed-leads`, `leads-owed`). Owed follows from what is stored, and one law compares two tables
+-- (`within-leans`): if what is stored in U leans in T, then what leans in U leans in T. A look-up for an item
 -- that leans stores only items that lean already (`look-within`), so that it changes no owed (`within-owed`). Assumes that the sheet is
 -- ordered, where it says so.
 use Prim.Native.Nat.{ℕ, zero, suc, _<_, _≤_, _+_}
@@ -197,42 +197,35 @@ module _ (S : Sheet) (ordered : Ordered S) where
           let both = both-true (isChild S i (r .number)) _ (r .passes) in
           owed-child T i (r .number) (member-listed i (parents S (r .number)) (both .0)) (both .1)
 
-  -- If what is stored in U, from k on, leans in T, then what leans in U, from k on, leans in T.
-  pub leans-within : (T U : Table) (k : ℕ) → ((j : ℕ) → k ≤ j → isStored (U j) ≡ true → leans S T j ≡ true)
-      → (j : ℕ) → k ≤ j → leans S U j ≡ true → leans S T j ≡ true
-  leans-within T U k within = descend (size S) (λ j. k ≤ j → leans S U j ≡ true → leans S T j ≡ true) rise
+  -- If what is stored in U leans in T, then what leans in U leans in T,
+  pub within-leans : (T U : Table) → Within S T U → (j : ℕ) → leans S U j ≡ true → leans S T j ≡ true
+  within-leans T U within = descend (size S) (λ j. leans S U j ≡ true → leans S T j ≡ true) rise
     where
-      rise : (j : ℕ) → ((c : ℕ) → j < c → c < size S → k ≤ c → leans S U c ≡ true → leans S T c ≡ true)
-          → k ≤ j → leans S U j ≡ true → leans S T j ≡ true
-      rise j higher l e = go (leaning-cases (U j) (owed S U j) e)
+      rise : (j : ℕ) → ((c : ℕ) → j < c → c < size S → leans S U c ≡ true → leans S T c ≡ true) → leans S U j ≡ true → leans S T j ≡ true
+      rise j higher e = go (leaning-cases (U j) (owed S U j) e)
         where
           go : (isStored (U j) ≡ true) ⊎ ((isStored (U j) ≡ false) × (owed S U j ≡ true)) → leans S T j ≡ true
-          go (inl stored) = within j l stored
+          go (inl stored) = within j stored
           go (inr (n, o)) =
               let c : Child S U j = owed-finds U j o in
-              let above : j < c .item = ordered (c .item) j (c .listed) in
               let leant : leans S T (c .item) ≡ true
-              = higher (c .item) above (parent-within S j (c .item) (c .listed)) (omega (arith, above)) (c .leans-on) in
+              = higher (c .item) (ordered (c .item) j (c .listed)) (parent-within S j (c .item) (c .listed)) (c .leans-on) in
               owed-leaning (T j) (owed S T j) (owed-child T j (c .item) (c .listed) leant)
 
-  -- and what is owed in U, from k on, is owed in T
-  pub owed-within : (T U : Table) (k : ℕ) → ((j : ℕ) → k ≤ j → isStored (U j) ≡ true → leans S T j ≡ true)
-      → (i : ℕ) → k ≤ suc i → owed S U i ≡ true → owed S T i ≡ true
-  owed-within T U k within i l e =
+  -- and what is owed in U is owed in T
+  pub within-owed : (T U : Table) → Within S T U → (i : ℕ) → owed S U i ≡ true → owed S T i ≡ true
+  within-owed T U within i e =
       let c : Child S U i = owed-finds U i e in
-      owed-child T i (c .item) (c .listed)
-      (leans-within T U k within (c .item) (omega (arith, ordered (c .item) i (c .listed))) (c .leans-on))
+      owed-child T i (c .item) (c .listed) (within-leans T U within (c .item) (c .leans-on))
 
-  -- owed is the same at i if, above i, what is stored in either leans in the other
-  pub owed-same : (T U : Table) (i : ℕ) → ((j : ℕ) → i < j → isStored (U j) ≡ true → leans S T j ≡ true)
-      → ((j : ℕ) → i < j → isStored (T j) ≡ true → leans S U j ≡ true) → owed S T i ≡ owed S U i
-  owed-same T U i left right =
-      true-both (owed S T i) (owed S U i) (owed-within U T (suc i) right i (omega arith)) (owed-within T U (suc i) left i (omega arith))
+  -- owed is the same if what is stored in either leans in the other
+  pub owed-same : (T U : Table) → Within S T U → Within S U T → (i : ℕ) → owed S T i ≡ owed S U i
+  owed-same T U left right i = true-both (owed S T i) (owed S U i) (within-owed U T right i) (within-owed T U left i)
 
   -- it follows from what is stored
   pub owed-stored : (T U : Table) → ((j : ℕ) → isStored (T j) ≡ isStored (U j)) → (i : ℕ) → owed S T i ≡ owed S U i
   owed-stored T U same i =
-      owed-same T U i (λ j l e. stored-leans (T j) (owed S T j) (same j ∙ e)) (λ j l e. stored-leans (U j) (owed S U j) (sym (same j) ∙ e))
+      owed-same T U (λ j e. stored-leans (T j) (owed S T j) (same j ∙ e)) (λ j e. stored-leans (U j) (owed S U j) (sym (same j) ∙ e)) i
 
   -- owed alone solves its equation
   pub owed-unique : (T : Table) (w : ℕ → Bool) → ((i c : ℕ) → Listed i (parents S c) → leaning (T c) (w c) ≡ true → w i ≡ true)
@@ -282,12 +275,6 @@ module _ (S : Sheet) (ordered : Ordered S) where
   pub leads-owed : (T : Table) (i k : ℕ) → LeadsTo (circuitOf S) i k → leans S T k ≡ true → owed S T i ≡ true
   leads-owed T i k (direct l) e = owed-child T i k l e
   leads-owed T i k (further {b} p l) e = leads-owed T i b p (owed-leaning (T b) (owed S T b) (owed-child T b k l e))
-
-  pub within-leans : (T U : Table) → Within S T U → (j : ℕ) → leans S U j ≡ true → leans S T j ≡ true
-  within-leans T U within j e = leans-within T U 0 (λ k l s. within k s) j (omega arith) e
-
-  pub within-owed : (T U : Table) → Within S T U → (i : ℕ) → owed S U i ≡ true → owed S T i ≡ true
-  within-owed T U within i e = owed-within T U 0 (λ j l s. within j s) i (omega arith) e
 
   pub within-trans : (T U X : Table) → Within S T U → Within S U X → Within S T X
   within-trans T U X first second j e = within-leans T U first j (second j e)

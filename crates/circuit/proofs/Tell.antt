@@ -11,7 +11,7 @@ use lib.Dec.{eqb}
 use borrow.Author.Tests.{eqb-true, eqb-false}
 use Rattle.circuit.specs.Value.{Value, null, same}
 use Rattle.circuit.specs.Circuit.{Listed}
-use Rattle.circuit.specs.Sheet.{Sheet, Item, Spread, defer, renew, forget, size, itemAt, parentsOf, parents, spreadOf, isChild, evaluate, Ordered}
+use Rattle.circuit.specs.Sheet.{Sheet, Item, Spread, defer, renew, size, itemAt, parentsOf, parents, spreadOf, isChild, evaluate, Ordered}
 use Rattle.circuit.specs.Table.{Table, Cell, Mark, unmarked, refresh, notice, unk, held, upd, isStored, isNotice, noticeIf, markOf}
 use Rattle.circuit.specs.Owed.{owed, leans}
 use Rattle.circuit.specs.Machine.{Looked, workOut, renewed, refreshCleared, tellStored, tellCell, tellChild, tellIf, tellBelow, tell, clearCell, clearMark, stepCell, stepItem}
@@ -30,7 +30,7 @@ pub data Told (S : Sheet) (T : Table) (c : ℕ) (x : Cell) : Type 0 where
   current : (v : Value) (m : Mark) → x ≡ held v m → v ≡ result S T c .value → Told S T c x
   passed : isStored x ≡ false → owed S T c ≡ false → Told S T c x
 
--- A telling of one child: a fill, and then a store of a told cell. What it stores leaned already.
+-- A telling of one child: a fill, and then a store of a told cell. What it stores leaned already, and what was stored stays stored.
 pub record TellsOne (S : Sheet) (T : Table) (c : ℕ) (U : Table) : Type 0 where
   pub between : Table
   pub cell : Cell
@@ -39,6 +39,7 @@ pub record TellsOne (S : Sheet) (T : Table) (c : ℕ) (U : Table) : Type 0 where
   pub told : Told S T c cell
   pub within : Within S T between
   pub leant : isStored cell ≡ true → leans S T c ≡ true
+  pub stored : isStored (T c) ≡ true → isStored cell ≡ true
   pub after : U ≡ upd between c cell
 
 cleared-notice : (m : Mark) → isNotice (refreshCleared m) ≡ isNotice m
@@ -47,7 +48,7 @@ cleared-notice refresh = refl
 cleared-notice notice = refl
 
 module _ (S : Sheet) (ordered : Ordered S) where
-  renews-one : (T : Table) (c : ℕ) (v : Value) (m n : Mark) → T c ≡ held v m → isNotice n ≡ isNotice m
+  pub renews-one : (T : Table) (c : ℕ) (v : Value) (m n : Mark) → T c ≡ held v m → isNotice n ≡ isNotice m
       → TellsOne S T c (renewed c v n (workOut S T c))
   renews-one T c v m n e q =
       record {
@@ -58,6 +59,7 @@ module _ (S : Sheet) (ordered : Ordered S) where
         told = go (same v (r .value)) refl;
         within = work-within S ordered T c leant T (within-refl S T);
         leant = λ s. leant;
+        stored = λ s. either (same v (r .value));
         after = refl;
       }
     where
@@ -69,6 +71,10 @@ module _ (S : Sheet) (ordered : Ordered S) where
 
       right : Looks S T (result S T c) r
       right = work-right S ordered T c
+
+      either : (b : Bool) → isStored (cond b (held v n) (held (r .value) notice)) ≡ true
+      either true = refl
+      either false = refl
 
       go : (b : Bool) → same v (r .value) ≡ b → Told S T c (cond b (held v n) (held (r .value) notice))
       go true h = current v n refl (same-true v (r .value) h ∙ right .value)
@@ -85,11 +91,12 @@ module _ (S : Sheet) (ordered : Ordered S) where
         told = refreshed v refl;
         within = within-refl S T;
         leant = λ s. rw e;
+        stored = λ s. refl;
         after = refl;
       }
 
-  notices-one : (T : Table) (c : ℕ) → TellsOne S T c (upd T c (unk true))
-  notices-one T c =
+  notices-one : (T : Table) (c : ℕ) (f : Bool) → T c ≡ unk f → TellsOne S T c (upd T c (unk true))
+  notices-one T c f e =
       record {
         between = T;
         cell = unk true;
@@ -98,6 +105,7 @@ module _ (S : Sheet) (ordered : Ordered S) where
         told = waiting refl;
         within = within-refl S T;
         leant = λ s. never (cc);
+        stored = λ s. rw e at s;
         after = refl;
       }
 
@@ -111,6 +119,7 @@ module _ (S : Sheet) (ordered : Ordered S) where
         told = passed (rw e) o;
         within = within-refl S T;
         leant = λ s. stored-leans (T c) (owed S T c) s;
+        stored = λ s. s;
         after = upd-self T c;
       }
 
@@ -123,10 +132,9 @@ module _ (S : Sheet) (ordered : Ordered S) where
       by defer v refresh e = defers-one T c v refresh e refl
       by defer v notice e = renews-one T c v notice notice e refl
       by renew v m e = renews-one T c v m (refreshCleared m) e (cleared-notice m)
-      by forget v m e = notices-one T c
 
       go : (b : Bool) (x : Cell) → owed S T c ≡ b → T c ≡ x → TellsOne S T c (tellCell b S T c x)
-      go true (unk f) o e = notices-one T c
+      go true (unk f) o e = notices-one T c f e
       go false (unk f) o e = passes-one T c f e o
       go b (held v m) o e = by (spreadOf (itemAt S c)) v m e
 

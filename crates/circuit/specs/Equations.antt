@@ -12,10 +12,10 @@ use lib.IntN.{ℤ, pos}
 use lib.Signed.{ltZ}
 use Rattle.circuit.specs.Value.{Value, null, out, num}
 use Rattle.circuit.specs.Rules.{Operation, sum, choice, apply}
-use Rattle.circuit.specs.Sheet.{Sheet, Item, Spread, defer, renew, forget, entry, figure, size, itemAt, parents, keptOf, spreadOf, Ordered, Entries, circuitOf}
+use Rattle.circuit.specs.Sheet.{Sheet, Item, Spread, defer, renew, entry, figure, size, itemAt, parents, keptOf, spreadOf, Ordered, Entries, circuitOf}
 use Rattle.circuit.specs.Table.{Table, Cell, Mark, unmarked, refresh, notice, unk, held, upd, isStored, valueIn, isNotice, noticeIf, isMarked}
 use Rattle.circuit.specs.Owed.{owed}
-use Rattle.circuit.specs.Machine.{Looked, looked, Gathered, gathered, gather, lookUp, workOut, refreshCleared, tellChild, tellBelow, tell, lowestMarked, catchUp}
+use Rattle.circuit.specs.Machine.{Looked, looked, Gathered, gathered, gather, lookUp, workOut, refreshCleared, tellChild, tellBelow, tell, stepItem, lowestMarked, catchUp}
 use Rattle.circuit.specs.Closing.{closeBelow, closeAll}
 use Rattle.circuit.specs.Circuit.{Listed, LeadsTo}
 use Rattle.circuit.specs.Fresh.{give, freshAsk}
@@ -92,18 +92,19 @@ pub record Owing (S : Sheet) (T : Table) : Type 0 where
   pub only : (w : ℕ → Bool) → ((i : ℕ) → (w i ≡ true) ↔ SomeChild w S T i) → (i : ℕ) → w i ≡ owed S T i
   -- an item is owed exactly if it leads to one that is stored
   pub leads : (i : ℕ) → (owed S T i ≡ true) ↔ ((k : ℕ) × (LeadsTo (circuitOf S) i k × (isStored (T k) ≡ true)))
-  -- Telling goes by the table as it then is; a child that is told is owed then exactly if it was at the start.
-  pub when-told : (i k : ℕ) → owed S (tellBelow S i T k) k ≡ owed S T k
+  -- Telling goes by the table as it then is; what is owed then is what was at the start.
+  pub when-told : (i k j : ℕ) → owed S (tellBelow S i T k) j ≡ owed S T j
   -- where i is not owed, telling changes nothing
   pub none-called : (i : ℕ) → owed S T i ≡ false → tell S T i ≡ T
+  -- A step changes nothing of what is owed, nor does catching up: what they store was owed already, and nothing that is stored is dropped.
+  pub stepped : (i k : ℕ) → owed S (stepItem S T i) k ≡ owed S T k
+  pub caught-up : (k : ℕ) → owed S (catchUp S T) k ≡ owed S T k
 
 -- 01's "telling" a child c, with 02's job 5, by its cell and its spread; `r` is what working it out gives.
 pub record TellingChild (S : Sheet) (T : Table) (c : ℕ) : Type 0 where
   -- An UNK child gets notice if it is owed, and is passed over if it is not.
   pub calls-on : (f : Bool) → T c ≡ unk f → owed S T c ≡ true → tellChild S T c ≡ upd T c (unk true)
   pub passes-over : (f : Bool) → T c ≡ unk f → owed S T c ≡ false → tellChild S T c ≡ T
-  -- Forget makes it UNK with notice.
-  pub forgets : (v : Value) (m : Mark) → T c ≡ held v m → spreadOf (itemAt S c) ≡ forget → tellChild S T c ≡ upd T c (unk true)
   -- Defer sets refresh, unless its mark is notice, when it acts as renew.
   pub defers : (v : Value) (m : Mark) → T c ≡ held v m → spreadOf (itemAt S c) ≡ defer → isNotice m ≡ false
       → tellChild S T c ≡ upd T c (held v refresh)

@@ -6,7 +6,7 @@ use mathlib.Core.Bool.{Bool, true, false, cond, _||_}
 use mathlib.Core.List.{List, [], _∷_}
 use mathlib.Core.Option.{Option, none, some}
 use Rattle.circuit.specs.Value.{Value, null, same}
-use Rattle.circuit.specs.Sheet.{Sheet, Item, Spread, defer, renew, forget, size, itemAt, parents, keptOf, spreadOf, isChild, evaluate}
+use Rattle.circuit.specs.Sheet.{Sheet, Item, Spread, defer, renew, size, itemAt, parents, keptOf, spreadOf, isChild, evaluate}
 use Rattle.circuit.specs.Table.{Table, Cell, Mark, unmarked, refresh, notice, unk, held, upd, isNotice, noticeIf, isMarked}
 use Rattle.circuit.specs.Owed.{owed}
 
@@ -127,7 +127,6 @@ deferChild S T c v notice = renewChild S T c v notice
 abbrev pub tellStored : Spread → Sheet → Table → ℕ → Value → Mark → Table
 tellStored defer S T c v m = deferChild S T c v m
 tellStored renew S T c v m = renewChild S T c v m
-tellStored forget S T c v m = upd T c (unk true)
 
 -- an UNK child that is called on gets notice; another is passed over
 abbrev pub tellUnk : Bool → Table → ℕ → Table

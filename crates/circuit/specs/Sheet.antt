@@ -10,7 +10,7 @@ use Rattle.circuit.specs.Circuit.{Circuit, Listed}
 
 -- what a stored figure does when a parent's change is told
 pub data Spread : Type 0 where
-  defer renew forget : Spread
+  defer renew : Spread
 
 pub data Item : Type 0 where
   entry : Item

@@ -1,13 +1,15 @@
--- Words of 01's "Two offices" (no mark stands, dropped, accepted) and of catching up (stepping until none is marked), and what a
--- table's entries hold. Assumes nothing.
+-- Words of 01's "Two offices" (no mark stands, dropped, accepted) and of catching up (stepping until none is marked), what a table's
+-- entries hold, and the invariant. Assumes nothing.
 use Prim.Native.Nat.{ℕ, _<_}
 use mathlib.Core.Path.{_≡_}
 use mathlib.Core.Bool.{Bool, true, false, _||_}
+use mathlib.Core.Logic.{_⊎_}
 use mathlib.Core.List.{List, [], _∷_}
 use mathlib.Core.Option.{none, some}
+use Rattle.circuit.specs.Value.{Value}
 use Rattle.circuit.specs.Sheet.{Sheet, Entries, size, itemAt, isFigure}
-use Rattle.circuit.specs.Table.{Table, isStored, isMarked, cellForm, valueIn}
-use Rattle.circuit.specs.Machine.{stepItem, lowestMarked}
+use Rattle.circuit.specs.Table.{Table, Mark, refresh, held, isStored, isMarked, cellForm, valueIn}
+use Rattle.circuit.specs.Machine.{workOut, stepItem, lowestMarked}
 use Rattle.circuit.specs.Ascending.{stepBy}
 use Rattle.circuit.specs.Call.{Call}
 use Rattle.circuit.specs.Calls.{perform, drops}
@@ -33,6 +35,12 @@ pub data CaughtUpBy (w : ℕ → Bool) (S : Sheet) : Table → Table → Type 0 
 -- the entries of the table hold E
 abbrev pub Holds : Sheet → Table → Entries → Type 0
 Holds S T E = (i : ℕ) → i < size S → isFigure (itemAt S i) ≡ false → valueIn (T i) ≡ E i
+
+-- The invariant of a table: what a stored figure holds is what working it out gives, or is to be refreshed, or working it out is flagged.
+abbrev pub Coherent : Sheet → Table → Type 0
+Coherent S T =
+    (k : ℕ) → isFigure (itemAt S k) ≡ true → (v : Value) (m : Mark) → T k ≡ held v m
+    → (workOut S T k .value ≡ v) ⊎ (m ≡ refresh) ⊎ (workOut S T k .flag ≡ true)
 
 -- no figure is stored
 abbrev pub Bare : Sheet → Table → Type 0

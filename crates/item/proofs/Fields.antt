@@ -12,7 +12,7 @@ use lib.Seq.{getD-take, getD-drop, getD-at}
 use borrow.Author.Tests.{eqb-true, eqb-false, eq-eqb, ne-eqb}
 use Rattle.field.specs.Field.{lenAt, le16At, le16, headerLength}
 use Rattle.circuit.specs.Rules.{Operation, operationOf, countAllowed, coded, allowed}
-use Rattle.circuit.specs.Sheet.{entry, figure, isFigure, parentsOf, keptOf, spreadOf, defer, renew, forget}
+use Rattle.circuit.specs.Sheet.{entry, figure, isFigure, parentsOf, keptOf, spreadOf, defer, renew}
 use Rattle.layout.specs.Layout.{figureTag, machineItem, spreadMeant, operationOr, ruleAt, keepAt, spreadAt, parentCountAt, parentsAt, parentWidth, parentAt}
 use Rattle.layout.specs.Content.{itemIn, parentIn, parentsIn}
 use Rattle.layout.proofs.Scan.{allowed-operation}
@@ -49,17 +49,13 @@ operation-takes rule n op e = code (coded rule) e
     code (some o) h = counted o (countAllowed o n) refl h
 
 -- The spread that a byte means.
-pub meant-defer : (b : ℕ) → b ≡ 0 → defer ≡ spreadMeant b
-unfolding spreadMeant
-meant-defer b e = rw (eq-eqb b 0 e)
-
 pub meant-renew : (b : ℕ) → b ≡ 1 → renew ≡ spreadMeant b
 unfolding spreadMeant
 meant-renew b e = rw (e)
 
-pub meant-forget : (b : ℕ) → (b ≡ 0 → ⊥) → (b ≡ 1 → ⊥) → forget ≡ spreadMeant b
+pub meant-defer : (b : ℕ) → (b ≡ 1 → ⊥) → defer ≡ spreadMeant b
 unfolding spreadMeant
-meant-forget b n m = rw (ne-eqb b 0 n, ne-eqb b 1 m)
+meant-defer b n = rw (ne-eqb b 1 n)
 
 module _ (s : List ℕ) (at : ℕ) where
   -- a byte of the content is one of the sheet

@@ -17,7 +17,7 @@ use Rattle.value.specs.declared.Value.{Value}
 use Rattle.rules.specs.Operations.{operationMeaning, allows}
 use Rattle.rules.specs.declared.Operation.{Operation}
 use Rattle.item.specs.declared.Spread.{Spread}
-use Rattle.item.specs.declared.Spread.the-variants.{Defer, Renew, Forget}
+use Rattle.item.specs.declared.Spread.the-variants.{Defer, Renew}
 
 -- the content of the field at an offset: as many bytes as the two after its tag say
 abbrev pub fieldContent : List ℕ → ℕ → List ℕ
@@ -54,7 +54,6 @@ pub record ItemField (s : List ℕ) (at : ℕ) : Type 0 where
 abbrev pub spreadMeaning : Spread → circuit.Spread
 spreadMeaning Defer = circuit.defer
 spreadMeaning Renew = circuit.renew
-spreadMeaning Forget = circuit.forget
 
 -- an item's operation; an entry has none
 abbrev pub itemOperation : circuit.Item → Option rules.Operation

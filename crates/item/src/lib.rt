@@ -22,7 +22,6 @@ use value::Value;
 pub enum Spread {
     Defer,
     Renew,
-    Forget,
 }
 
 // Where a figure's parts stand, from the offset of its field.
@@ -82,9 +81,8 @@ pub fn spread_of(s: &[u8], at: usize) -> Spread
 {
     if s[at] == FIGURE_TAG {
         match s[at + SPREAD_AT] {
-            0 => Spread::Defer,
             1 => Spread::Renew,
-            _ => Spread::Forget,
+            _ => Spread::Defer,
         }
     } else {
         Spread::Defer

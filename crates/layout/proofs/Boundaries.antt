@@ -10,7 +10,7 @@ use lib.Dec.{eqb}
 use lib.ListN.{length, replicate, length-replicate}
 use Rattle.field.proofs.Cutting.{le16-of}
 use Rattle.circuit.specs.Rules.{operationOf, coded, oneOrMore, maxParents, countAllowed as parentsAllowed}
-use Rattle.layout.specs.Layout.{entryField, Layout, editionKnown, itemLimit, countAllowed, keepAllowed, spreadAllowed, ruleAllowed, nameByte, nameLimit, nameAllowed, all}
+use Rattle.layout.specs.Layout.{entryField, Layout, editionKnown, itemLimit, countAllowed, keepAllowed, spreadLimit, spreadAllowed, ruleAllowed, nameByte, nameLimit, nameAllowed, all}
 use Rattle.layout.specs.Read.{opens, refused, readSheet}
 use Rattle.layout.specs.Write.{itemsWithin, within, writeSheet}
 use Rattle.layout.specs.Places.{places}
@@ -47,9 +47,13 @@ pub keep-bounds : (keepAllowed 0 ≡ true) × (keepAllowed 1 ≡ true) × (keepA
 unfolding keepAllowed
 keep-bounds = (refl, refl, refl)
 
-pub spread-bounds : (spreadAllowed 1 0 ≡ true) × (spreadAllowed 1 2 ≡ true) × (spreadAllowed 1 3 ≡ false)
-unfolding spreadAllowed
-spread-bounds = (refl, refl, refl)
+pub spread-bounds-1 : (spreadAllowed 1 0 ≡ true) × (spreadAllowed 1 2 ≡ true) × (spreadAllowed 1 3 ≡ false)
+unfolding spreadAllowed spreadLimit
+spread-bounds-1 = (refl, refl, refl)
+
+pub spread-bounds-2 : (spreadAllowed 2 0 ≡ true) × (spreadAllowed 2 1 ≡ true) × (spreadAllowed 2 2 ≡ false) × (spreadAllowed 2 3 ≡ false)
+unfolding spreadAllowed spreadLimit
+spread-bounds-2 = (refl, refl, refl, refl)
 
 -- the codes 1 to 8, each with the fewest and the most parents and one beside them
 pub rule-bounds : map (λ code. map (ruleAllowed code) (0 ∷ 1 ∷ 2 ∷ 3 ∷ 4 ∷ 16 ∷ 17 ∷ [])) (0 ∷ 1 ∷ 2 ∷ 3 ∷ 4 ∷ 5 ∷ 6 ∷ 7 ∷ 8 ∷ 9 ∷ [])

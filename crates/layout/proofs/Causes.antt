@@ -199,13 +199,13 @@ item-length s i h t =
     (tells-length (tagOf s (item i)) (contentOf s (item i)) t)
 
 -- the field of item i, after the items read
-item-verdict : (s : List ℕ) (edition i : ℕ) (ps : List Placed) → length ps ≡ i → levelsOf ps ≡ levelsBefore s i
-    → Lowest s (item i) 1 (judge (itemTests edition ps) s (cutAt s (offsetOf s (item i))))
+item-verdict : (s : List ℕ) (i : ℕ) (ps : List Placed) → length ps ≡ i → levelsOf ps ≡ levelsBefore s i
+    → Lowest s (item i) 1 (judge (itemTests (editionOf s) ps) s (cutAt s (offsetOf s (item i))))
 unfolding itemTests firstCause
-item-verdict s edition i ps n l = field-verdict s (item i) (offsetOf s (item i)) (itemTests edition ps) (λ x. x) (λ x. x) tests
+item-verdict s i ps n l = field-verdict s (item i) (offsetOf s (item i)) (itemTests (editionOf s) ps) (λ x. x) (λ x. x) tests
   where
     tests : offsetOf s (item i) + headerLength + lenAt s (offsetOf s (item i)) ≤ length s
-        → Lowest s (item i) 2 (firstCause (itemTests edition ps (tagOf s (item i)) (contentOf s (item i))))
+        → Lowest s (item i) 2 (firstCause (itemTests (editionOf s) ps (tagOf s (item i)) (contentOf s (item i))))
     tests h =
         let p : Place = item i in
         let tag : ℕ = tagOf s p in
@@ -216,7 +216,7 @@ item-verdict s edition i ps n l = field-verdict s (item i) (offsetOf s (item i))
         next s p 2 _ _ (tells-if cause2 (row2 s p) (tells-neither tag)) λ n2.
         next s p 3 _ _ (tells-if cause3 (row3 s p) (item-length s i h (one-of-two tag (λ x. n2 (cause2 x))))) λ n3.
         skip s p 4 _ (row4 s p)
-        (next s p 5 _ _ (tells-if cause5 (row5 s p) (tells-wrong-figure edition tag content)) λ n5.
+        (next s p 5 _ _ (tells-if cause5 (row5 s p) (tells-wrong-figure (editionOf s) tag content)) λ n5.
         next s p 6 _ _ (tells-if cause6 (row6 s p) t6) λ n6.
         next s p 7 _ _ (tells-if cause7 (row7 s p) t7) λ n7.
         beyond s p)
@@ -234,15 +234,15 @@ after-verdict s b e =
 
 -- A scan stands where the fields stand, with their levels.
 
-record Standing (s : List ℕ) (i at : ℕ) (ps : List Placed) : Type 0 where
-  offset-is : at ≡ fieldOffset s (suc i)
-  levels-are : levelsOf ps ≡ levelsBefore s i
+pub record Standing (s : List ℕ) (i at : ℕ) (ps : List Placed) : Type 0 where
+  pub offset-is : at ≡ fieldOffset s (suc i)
+  pub levels-are : levelsOf ps ≡ levelsBefore s i
 
-next-offset : (s : List ℕ) (k : ℕ) → fieldOffset s (suc k) ≡ fieldOffset s k + headerLength + lenAt s (fieldOffset s k)
+pub next-offset : (s : List ℕ) (k : ℕ) → fieldOffset s (suc k) ≡ fieldOffset s k + headerLength + lenAt s (fieldOffset s k)
 unfolding fieldOffset
 next-offset s k = refl
 
-first-offset : (s : List ℕ) → fieldOffset s 0 ≡ 0
+pub first-offset : (s : List ℕ) → fieldOffset s 0 ≡ 0
 unfolding fieldOffset
 first-offset s = refl
 
@@ -250,7 +250,7 @@ levels-none : (s : List ℕ) → levelsOf [] ≡ levelsBefore s 0
 unfolding levelsBefore
 levels-none s = refl
 
-module _ (s : List ℕ) (edition : ℕ) (head : cutAt s 0 ≡ Field headTag headerLength headLength headNext) where
+module _ (s : List ℕ) (edition : ℕ) (is : edition ≡ editionOf s) (head : cutAt s 0 ≡ Field headTag headerLength headLength headNext) where
   stands-one : (k at : ℕ) (ps : List Placed) (x : Extended s edition k at ps) → Standing s k (x .before) (x .earlier) → Standing s (suc k) at ps
   unfolding levelsBefore
   stands-one k at ps x st =
@@ -267,7 +267,7 @@ module _ (s : List ℕ) (edition : ℕ) (head : cutAt s 0 ≡ Field headTag head
         levels-are = ap levelsOf (x .placed-is) ∙ levels-snoc (x .before) (x .earlier) (x .it) ∙ rw (st .levels-are, i);
       }
 
-  stands : (k at : ℕ) (ps : List Placed) → scan s edition k ≡ going at ps → Standing s k at ps
+  pub stands : (k at : ℕ) (ps : List Placed) → scan s edition k ≡ going at ps → Standing s k at ps
   stands zero at ps e =
       let z = scan-none s edition in
       let a : headNext ≡ at = cc in
@@ -284,7 +284,7 @@ module _ (s : List ℕ) (edition : ℕ) (head : cutAt s 0 ≡ Field headTag head
   scan-verdict : (i at : ℕ) (ps : List Placed) → scan s edition i ≡ going at ps → Lowest s (item i) 1 (judge (itemTests edition ps) s (cutAt s at))
   scan-verdict i at ps e =
       let st = stands i at ps e in
-      rw (st .offset-is) (item-verdict s edition i ps (scan-length s edition i at ps e) (st .levels-are))
+      rw (st .offset-is, is) (item-verdict s i ps (scan-length s edition i at ps e) (st .levels-are))
 
   -- an item that was passed is sound
   passed-sound : (k at : ℕ) (ps : List Placed) → scan s edition k ≡ going at ps → (j : ℕ) → j < k → Sound s (item j)
@@ -312,30 +312,30 @@ module _ (s : List ℕ) (first-sound : Sound s first) (head : cutAt s 0 ≡ Fiel
   item-finding zero offset f = absurd (omega arith)
   item-finding (suc k) offset f =
       let i : ℕ = f .at-item in
-      let v : Lowest s (item i) 1 (suc k) = subst (Lowest s (item i) 1) (f .judged) (scan-verdict s ed head i offset (f .read) (f .scanned)) in
+      let v : Lowest s (item i) 1 (suc k) = subst (Lowest s (item i) 1) (f .judged) (scan-verdict s ed (edition-same s) head i offset (f .read) (f .scanned)) in
       record {
         place = item i;
         in-sheet = omega (arith, count-same s);
         cause = fault-of s (item i) k v;
         lowest = lowest-of s (item i) k v;
         first-at-fault = earlier i (omega (arith, count-same s)) (f .read) (f .scanned);
-        offset-is = stands s ed head i offset (f .read) (f .scanned) .offset-is;
+        offset-is = stands s ed (edition-same s) head i offset (f .read) (f .scanned) .offset-is;
       }
     where
       earlier : (i : ℕ) → i < itemCount s → (ps : List Placed) → scan s ed i ≡ going offset ps
           → (p : Place) → InSheet s p → Before s p (item i) → Sound s p
       earlier i h ps e first m b = first-sound
-      earlier i h ps e (item j) m b = passed-sound s ed head i offset ps e j (omega arith)
+      earlier i h ps e (item j) m b = passed-sound s ed (edition-same s) head i offset ps e j (omega arith)
       earlier i h ps e last m b = absurd (omega arith)
       earlier i h ps e after m b = absurd (omega arith)
 
   -- after all items
   module _ (at : ℕ) (ps : List Placed) (e : scan s ed n ≡ going at ps) where
     items-sound : (i : ℕ) → i < itemCount s → Sound s (item i)
-    items-sound i h = passed-sound s ed head n at ps e i (omega (arith, count-same s))
+    items-sound i h = passed-sound s ed (edition-same s) head n at ps e i (omega (arith, count-same s))
 
     last-offset : at ≡ offsetOf s last
-    last-offset = stands s ed head n at ps e .offset-is ∙ ap (λ k. fieldOffset s (suc k)) (count-same s)
+    last-offset = stands s ed (edition-same s) head n at ps e .offset-is ∙ ap (λ k. fieldOffset s (suc k)) (count-same s)
 
     last-judged : (k : ℕ) → judge lastTests s (cutAt s at) ≡ k → Lowest s last 1 k
     last-judged k j = subst (Lowest s last 1) (ap (λ o. judge lastTests s (cutAt s o)) (sym last-offset) ∙ j) (last-verdict s)

@@ -8,20 +8,23 @@ use lib.ListN.{drop}
 use Rattle.field.specs.Field.{cutAt}
 use Rattle.circuit.specs.Calls.{firstCause}
 use Rattle.circuit.specs.Rules.{sum, operationOf, coded, oneOrMore, maxParents, countAllowed as parentsAllowed}
-use Rattle.circuit.specs.Sheet.{figure, defer, renew, forget}
+use Rattle.circuit.specs.Sheet.{figure, defer, renew}
 use Rattle.circuit.proofs.Examples.{daySheet}
-use Rattle.layout.specs.Layout.{LayoutItem, entryField, figureField, Layout, editionKnown, itemLimit, countAllowed, levelLimit, keepAllowed, spreadAllowed, nameLimit, nameAllowed, all}
+use Rattle.layout.specs.Layout.{LayoutItem, entryField, figureField, Layout, editionKnown, itemLimit, countAllowed}
+use Rattle.layout.specs.Layout.{levelLimit, keepAllowed, spreadLimit, spreadAllowed, nameLimit, nameAllowed, all}
 use Rattle.layout.specs.Layout.{highest, spreadMeant, machineItem, machineSheet}
 use Rattle.layout.specs.Content.{parentsIn, itemIn}
-use Rattle.layout.specs.Read.{lengthOrName, headTests, itemTests, lastTests, scan, scanSheet, SheetRead, opens, refused, readSheet}
+use Rattle.layout.specs.Read.{placed, lengthOrName, headTests, itemTests, lastTests, scan, scanSheet, SheetRead, opens, refused, readSheet}
 use Rattle.layout.specs.Write.{concat, itemBytes, itemsWithin, within, writeSheet}
 use Rattle.layout.specs.Places.{placesFrom, places}
 use Rattle.layout.specs.Index.{indexBytes}
+use Rattle.layout.specs.Causes.{fieldOffset}
 use Rattle.layout.specs.Edition.{withEdition}
+use Rattle.layout.specs.Spreads.{zeroedBelow, withoutForget}
 
 -- to unfold these is to unfold all that the limits, reading and writing compute with
 unfoldable pub limiting : ℕ → ℕ → Bool
-unfolding editionKnown countAllowed itemLimit levelLimit keepAllowed spreadAllowed nameAllowed nameLimit operationOf coded oneOrMore maxParents parentsAllowed
+unfolding editionKnown countAllowed itemLimit levelLimit keepAllowed spreadAllowed spreadLimit nameAllowed nameLimit operationOf coded oneOrMore maxParents parentsAllowed
 limiting edition n = countAllowed edition n
 
 unfoldable pub reading : List ℕ → SheetRead
@@ -121,6 +124,26 @@ pub gives-5 : Gives (head 2 ++ entryA ++ figureOf 0 0 0 0) 5 11 × Gives (head 2
 unfolding reading
 gives-5 = (refl, refl, refl, refl)
 
+-- Spread 2 in edition 2, also before a parent that is wrong; edition 1 takes it, and not 3.
+abbrev pub headOf2 : ℕ → List ℕ
+headOf2 n = 1 ∷ 4 ∷ 0 ∷ 2 ∷ 0 ∷ n ∷ 0 ∷ []
+
+pub gives-5-in-2 : Gives (headOf2 2 ++ entryA ++ figureOf 1 0 2 0 ++ end) 5 11 × Gives (headOf2 2 ++ entryA ++ figureOf 1 0 2 5 ++ end) 5 11
+    × Gives (headOf2 3 ++ entryA ++ figureOf 1 0 1 0 ++ figureOf 1 0 2 0 ++ end) 5 21
+unfolding reading
+gives-5-in-2 = (refl, refl, refl)
+
+pub taken-in-1 : readSheet (head 2 ++ entryA ++ figureOf 1 0 2 0 ++ end)
+    ≡ opens 1 (placed 7 (entryField (65 ∷ [])) 0 ∷ placed 11 (figureField 1 0 2 (0 ∷ []) (66 ∷ [])) 1 ∷ [])
+unfolding reading
+taken-in-1 = refl
+
+-- the sheet with 0 in place of each 2, an entry's bytes and other spreads left
+pub zeroed-twos : withoutForget (head 4 ++ entryA ++ figureOf 1 0 2 0 ++ figureOf 1 2 1 0 ++ figureOf 1 0 2 2 ++ end)
+    ≡ head 4 ++ entryA ++ figureOf 1 0 0 0 ++ figureOf 1 2 1 0 ++ figureOf 1 0 0 2 ++ end
+unfolding zeroedBelow fieldOffset
+zeroed-twos = refl
+
 pub gives-6 : Gives (head 2 ++ entryA ++ figureOf 1 0 0 1 ++ end) 6 11
 unfolding reading
 gives-6 = refl
@@ -151,8 +174,8 @@ pub highest-anywhere : (highest [] ≡ 0) × (highest (0 ∷ 3 ∷ 1 ∷ []) ≡
 unfolding highest
 highest-anywhere = (refl, refl, refl, refl)
 
--- Spread is 0 defer, 1 renew, 2 forget; keep 1 keeps.
-pub machine-bytes : (spreadMeant 0 ≡ defer) × (spreadMeant 1 ≡ renew) × (spreadMeant 2 ≡ forget)
+-- Spread is 0 defer, 1 renew, and 2 is treated as 0; keep 1 keeps.
+pub machine-bytes : (spreadMeant 0 ≡ defer) × (spreadMeant 1 ≡ renew) × (spreadMeant 2 ≡ defer)
     × (machineItem (figureField 1 0 0 (0 ∷ []) (65 ∷ [])) ≡ figure sum false defer (0 ∷ []))
     × (machineItem (figureField 1 1 0 (0 ∷ []) (65 ∷ [])) ≡ figure sum true defer (0 ∷ []))
 unfolding spreadMeant machineItem operationOf coded oneOrMore maxParents parentsAllowed

@@ -7,6 +7,8 @@ pub mod Levels
 pub mod Tests
 pub mod Causes
 pub mod Editions
+pub mod Retired
+pub mod Spreads
 pub mod Examples
 pub mod Boundaries
 pub mod WrittenBytes

@@ -7,17 +7,17 @@ use mathlib.Core.Option.{Option, none, some}
 use Prim.Native.Nat.{ℕ, zero, suc, _-_, _≤_, _<_}
 use native.Mathlib.Omega.{arith}
 use native.Mathlib.Decide.{ℕ-discrete}
-use lib.Dec.{eqb, ltb}
+use lib.Dec.{eqb, ltb, leb}
 use lib.ListN.{length, length-drop}
 use borrow.Author.Tests.{eq-eqb, ne-eqb}
 use Rattle.circuit.specs.Circuit.{Listed}
 use Rattle.circuit.specs.Rules.{Operation, sum, difference, smallest, largest, share, choice, count, atLeast, operationOf, allowed, coded, oneOrMore, maxParents, countAllowed as parentsAllowed}
-use Rattle.layout.specs.Layout.{LayoutItem, entryField, figureField, entryTag, figureTag, parentsAt, parentAt, editionKnown, countAllowed, itemLimit, keepAllowed, spreadAllowed}
+use Rattle.layout.specs.Layout.{LayoutItem, entryField, figureField, entryTag, figureTag, parentsAt, parentAt, editionKnown, countAllowed, itemLimit, keepAllowed, spreadLimit, spreadAllowed}
 use Rattle.layout.specs.Layout.{ruleAllowed, isSome, nameAllowed, nameByte, nameLimit, all}
 use Rattle.layout.specs.Content.{ruleIn, keepIn, spreadIn, parentCountIn, parentIn, parentsIn, nameIn, itemIn}
 use Rattle.layout.specs.Read.{lengthOrName, ruleWrong, parentWrong}
 use Rattle.layout.specs.Causes.{NotAName, BadByte, WrongItemLength, entryName, figureUnder, figureRest, figureName, RuleTakes, sumTakes, differenceTakes, smallestTakes, largestTakes}
-use Rattle.layout.specs.Causes.{shareTakes, choiceTakes, countTakes, atLeastTakes, WrongFigure, HighParent}
+use Rattle.layout.specs.Causes.{shareTakes, choiceTakes, countTakes, atLeastTakes, WrongSpread, WrongFigure, HighParent}
 use Rattle.layout.proofs.Items.{parents-count}
 pub use Rattle.field.proofs.Tells.{Tells, holds, fails, tells-if, tells-or, tells-and, Refutes, right, wrong, refutes-if, refutes-and, tells-not, refutes-tells, tells-eq, tells-lt, tells-le}
 pub use Rattle.field.proofs.Tells.{refutes-le, refutes-lt}
@@ -186,24 +186,48 @@ cond-entry : (test : LayoutItem → Bool) (f : Bool) (figure : LayoutItem) (name
 cond-entry test true figure name e = refl
 cond-entry test false figure name e = e
 
-pub tells-wrong-figure : (edition tag : ℕ) (content : List ℕ) → Tells ((tag ≡ figureTag) × WrongFigure content) (ruleWrong edition (itemIn tag content))
-unfolding itemIn keepAllowed spreadAllowed
+pub refutes-spread : (edition spread : ℕ) → Refutes (WrongSpread edition spread) (spreadAllowed edition spread)
+unfolding spreadAllowed spreadLimit
+refutes-spread edition spread = go (eqb edition 2) (tells-eq edition 2)
+  where
+    above : edition ≡ 2 → 1 < spread → WrongSpread edition spread
+    above e h = which (ℕ-discrete spread 2)
+      where
+        which : Dec (spread ≡ 2) → WrongSpread edition spread
+        which (yes two) = inr (e, two)
+        which (no n) = inl (omega arith)
+
+    over : WrongSpread edition spread → 1 < spread
+    over (inl h) = omega arith
+    over (inr (e, two)) = omega arith
+
+    go : (b : Bool) → Tells (edition ≡ 2) b → Refutes (WrongSpread edition spread) (leb spread (cond b 1 2))
+    go true (holds e) = refutes-if (above e) over (refutes-le spread 1)
+    go false (fails n) = refutes-if (λ h. inl h) (⊎-elim (λ h. h) (λ w. absurd (n (w .0)))) (refutes-le spread 2)
+
+-- what is not refuted
+pub not-refuted : {P : Type 0} {b : Bool} → Refutes P b → ¬ P → b ≡ true
+not-refuted (right n) h = refl
+not-refuted (wrong p) h = absurd (h p)
+
+pub tells-wrong-figure : (edition tag : ℕ) (content : List ℕ) → Tells ((tag ≡ figureTag) × WrongFigure edition content) (ruleWrong edition (itemIn tag content))
+unfolding itemIn keepAllowed
 tells-wrong-figure edition tag content =
     let parents : List ℕ = parentsIn content (parentCountIn content) in
     let fig : LayoutItem = figureField (ruleIn content) (keepIn content) (spreadIn content) parents (nameIn content) in
     let c = cond-entry (ruleWrong edition) (eqb tag figureTag) fig content refl in
     let n = parents-count content (parentCountIn content) in
     let rule = refutes-tells (tells-rule (ruleIn content) (parentCountIn content)) in
-    let three = refutes-and (refutes-and rule (refutes-le (keepIn content) 1)) (refutes-le (spreadIn content) 2) in
-    let one : Tells (WrongFigure content) (ruleWrong edition fig) = rw n (tells-not (refutes-if forth back three)) in
-    rw c (tells-of-figure tag (WrongFigure content) (ruleWrong edition fig) one)
+    let three = refutes-and (refutes-and rule (refutes-le (keepIn content) 1)) (refutes-spread edition (spreadIn content)) in
+    let one : Tells (WrongFigure edition content) (ruleWrong edition fig) = rw n (tells-not (refutes-if forth back three)) in
+    rw c (tells-of-figure tag (WrongFigure edition content) (ruleWrong edition fig) one)
   where
-    forth : ((¬ RuleTakes (ruleIn content) (parentCountIn content)) ⊎ (1 < keepIn content)) ⊎ (2 < spreadIn content) → WrongFigure content
+    forth : ((¬ RuleTakes (ruleIn content) (parentCountIn content)) ⊎ (1 < keepIn content)) ⊎ WrongSpread edition (spreadIn content) → WrongFigure edition content
     forth (inl (inl h)) = inl h
     forth (inl (inr h)) = inr (inl h)
     forth (inr h) = inr (inr h)
 
-    back : WrongFigure content → ((¬ RuleTakes (ruleIn content) (parentCountIn content)) ⊎ (1 < keepIn content)) ⊎ (2 < spreadIn content)
+    back : WrongFigure edition content → ((¬ RuleTakes (ruleIn content) (parentCountIn content)) ⊎ (1 < keepIn content)) ⊎ WrongSpread edition (spreadIn content)
     back (inl h) = inl (inl h)
     back (inr (inl h)) = inl (inr h)
     back (inr (inr h)) = inr h

@@ -1,11 +1,11 @@
 -- What the writer writes of a layout within the limits is bytes. Assumes nothing.
 use mathlib.Core.Path.{_≡_, refl}
-use mathlib.Core.Bool.{Bool, true, false, _&&_}
+use mathlib.Core.Bool.{Bool, true, false, cond, _&&_}
 use mathlib.Core.List.{List, [], _∷_, _++_, map}
 use mathlib.Core.Logic.{_⊎_, inl, inr}
 use Prim.Native.Nat.{ℕ, zero, suc, _+_, _/_, _%_, _≤_, _<_}
 use native.Mathlib.Omega.{arith}
-use lib.Dec.{leb, ltb}
+use lib.Dec.{eqb, leb, ltb}
 use lib.ListN.{length, length-append}
 use borrow.Author.Tests.{leb-true, ltb-true}
 use Rattle.circuit.specs.Rules.{maxParents}
@@ -14,7 +14,7 @@ use Rattle.field.specs.Field.{fieldBytes}
 use Rattle.field.proofs.Cutting.{Bytes-fieldBytes}
 use Rattle.circuit.specs.Circuit.{Listed}
 use Rattle.layout.specs.Layout.{LayoutItem, entryField, figureField, Layout, headTag, entryTag, figureTag, lastTag, editionKnown, levelLimit, keepAllowed}
-use Rattle.layout.specs.Layout.{spreadAllowed, ruleAllowed, nameByte, nameLimit, nameAllowed, all}
+use Rattle.layout.specs.Layout.{spreadLimit, spreadAllowed, ruleAllowed, nameByte, nameLimit, nameAllowed, all}
 use Rattle.layout.specs.Write.{bytes16, concat, itemBytes, writeSheet, levelAfter, itemWithin, itemsWithin, within}
 use Rattle.layout.specs.Causes.{RuleTakes, sumTakes, differenceTakes, smallestTakes, largestTakes, shareTakes, choiceTakes, countTakes, atLeastTakes}
 use Rattle.layout.proofs.Scan.{and-left, and-right, all-listed, most-small, limit-most, allowed-limit}
@@ -74,8 +74,16 @@ rule-most code p e = go (ruleAllowed code p) (tells-rule code p) e
     go true (holds t) q = takes-code code p t
     go false (fails n) q = let z : _≡_ {A = ℕ} 0 1 = cc in absurd (omega arith)
 
+spread-most : (edition spread : ℕ) → spreadAllowed edition spread ≡ true → spread ≤ 2
+unfolding spreadAllowed spreadLimit
+spread-most edition spread e = go (eqb edition 2) e
+  where
+    go : (b : Bool) → leb spread (cond b 1 2) ≡ true → spread ≤ 2
+    go true h = omega (arith, leb-true spread 1 h)
+    go false h = leb-true spread 2 h
+
 Bytes-item : (edition : ℕ) (levels : List ℕ) (it : LayoutItem) → itemWithin edition levels it ≡ true → length levels ≤ 65_536 → Bytes (itemBytes it)
-unfolding itemBytes keepAllowed spreadAllowed nameLimit maxParents
+unfolding itemBytes keepAllowed nameLimit maxParents
 Bytes-item edition levels (entryField name) e h =
     let n = name-length name e in
     Bytes-fieldBytes entryTag name (omega arith) (omega arith) (Bytes-name name e)
@@ -95,7 +103,7 @@ Bytes-item edition levels (figureField rule keep spread parents name) e h =
     (Bytes-cons rule (keep ∷ spread ∷ length parents ∷ (ps ++ name)) (omega (arith, rule-most rule (length parents) r))
     (Bytes-cons keep (spread ∷ length parents ∷ (ps ++ name)) (omega (arith, leb-true keep 1 (and-right (ruleAllowed rule (length parents)) (keepAllowed keep) two)))
     (Bytes-cons spread (length parents ∷ (ps ++ name))
-    (omega (arith, leb-true spread 2 (and-right (ruleAllowed rule (length parents) && keepAllowed keep) (spreadAllowed edition spread) (f .1))))
+    (omega (arith, spread-most edition spread (and-right (ruleAllowed rule (length parents) && keepAllowed keep) (spreadAllowed edition spread) (f .1))))
     (Bytes-cons (length parents) (ps ++ name) (omega arith) rest))))
 
 Bytes-items : (edition : ℕ) (levels : List ℕ) (its : List LayoutItem) → itemsWithin edition levels its ≡ true → length levels + length its ≤ 65_536

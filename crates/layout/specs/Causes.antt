@@ -127,13 +127,18 @@ pub data RuleTakes (code p : ℕ) : Type 0 where
   countTakes : code ≡ 7 → 1 ≤ p → p ≤ maxParents → RuleTakes code p
   atLeastTakes : code ≡ 8 → p ≡ 2 → RuleTakes code p
 
+-- a spread that is none of 0, 1 and 2, or is 2 in edition 2
+abbrev pub WrongSpread : ℕ → ℕ → Type 0
+WrongSpread edition spread = (2 < spread) ⊎ ((edition ≡ 2) × (spread ≡ 2))
+
 -- 5: rule, keep, spread, or p wrong for the rule
-abbrev pub WrongFigure : List ℕ → Type 0
-WrongFigure content = (¬ RuleTakes (ruleIn content) (parentCountIn content)) ⊎ (1 < keepIn content) ⊎ (2 < spreadIn content)
+abbrev pub WrongFigure : ℕ → List ℕ → Type 0
+WrongFigure edition content =
+    (¬ RuleTakes (ruleIn content) (parentCountIn content)) ⊎ (1 < keepIn content) ⊎ WrongSpread edition (spreadIn content)
 
 abbrev pub WrongRuleKeepSpreadOrCount : List ℕ → Place → Type 0
 WrongRuleKeepSpreadOrCount s first = ⊥
-WrongRuleKeepSpreadOrCount s (item i) = (tagOf s (item i) ≡ figureTag) × WrongFigure (contentOf s (item i))
+WrongRuleKeepSpreadOrCount s (item i) = (tagOf s (item i) ≡ figureTag) × WrongFigure (editionOf s) (contentOf s (item i))
 WrongRuleKeepSpreadOrCount s last = ⊥
 WrongRuleKeepSpreadOrCount s after = ⊥
 

@@ -8,7 +8,7 @@ use lib.Dec.{eqb, leb}
 use lib.ListN.{length}
 use Rattle.field.specs.Field.{headerLength}
 use Rattle.circuit.specs.Rules.{Operation, sum, operationOf}
-use Rattle.circuit.specs.Sheet.{Item, entry, figure, Sheet, Spread, defer, renew, forget}
+use Rattle.circuit.specs.Sheet.{Item, entry, figure, Sheet, Spread, defer, renew}
 
 -- an item as it is written: the bytes of its name, and of a figure its rule, keep and spread bytes and its parents
 pub data LayoutItem : Type 0 where
@@ -92,9 +92,12 @@ levelLimit = 64
 unfoldable pub keepAllowed : ℕ → Bool
 keepAllowed keep = leb keep 1
 
--- the spread bytes of an edition: 0 defer, 1 renew, 2 forget
+-- The spread bytes of an edition, up to this one: 0 defer, 1 renew, and outside edition 2 also 2, forget, which 02's job 10 retires.
+unfoldable pub spreadLimit : ℕ → ℕ
+spreadLimit edition = cond (eqb edition 2) 1 2
+
 unfoldable pub spreadAllowed : ℕ → ℕ → Bool
-spreadAllowed edition spread = leb spread 2
+spreadAllowed edition spread = leb spread (spreadLimit edition)
 
 abbrev pub isSome : {A : Type 0} → Option A → Bool
 isSome none = false
@@ -129,8 +132,9 @@ abbrev pub operationOr : Option Operation → Operation
 operationOr none = sum
 operationOr (some op) = op
 
+-- 1 is renew, 0 defer; 2, where a sheet may hold it, is treated as 0 (02's job 10)
 unfoldable pub spreadMeant : ℕ → Spread
-spreadMeant spread = cond (eqb spread 0) defer (cond (eqb spread 1) renew forget)
+spreadMeant spread = cond (eqb spread 1) renew defer
 
 unfoldable pub machineItem : LayoutItem → Item
 machineItem (entryField name) = entry

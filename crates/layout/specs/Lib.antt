@@ -8,3 +8,4 @@ pub mod Causes
 pub mod Opened
 pub mod Room
 pub mod Edition
+pub mod Spreads

@@ -1,6 +1,6 @@
 // The tags, places and limits of the layout, each once. The contracts hold the limits to those of the definitions.
 ghost use mathlib.Core.Path.{_≡_};
-ghost use Rattle.layout.specs.Layout.{editionKnown, itemLimit, countAllowed, keepAllowed, spreadAllowed, nameByte};
+ghost use Rattle.layout.specs.Layout.{editionKnown, itemLimit, countAllowed, keepAllowed, spreadLimit, spreadAllowed, nameByte};
 
 pub const HEAD_TAG: u8 = 1;
 
@@ -82,9 +82,15 @@ pub fn keep_allowed(keep: u8) -> bool
     keep <= 1
 }
 
-// The allowed spreads of an edition: 0 defer, 1 renew, 2 forget.
+// The highest spread of an edition: 0 is defer, 1 renew, and 2 is retired in edition 2.
+fn spread_limit(edition: usize) -> u8
+    ensures { λ r. ⌜ r ≡ spreadLimit edition ⌝ }
+{
+    if edition == 2 { 1 } else { 2 }
+}
+
 pub fn spread_allowed(edition: usize, spread: u8) -> bool
     ensures { λ r. ⌜ r ≡ spreadAllowed edition spread ⌝ }
 {
-    spread <= 2
+    spread <= spread_limit(edition)
 }

@@ -12,11 +12,12 @@ use Rattle.circuit.specs.Machine.{lookUp, keepFigure}
 use Rattle.circuit.specs.Call.{Call, keep, step, ask, close, Opening}
 use Rattle.circuit.specs.Calls.{effect, run}
 use Rattle.circuit.specs.Fresh.{blank, give}
-use Rattle.circuit.specs.Words.{Quiet}
+use Rattle.circuit.specs.Words.{Quiet, Coherent}
 use Rattle.circuit.proofs.Solution.{give-solves, solution-given}
 use Rattle.circuit.proofs.View.{view, view-at}
 use Rattle.circuit.proofs.Fill.{look-right, keep-fill}
 use Rattle.circuit.proofs.Invariant.{Invariant}
+use Rattle.circuit.proofs.Spreads.{invariant-coherent}
 use Rattle.circuit.proofs.CatchUp.{catchUp-still, fill-quiet}
 use Rattle.circuit.proofs.Reading.{quiet-look}
 use Rattle.circuit.proofs.Sound.{Sound, run-sound}
@@ -98,6 +99,14 @@ office-written s kept o e cs =
     let first : Opens s kept o = opening-opens s kept o e in
     subst (λ g. Written s (runOn s (g .after) cs)) (sym (opened.opening-gives s (first .edition) (first .placed) (first .reads) kept o e))
     (written-at s (first .edition) (first .placed) (first .reads) o cs)
+
+-- Such a table has the invariant.
+pub office-coherent : (s : List ℕ) (kept : Office) (o : Opening) → openOn o s kept .number ≡ 0 → (cs : List Call)
+    → Coherent (sheetOf s) (decodeTable (runOn s (openOn o s kept .after) cs .table))
+office-coherent s kept o e cs =
+    let w : Written s (runOn s (openOn o s kept .after) cs) = office-written s kept o e cs in
+    invariant-coherent (sheetOf s) (ordered s (runOn s (openOn o s kept .after) cs) (office-accepted s kept o e cs .accepted)) _
+    (subst (Invariant (sheetOf s)) (sym (w .decodes)) (w .invariant))
 
 module _ (s : List ℕ) (p : Office) (lent : AcceptedLent s p) (written : Written s p) (none-stands : NoMarkStands (sheetOf s) (p .table)) where
   abbrev S : Sheet

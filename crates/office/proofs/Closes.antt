@@ -52,12 +52,26 @@ use Rattle.office.proofs.Agreeing.{Opens, opening-opens, answer-fresh}
 use Rattle.office.proofs.Lent.{ordered, holdable, within, encoded, performs}
 
 -- An office that keeps the index x and the encoding of the table T, whose entries hold E: calls on its bytes are the machine's.
-record Keeps (s x : List ℕ) (S : Sheet) (E : Entries) (T : Table) : Type 0 where
-  ordered : Ordered S
-  performs : (X : Table) (c : Call) → Holdable S X → Within S X → callOn s (keeping x (encodeTable S X)) c ≡ givenBy S x (resultsLent c) (perform S X c)
-  holdable : Holdable S T
-  within : Within S T
-  holds : Holds S T E
+pub record Keeps (s x : List ℕ) (S : Sheet) (E : Entries) (T : Table) : Type 0 where
+  pub ordered : Ordered S
+  pub performs : (X : Table) (c : Call) → Holdable S X → Within S X → callOn s (keeping x (encodeTable S X)) c ≡ givenBy S x (resultsLent c) (perform S X c)
+  pub holdable : Holdable S T
+  pub within : Within S T
+  pub holds : Holds S T E
+
+-- If the table is sound, an ask after a list of calls gives the fresh office's answer.
+pub sound-on : {s x : List ℕ} {S : Sheet} {E : Entries} {T : Table} → Keeps s x S E T → Sound S E T → (cs : List Call) (i : ℕ)
+    → let begin : Office = keeping x (encodeTable S T) in
+    answerOf (callOn s (runOn s begin cs) (ask i)) ≡ freshAnswer (freshAsk S (hearAll S E (eventsOn s begin cs)) i)
+sound-on {s} {x} {S} {E} {T} keep sound cs i =
+    ap (λ p. answerOf (callOn s p (ask i))) (run-performs s x S (keep .ordered) (keep .performs) cs T (keep .holdable) (keep .within))
+    ∙ ap answerOf (keep .performs W (ask i) (run-holdable S (keep .ordered) cs T (keep .holdable)) (run-within S (keep .ordered) cs T (keep .within)))
+    ∙ answer-fresh S x (perform S W (ask i)) (freshAsk S (freshRun S E T cs) i)
+    (ask-answers S (keep .ordered) (freshRun S E T cs) W (run-sound S (keep .ordered) cs E T sound) i)
+    ∙ ap (λ es. freshAnswer (freshAsk S (hearAll S E es) i)) (sym (events-performs s x S (keep .ordered) (keep .performs) cs T (keep .holdable) (keep .within)))
+  where
+    W : Table
+    W = run S T cs
 
 module _ {s x : List ℕ} {S : Sheet} {E : Entries} {T : Table} (keep : Keeps s x S E T) where
   abbrev office : Table → Office
@@ -122,15 +136,16 @@ module _ {s x : List ℕ} {S : Sheet} {E : Entries} {T : Table} (keep : Keeps s 
 
   -- Later calls go on from the run's table: an ask after a list of them gives the fresh office's answer.
   closed-on : (cs : List Call) (i : ℕ) → answerOf (callOn s (runOn s (office U) cs) (ask i)) ≡ freshAnswer (freshAsk S (hearAll S E (eventsOn s (office U) cs)) i)
-  closed-on cs i =
-      ap (λ p. answerOf (callOn s p (ask i))) (run-performs s x S (keep .ordered) (keep .performs) cs U closed-holdable closed-within)
-      ∙ ap answerOf (keep .performs W (ask i) (run-holdable S (keep .ordered) cs U closed-holdable) (run-within S (keep .ordered) cs U closed-within))
-      ∙ answer-fresh S x (perform S W (ask i)) (freshAsk S (freshRun S E U cs) i)
-      (ask-answers S (keep .ordered) (freshRun S E U cs) W (run-sound S (keep .ordered) cs E U (close-sound S (keep .ordered) E T (keep .holds))) i)
-      ∙ ap (λ es. freshAnswer (freshAsk S (hearAll S E es) i)) (sym (events-performs s x S (keep .ordered) (keep .performs) cs U closed-holdable closed-within))
-    where
-      W : Table
-      W = run S U cs
+  closed-on =
+      sound-on
+      (record {
+        ordered = keep .ordered;
+        performs = keep .performs;
+        holdable = closed-holdable;
+        within = closed-within;
+        holds = close-holds S (keep .ordered) E T (keep .holds);
+      })
+      (close-sound S (keep .ordered) E T (keep .holds))
 
 -- What the run leaves of an accepted table.
 module _ (s : List ℕ) (kept : Office) (lent : AcceptedLent s kept) (bytes : Bytes (kept .table)) where

@@ -1,10 +1,10 @@
--- The three demands hold, catching up always finishes, swaps are one act, and edition 2 reads an edition 1 sheet as edition 1 does. Assumes
+-- The three demands hold, catching up always finishes, swaps are one act, edition 2 reads an edition 1 sheet as edition 1 does, and forget is retired. Assumes
 -- nothing.
 use Rattle.circuit.specs.Call.{board}
 use Rattle.circuit.proofs.Equations.{equations}
 use Rattle.circuit.proofs.Retention.{drop-words}
 use Rattle.circuit.proofs.Board.{listed-count, listed-at}
-use Rattle.office.specs.Demands.{Refuses, Means, Agrees, Finishes, Swaps, Editions, Demands}
+use Rattle.office.specs.Demands.{Refuses, Means, Agrees, Finishes, Swaps, Editions, Retires, Demands}
 use Rattle.office.proofs.Refusals.{turned-back, board-refuses, close-refuses, swap-refuses, accepted-lent}
 use Rattle.office.proofs.Examples.{each-given}
 use Rattle.office.proofs.Older.{lower-accepted, former-refused}
@@ -16,8 +16,12 @@ use Rattle.office.proofs.Closes.{close-goes-on, office-closes}
 use Rattle.office.proofs.Accepted.{office-accepted}
 use Rattle.office.proofs.Agreeing.{offices-agree, offices-retain, offices-retain-post}
 use Rattle.office.proofs.StepsEnd.{office-steps-end}
-use Rattle.office.proofs.Arriving.{office-quiet-right, office-any-order}
+use Rattle.office.proofs.Arriving.{office-quiet-right, office-any-order, office-coherent}
 use Rattle.office.proofs.Swapping.{swaps-keep-sum, office-swap-follows, swap-counts}
+use Rattle.layout.proofs.Retired.{none-in-2}
+use Rattle.layout.proofs.Spreads.{zeroes}
+use Rattle.office.proofs.Retired.{given-5-in-2, refused-5, treated-serves, migrated-serves, treated-runs}
+use Rattle.office.proofs.Retired.{treated-postings, treated-circuit, treated-agree, accepts-same, coherent-same, asks-right}
 use Rattle.office.proofs.Editions.{edition-serves, edition-runs, edition-postings, edition-circuit, edition-agree}
 
 -- Demand 1.
@@ -83,5 +87,24 @@ pub editions : Editions
 editions =
     record { same = edition-serves; lists = edition-runs; postings = edition-postings; circuit = edition-circuit; agree = edition-agree }
 
+pub retires : Retires
+retires =
+    record {
+      none-in-2 = none-in-2;
+      given-5 = given-5-in-2;
+      refused = refused-5;
+      zeroed = zeroes;
+      treated = treated-serves;
+      treated-lists = treated-runs;
+      treated-postings = treated-postings;
+      treated-circuit = treated-circuit;
+      migrates = migrated-serves;
+      agree = treated-agree;
+      accept = accepts-same;
+      coherent = coherent-same;
+      written = office-coherent;
+      right = asks-right;
+    }
+
 pub demands : Demands
-demands = record { refuses = refuses; means = means; agrees = agrees; finishes = finishes; swaps = swaps; editions = editions }
+demands = record { refuses = refuses; means = means; agrees = agrees; finishes = finishes; swaps = swaps; editions = editions; retires = retires }

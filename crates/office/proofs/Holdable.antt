@@ -9,7 +9,7 @@ use mathlib.Core.Logic.{inl, inr}
 use Rattle.circuit.specs.Value.{Value, null, isOut, same, wellFormed}
 use Rattle.circuit.specs.WellFormed.{allWellFormed}
 use Rattle.circuit.specs.Circuit.{Listed}
-use Rattle.circuit.specs.Sheet.{Sheet, Item, entry, figure, Spread, defer, renew, forget, size, itemAt, isFigure, parentsOf, parents, spreadOf, isChild, evaluate, Ordered}
+use Rattle.circuit.specs.Sheet.{Sheet, Item, entry, figure, Spread, defer, renew, size, itemAt, isFigure, parentsOf, parents, spreadOf, isChild, evaluate, Ordered}
 use Rattle.circuit.specs.Table.{Table, Cell, Mark, unmarked, refresh, notice, unk, held, upd, valueIn, entryForm}
 use Rattle.circuit.specs.Owed.{owed}
 use Rattle.circuit.specs.Machine.{gather, lookUp, workOut, storePosting, postCell, keepFigure, dropFigure, dropCell, renewed, tellChild, tellCell, tellStored, tellIf, tellBelow, tell}
@@ -174,7 +174,6 @@ module _ (S : Sheet) (ordered : Ordered S) where
       upd-holdable T c _ (λ low. figure-holds _ v refresh k (holds-wellFormed (isFigure (itemAt S c)) (held v refresh) (rw e at (h c low)))) h
   stored-told defer T c v notice k e h = renewed-holdable T c v notice _ k e h
   stored-told renew T c v m k e h = renewed-holdable T c v m _ k e h
-  stored-told forget T c v m k e h = upd-holdable T c _ (λ low. figure-unk _ _ k) h
 
   -- whether an UNK child is called on or not
   tellCell-holdable : (called : Bool) (T : Table) (c : ℕ) → isFigure (itemAt S c) ≡ true → Holdable S T → Holdable S (tellCell called S T c (T c))

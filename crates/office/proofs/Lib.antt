@@ -9,6 +9,8 @@ pub mod Closes
 pub mod Swapping
 pub mod Demands
 pub mod Editions
+pub mod Retired
+pub mod RetiredExample
 pub mod Examples
 pub mod Giving
 pub mod Holdable

@@ -363,41 +363,51 @@ accepted-lent s kept c z =
     let free = turned-back (calling c) s kept .accepted .0 z in
     record { sheet = free .sheet; lent = (free .lent .0, (free .lent .1 .0, (free .lent .1 .1 .0, tt))) }
 
+-- A call's own causes are numbered from 11 on.
+own-number : (S : Sheet) (t : List ℕ) (d : Call) (k : ℕ) → First (ownCauses S t d) k → 11 ≤ k
+own-number S t (post i kind z) k (inl f) = omega (arith, f .0)
+own-number S t (post i kind z) k (inr (n, inl f)) = omega (arith, f .0)
+own-number S t (post i kind z) k (inr (n, inr (m, inl f))) = omega (arith, f .0)
+own-number S t (post i kind z) k (inr (n, inr (m, inr f))) = absurd (f .1)
+own-number S t (keep i) k (inl f) = omega (arith, f .0)
+own-number S t (keep i) k (inr (n, inl f)) = omega (arith, f .0)
+own-number S t (keep i) k (inr (n, inr f)) = absurd (f .1)
+own-number S t (drop i) k (inl f) = omega (arith, f .0)
+own-number S t (drop i) k (inr (n, inl f)) = omega (arith, f .0)
+own-number S t (drop i) k (inr (n, inr f)) = absurd (f .1)
+own-number S t (step i) k (inl f) = omega (arith, f .0)
+own-number S t (step i) k (inr (n, inl f)) = omega (arith, f .0)
+own-number S t (step i) k (inr (n, inr f)) = absurd (f .1)
+own-number S t (ask i) k (inl f) = omega (arith, f .0)
+own-number S t (ask i) k (inr f) = absurd (f .1)
+own-number S t (board items results) k (inl f) = omega (arith, f .0)
+own-number S t (board items results) k (inr (n, inl f)) = omega (arith, f .0)
+own-number S t (board items results) k (inr (n, inr f)) = absurd (f .1)
+own-number S t close k f = absurd f
+own-number S t (swap giver taker quantity) k (inl f) = omega (arith, f .0)
+own-number S t (swap giver taker quantity) k (inr (n, inl f)) = omega (arith, f .0)
+own-number S t (swap giver taker quantity) k (inr (n, inr (m, inl f))) = omega (arith, f .0)
+own-number S t (swap giver taker quantity) k (inr (n, inr (m, inr (l, inl f)))) = omega (arith, f .0)
+own-number S t (swap giver taker quantity) k (inr (n, inr (m, inr (l, inr f)))) = absurd (f .1)
+
+-- those of what is lent from 8 on
+pub cause-number : (s : List ℕ) (kept : Office) (r : Invocation) (k : ℕ) → First (causesOf s kept r) k → 8 ≤ k
+cause-number s kept (opening how) k (inl f) = omega (arith, f .0)
+cause-number s kept (opening how) k (inr f) = absurd (f .1)
+cause-number s kept (calling c) k (inl f) = omega (arith, f .0)
+cause-number s kept (calling c) k (inr (n, inl f)) = omega (arith, f .0)
+cause-number s kept (calling c) k (inr (n, inr (m, inl f))) = omega (arith, f .0)
+cause-number s kept (calling c) k (inr (n, inr (m, inr (o, f)))) = omega (arith, own-number (sheetOf s) (kept .table) c k f)
+
 -- What is lent is accepted: a call has number 0, or one of its own causes.
 pub lent-numbers : (s : List ℕ) (kept : Office) → AcceptedLent s kept → (c : Call) → (callOn s kept c .number ≡ 0) ⊎ (11 ≤ callOn s kept c .number)
 lent-numbers s kept lent c = go (tells-eq (callOn s kept c .number) 0)
   where
-    own : (d : Call) (k : ℕ) → First (ownCauses (sheetOf s) (kept .table) d) k → 11 ≤ k
-    own (post i kind z) k (inl f) = omega (arith, f .0)
-    own (post i kind z) k (inr (n, inl f)) = omega (arith, f .0)
-    own (post i kind z) k (inr (n, inr (m, inl f))) = omega (arith, f .0)
-    own (post i kind z) k (inr (n, inr (m, inr f))) = absurd (f .1)
-    own (keep i) k (inl f) = omega (arith, f .0)
-    own (keep i) k (inr (n, inl f)) = omega (arith, f .0)
-    own (keep i) k (inr (n, inr f)) = absurd (f .1)
-    own (drop i) k (inl f) = omega (arith, f .0)
-    own (drop i) k (inr (n, inl f)) = omega (arith, f .0)
-    own (drop i) k (inr (n, inr f)) = absurd (f .1)
-    own (step i) k (inl f) = omega (arith, f .0)
-    own (step i) k (inr (n, inl f)) = omega (arith, f .0)
-    own (step i) k (inr (n, inr f)) = absurd (f .1)
-    own (ask i) k (inl f) = omega (arith, f .0)
-    own (ask i) k (inr f) = absurd (f .1)
-    own (board items results) k (inl f) = omega (arith, f .0)
-    own (board items results) k (inr (n, inl f)) = omega (arith, f .0)
-    own (board items results) k (inr (n, inr f)) = absurd (f .1)
-    own close k f = absurd f
-    own (swap giver taker quantity) k (inl f) = omega (arith, f .0)
-    own (swap giver taker quantity) k (inr (n, inl f)) = omega (arith, f .0)
-    own (swap giver taker quantity) k (inr (n, inr (m, inl f))) = omega (arith, f .0)
-    own (swap giver taker quantity) k (inr (n, inr (m, inr (l, inl f)))) = omega (arith, f .0)
-    own (swap giver taker quantity) k (inr (n, inr (m, inr (l, inr f)))) = absurd (f .1)
-
     past : (k : ℕ) → First (causesOf s kept (calling c)) k → 11 ≤ k
     past k (inl f) = absurd (lent .lent .0 (f .1))
     past k (inr (n, inl f)) = absurd (lent .lent .1 .0 (f .1))
     past k (inr (n, inr (m, inl f))) = absurd (lent .lent .1 .1 .0 (f .1))
-    past k (inr (n, inr (m, inr (o, f)))) = own c k f
+    past k (inr (n, inr (m, inr (o, f)))) = own-number (sheetOf s) (kept .table) c k f
 
     refuse : (k offset : ℕ) → Refused s kept (calling c) k offset → 11 ≤ k
     refuse k offset (bySheet f) = absurd (lent .sheet (f .place) (f .in-sheet) k (f .cause))

@@ -1,8 +1,9 @@
 -- The three demands of document 01, with 02's board, season-close run, owed bytes, choice and swap, a record for each, in its order; and a
--- record each of 02's job 7, that catching up always finishes, and of its job 8, swaps as one act, and of its job 9, that an edition more changes no reading. They are demands on `openOn` and `callOn`
--- (Office), which the contracts of the exported functions cite: a function gives and leaves exactly what these say, for all lent bytes. That
--- every call ends and touches only what it was lent is proved of each function by the language. Assumes nothing.
-use Prim.Native.Nat.{ℕ, _*_, _≤_}
+-- record each of 02's job 7, that catching up always finishes, of its job 8, swaps as one act, of its job 9, that an edition more changes no
+-- reading, and of its job 10, that forget is retired. They are demands on `openOn` and `callOn` (Office), which the contracts of the exported
+-- functions cite: a function gives and leaves exactly what these say, for all lent bytes. That every call ends and touches only what it was
+-- lent is proved of each function by the language. Assumes nothing.
+use Prim.Native.Nat.{ℕ, _*_, _≤_, _<_}
 use mathlib.Core.Path.{_≡_}
 use mathlib.Core.Bool.{true}
 use mathlib.Core.List.{List}
@@ -14,11 +15,15 @@ use Rattle.circuit.specs.Sheet.{size}
 use Rattle.circuit.specs.Equations.{Equations}
 use Rattle.circuit.specs.Call.{Call, drop, board, close, swap, Opening, bare}
 use Rattle.circuit.specs.Calls.{drops}
+use Rattle.circuit.specs.Table.{Table}
+use Rattle.circuit.specs.Words.{Coherent}
 use Rattle.circuit.specs.Fresh.{blank}
 use Rattle.field.specs.Field.{Bytes}
 use Rattle.layout.specs.Layout.{itemLimit, machineSheet}
 use Rattle.layout.specs.Opened.{sheetOf}
-use Rattle.layout.specs.Causes.{editionOf, itemCount, Faultless}
+use Rattle.layout.specs.Causes.{Place, item, editionOf, itemCount, InSheet, Before, offsetOf, CauseAt, Sound, Faultless}
+use Rattle.layout.specs.Spreads.{holdsForget, NoForget, FirstForget, DifferInSpreads, withoutForget, Zeroes}
+use Rattle.table.specs.Bytes.{decodeTable}
 use Rattle.layout.specs.Edition.{withEdition}
 use Rattle.office.specs.Office.{Office, resultOf, callOn, openOn, runOn}
 use Rattle.office.specs.Demand1Words.{Invocation, serve, resultsLentTo, causesOf, First, ByNumber, Lowest, Refused, NoCause, Gets}
@@ -26,7 +31,7 @@ use Rattle.office.specs.Demand1Words.{formerWidth, AcceptedUnder, Accept
 use Rattle.office.specs.Demand2Words.{FollowsLayout, Writes, NoneStored, OnlySolution, entriesIn, Gives, NoMarkStands, ListWords, ResultWords, CallsLeave}
 use Rattle.office.specs.FinishWords.{StepsEnd, QuietRight, AnyOrder}
 use Rattle.office.specs.SwapWords.{Swapping, swapsOf, sumIn, SwapFollows, CountsAsPosts}
-use Rattle.office.specs.EditionWords.{SameAcross}
+use Rattle.office.specs.EditionWords.{Reissuable, SameAcross, AsksRight}
 use Rattle.office.specs.Demand3Words.{postingsOn, askAfter, freshEntries, freshFrom, SameAnswers, Retains, RetainsPost, CountsAsAsks, ClosesRight, OfficeAccepted}
 
 -- Demand 1. Each fault is refused by its number and nothing else is, and a refused call changes no lent byte.
@@ -139,25 +144,59 @@ pub record Swaps : Type 0 where
   pub counts : (s : List ℕ) (o : Office) (giver taker : ℕ) (quantity : ℤ) → callOn s o (swap giver taker quantity) .number ≡ 0
       → (cs : List Call) → CountsAsPosts s o giver taker quantity cs
 
--- 02's job 9: "an edition 1 sheet with its edition number changed to 2 gives the same readings". The sheet may have any fault but one: more
--- items than edition 1 may have, which edition 2 may.
+-- 02's job 9: "an edition 1 sheet with its edition number changed to 2 gives the same readings", and its job 10: "Changing the edition to 2
+-- keeps the readings of sheets without spread 2".
 pub record Editions : Type 0 where
   -- every opening and call, on any index and table, gives the same, and leaves the same bytes
-  pub same : (s : List ℕ) → editionOf s ≡ 1 → itemCount s ≤ itemLimit 1
-      → (r : Invocation) (o : Office) → serve r (withEdition 2 s) o ≡ serve r s o
+  pub same : (s : List ℕ) → Reissuable s → (r : Invocation) (o : Office) → serve r (withEdition 2 s) o ≡ serve r s o
   -- every list of calls leaves the same bytes, and makes the same postings
-  pub lists : (s : List ℕ) → editionOf s ≡ 1 → itemCount s ≤ itemLimit 1
-      → (o : Office) (cs : List Call) → runOn (withEdition 2 s) o cs ≡ runOn s o cs
-  pub postings : (s : List ℕ) → editionOf s ≡ 1 → itemCount s ≤ itemLimit 1
-      → (o : Office) (cs : List Call) → postingsOn (withEdition 2 s) o cs ≡ postingsOn s o cs
+  pub lists : (s : List ℕ) → Reissuable s → (o : Office) (cs : List Call) → runOn (withEdition 2 s) o cs ≡ runOn s o cs
+  pub postings : (s : List ℕ) → Reissuable s → (o : Office) (cs : List Call) → postingsOn (withEdition 2 s) o cs ≡ postingsOn s o cs
   -- the circuit is the same
-  pub circuit : (s : List ℕ) → editionOf s ≡ 1 → itemCount s ≤ itemLimit 1 → sheetOf (withEdition 2 s) ≡ sheetOf s
+  pub circuit : (s : List ℕ) → Reissuable s → sheetOf (withEdition 2 s) ≡ sheetOf s
   -- Demand 3 for two offices, one of which holds the sheet under edition 1 and the other under edition 2
-  pub agree : (s : List ℕ) → editionOf s ≡ 1 → itemCount s ≤ itemLimit 1
-      → let t : List ℕ = withEdition 2 s in (o p : Office) (first second : Opening)
+  pub agree : (s : List ℕ) → Reissuable s → let t : List ℕ = withEdition 2 s in (o p : Office) (first second : Opening)
       → openOn first s o .number ≡ 0 → openOn second t p .number ≡ 0
       → (cs ds : List Call) → postingsOn s (openOn first s o .after) cs ≡ postingsOn t (openOn second t p .after) ds
       → SameAcross s (openOn first s o .after) cs t (openOn second t p .after) ds
+
+-- 02's job 10: forget is retired. Two offices' sameness, what stays stored and the limit on steps are said above of every sheet that opens, so
+-- of those with spread 2 too.
+pub record Retires : Type 0 where
+  -- "Edition 2 sheets that hold it get refusal 5": a figure of a sheet of edition 2 that holds it is at fault; where no field before it is, and its
+  -- own has no lower cause, every opening and call gives 5 with its offset
+  pub none-in-2 : (s : List ℕ) → editionOf s ≡ 2 → Faultless s → NoForget s
+  pub given-5 : (s : List ℕ) → editionOf s ≡ 2 → (i : ℕ) → i < itemCount s → holdsForget s i ≡ true
+      → ((p : Place) → InSheet s p → Before s p (item i) → Sound s p) → ((k : ℕ) → k < 5 → ¬ CauseAt s (item i) k)
+      → (r : Invocation) (o : Office) → (serve r s o .number ≡ 5) × (serve r s o .offset ≡ offsetOf s (item i))
+  -- Of a sheet of edition 1 without a fault, with its edition changed to 2: every opening and call gives 5 with an offset exactly if that is
+  -- the offset of the first figure that holds spread 2.
+  pub refused : (s : List ℕ) → editionOf s ≡ 1 → Faultless s → (r : Invocation) (o : Office) (offset : ℕ)
+      → ((serve r (withEdition 2 s) o .number ≡ 5) × (serve r (withEdition 2 s) o .offset ≡ offset)) ↔ ((i : ℕ) × FirstForget s i × (offset ≡ offsetOf s (item i)))
+  -- "Edition 1 sheets that hold it still open and are treated as spread 0": the sheet with 0 in place of each spread 2, faulty or not, gives
+  -- the same answer to every opening and call, on any index and table, and leaves the same bytes.
+  pub zeroed : (s : List ℕ) → Zeroes s (withoutForget s)
+  pub treated : (s : List ℕ) → editionOf s ≡ 1 → (r : Invocation) (o : Office) → serve r (withoutForget s) o ≡ serve r s o
+  pub treated-lists : (s : List ℕ) → editionOf s ≡ 1 → (o : Office) (cs : List Call) → runOn (withoutForget s) o cs ≡ runOn s o cs
+  pub treated-postings : (s : List ℕ) → editionOf s ≡ 1 → (o : Office) (cs : List Call) → postingsOn (withoutForget s) o cs ≡ postingsOn s o cs
+  pub treated-circuit : (s : List ℕ) → editionOf s ≡ 1 → sheetOf (withoutForget s) ≡ sheetOf s
+  -- and so does that sheet with its edition changed to 2
+  pub migrates : (s : List ℕ) → editionOf s ≡ 1 → itemCount s ≤ itemLimit 1
+      → (r : Invocation) (o : Office) → serve r (withEdition 2 (withoutForget s)) o ≡ serve r s o
+  -- Demand 3 for two offices, one of which holds the sheet as it was and the other with 0
+  pub agree : (s : List ℕ) → editionOf s ≡ 1 → let t : List ℕ = withoutForget s in (o p : Office) (first second : Opening)
+      → openOn first s o .number ≡ 0 → openOn second t p .number ≡ 0
+      → (cs ds : List Call) → postingsOn s (openOn first s o .after) cs ≡ postingsOn t (openOn second t p .after) ds
+      → SameAcross s (openOn first s o .after) cs t (openOn second t p .after) ds
+  -- Older tables. Two sheets without a fault that differ in spread bytes only accept the same index and table, and have the invariant on the
+  -- same tables.
+  pub accept : (s t : List ℕ) → DifferInSpreads s t → Faultless s → Faultless t → (o : Office) → AcceptedLent s o ↔ AcceptedLent t o
+  pub coherent : (s t : List ℕ) → DifferInSpreads s t → Faultless s → Faultless t → (T : Table) → Coherent (sheetOf s) T ↔ Coherent (sheetOf t) T
+  -- every table that the engine alone has written since opening has it
+  pub written : (s : List ℕ) (o : Office) (how : Opening) → openOn how s o .number ≡ 0
+      → (cs : List Call) → Coherent (sheetOf s) (decodeTable (runOn s (openOn how s o .after) cs .table))
+  -- from every accepted table that has it, each ask is right
+  pub right : (s : List ℕ) (o : Office) → Bytes (o .table) → AcceptedLent s o → Coherent (sheetOf s) (decodeTable (o .table)) → AsksRight s o
 
 pub record Demands : Type 0 where
   pub refuses : Refuses
@@ -166,3 +205,4 @@ pub record Demands : Type 0 where
   pub finishes : Finishes
   pub swaps : Swaps
   pub editions : Editions
+  pub retires : Retires

@@ -2,7 +2,7 @@
 use borrow.Author.Needs.{needs}
 use Rattle.item.specs.Item.{spreadByte}
 use mathlib.Core.Path.{_∙_}
-use Rattle.item.proofs.Fields.{meant-defer, meant-renew, meant-forget, figure-within, spread-read, spread-not}
+use Rattle.item.proofs.Fields.{meant-renew, meant-defer, figure-within, spread-read, spread-not}
 use native.Mathlib.Omega.{arith}
 use Rattle.item.proofs.spread_of.Statement.{statement}
 use Rattle.item.proofs.spread_of.Tie as tie
@@ -15,20 +15,15 @@ shared-slice-read-match c =
 returns : tie.Need-returns
 returns c =
     let a = c .before .before .before .before in
-    meant-defer (spreadByte (a .args .s .now) (a .args .at)) (c .match .keys1) ∙ spread-read (a .args .s .now) (a .args .at) (a .pre) (c .before .before .if1 .taken)
+    meant-renew (spreadByte (a .args .s .now) (a .args .at)) (c .match .keys1) ∙ spread-read (a .args .s .now) (a .args .at) (a .pre) (c .before .before .if1 .taken)
 
 returns-2 : tie.Need-returns-2
 returns-2 c =
     let a = c .before .before .before .before in
-    meant-renew (spreadByte (a .args .s .now) (a .args .at)) (c .match .keys2) ∙ spread-read (a .args .s .now) (a .args .at) (a .pre) (c .before .before .if1 .taken)
+    meant-defer (spreadByte (a .args .s .now) (a .args .at)) (c .match .rest .1) ∙ spread-read (a .args .s .now) (a .args .at) (a .pre) (c .before .before .if1 .taken)
 
 returns-3 : tie.Need-returns-3
 returns-3 c =
-    let a = c .before .before .before .before in
-    meant-forget (spreadByte (a .args .s .now) (a .args .at)) (c .match .rest .0 .1) (c .match .rest .1) ∙ spread-read (a .args .s .now) (a .args .at) (a .pre) (c .before .before .if1 .taken)
-
-returns-4 : tie.Need-returns-4
-returns-4 c =
     let a = c .before .before in
     spread-not (a .args .s .now) (a .args .at) (a .pre) (c .if1 .left)
 
@@ -41,5 +36,4 @@ spread-of-spec =
     shared-slice-read-match
     returns
     returns-2
-    returns-3
-    returns-4)
+    returns-3)
