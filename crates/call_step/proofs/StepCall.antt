@@ -5,6 +5,7 @@ use mathlib.Core.Path.{_≡_, refl, sym, ap, subst, _∙_}
 use mathlib.Core.Bool.{Bool, true, false, cond, not}
 use mathlib.Core.List.{List, [], _∷_}
 use lib.Dec.{eqb, leb}
+use lib.ListN.{length}
 use borrow.Author.Tests.{le-leb, lt-leb, leb-false}
 use Rattle.circuit.specs.Sheet.{Sheet, size}
 use Rattle.circuit.specs.Table.{Table, Cell, unmarked, refresh, notice, unk, held, isMarked, isNotice, markOf}
@@ -12,18 +13,21 @@ use Rattle.circuit.specs.Owed.{owed}
 use Rattle.circuit.specs.Machine.{tell, clearMark, stepCell, stepItem}
 use Rattle.circuit.specs.Ascending.{tellBy}
 use Rattle.circuit.proofs.CalledOn.{tell-by}
+use Rattle.circuit.proofs.StepOwed.{step-owed}
 use Rattle.circuit.specs.Call.{step}
 use Rattle.circuit.specs.Calls.{test, firstCause, tests, effect, noMark}
+use Rattle.field.specs.Bytes.{Bytes}
 use Rattle.layout.specs.Opened.{sheetOf}
 use Rattle.item.proofs.Located.{sheet-ordered}
 use Rattle.table.specs.Record.{owedCode}
-use Rattle.table.specs.Bytes.{encodeTable, decodeTable}
+use Rattle.table.specs.Bytes.{encodeTable, decodeTable, owedTrue, OwedKept}
+use Rattle.table.proofs.Tables.{encoded-kept}
 use Rattle.owing.specs.Owing.{saysOwed, OwedIs}
 use Rattle.looking.specs.Pass.{Lent}
 use Rattle.admission.specs.Admission.{callLent}
 use Rattle.admission.specs.Answers.{Answered, Left}
 use Rattle.admission.specs.declared.Answer.{Answer}
-use Rattle.admission.proofs.Admitting.{refused-answer, accepted-answer, left-settled}
+use Rattle.admission.proofs.Admitting.{refused-answer, accepted-answer}
 use Rattle.stepping.specs.Stepping.{Steps}
 
 -- ---- step
@@ -62,11 +66,16 @@ module _ {s offsets t : List ℕ} (lent : Lent s offsets t) (x : List ℕ) (n it
   pub step-refused : (cause ≡ 0 → ⊥) → r .number ≡ cause → Answered (callLent (sheetOf s) x t (step item)) r t
   step-refused h k = refused-answer (sheetOf s) x t (step item) r cause step-cause h k offset-is
 
-  pub step-done : cause ≡ 0 → (t₁ : List ℕ) → Left s (stepItem (sheetOf s) (decodeTable t) item) t₁ → (t₂ : List ℕ)
-      → t₂ ≡ encodeTable (sheetOf s) (decodeTable t₁) → r .number ≡ 0 → Answered (callLent (sheetOf s) x t (step item)) r t₂
+  -- neither the owed bytes nor what is owed have changed
+  pub step-done : cause ≡ 0 → owedTrue (sheetOf s) t ≡ true → (t₁ : List ℕ) → Left s (stepItem (sheetOf s) (decodeTable t) item) t₁
+      → OwedKept t t₁ → Bytes t₁ → length t₁ ≡ length t → r .number ≡ 0 → Answered (callLent (sheetOf s) x t (step item)) r t₁
   unfolding effect
-  step-done h t₁ l t₂ settled k =
-      accepted-answer (sheetOf s) x t t₂ (step item) r (step-cause ∙ h) k offset-is (left-settled l t₂ settled)
+  step-done h owes t₁ l kept bytes len k =
+      accepted-answer (sheetOf s) x t t₁ (step item) r (step-cause ∙ h) k offset-is
+      (sym (encoded-kept (sheetOf s) t t₁ owes kept same bytes (len ∙ lent .length-is) (l .formed)) ∙ ap (encodeTable (sheetOf s)) (l .table-is))
+    where
+      same : (i : ℕ) → owed (sheetOf s) (decodeTable t₁) i ≡ owed (sheetOf s) (decodeTable t) i
+      same i = ap (λ T. owed (sheetOf s) T i) (l .table-is) ∙ step-owed (sheetOf s) (sheet-ordered s) (decodeTable t) item i
 
 -- what the array of owed bytes says of an item
 owes-owed : (s t bytes : List ℕ) → OwedIs (sheetOf s) (decodeTable t) bytes → (c : ℕ) → c < size (sheetOf s) → saysOwed bytes c ≡ owed (sheetOf s) (decodeTable t) c
@@ -78,7 +87,7 @@ owes-owed s t bytes is c low = rw (is .byte-is c low) (go (owed (sheetOf s) (dec
 
 -- a telling by that array
 pub left-told : (s t bytes : List ℕ) (i : ℕ) → i < size (sheetOf s) → OwedIs (sheetOf s) (decodeTable t) bytes → {generation : ℕ} {t₂ tags₂ : List ℕ}
-    → Steps s generation (clearMark (tellBy (saysOwed bytes) (sheetOf s) (decodeTable t) i) i) t₂ tags₂
+    → Steps s t generation (clearMark (tellBy (saysOwed bytes) (sheetOf s) (decodeTable t) i) i) t₂ tags₂
     → Left s (clearMark (tell (sheetOf s) (decodeTable t) i) i) t₂
 left-told s t bytes i low is steps =
     record {

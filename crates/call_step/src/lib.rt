@@ -14,7 +14,7 @@ ghost use Rattle.circuit.specs.Table.{markOf, isNotice};
 ghost use Rattle.layout.specs.Opened.{sheetOf};
 ghost use Rattle.layout.specs.Room.{Room};
 ghost use Rattle.table.specs.Record.{width};
-ghost use Rattle.table.specs.Bytes.{decodeTable, owedTrue};
+ghost use Rattle.table.specs.Bytes.{decodeTable, owedTrue, OwedKept};
 ghost use Rattle.office.specs.Office.{callOn, keeping};
 ghost use Rattle.admission.specs.Answers.{Answered, Left};
 ghost use Rattle.admission.specs.Admission.{Placing, callLent};
@@ -52,7 +52,7 @@ fn notice_once(
     links: &mut [u16],
 )
     requires { ⌜ Lent (now sheet) (now offsets) (now table) ⌝ ∗ ⌜ (n ≡ size (sheetOf (now sheet))) × (n ≤ length (now bytes)) ⌝ ∗ ⌜ i < n ⌝ ∗ ⌜ owedTrue (sheetOf (now sheet)) (now table) ≡ true ⌝ ∗ ⌜ Ready (now sheet) (now tags) (now numbers) 1 × Lists (sheetOf (now sheet)) false (now heads) (now links) ⌝ }
-    ensures { λ _. ⌜ Left (now (sheet .entry)) (machine.clearMark (machine.tell (sheetOf (now (sheet .entry))) (decodeTable (now (table .entry))) i) i) (now (table .exit)) ⌝ }
+    ensures { λ _. ⌜ Left (now (sheet .entry)) (machine.clearMark (machine.tell (sheetOf (now (sheet .entry))) (decodeTable (now (table .entry))) i) i) (now (table .exit)) ⌝ ∗ ⌜ OwedKept (now (table .entry)) (now (table .exit)) ⌝ }
 {
     owing::copy_owed(table, n, bytes);
     stepping::link_once(sheet, offsets, n, heads, links, false, bytes[i] != 0);
@@ -80,7 +80,7 @@ fn refresh_once(
     numbers: &mut [i64],
 )
     requires { ⌜ Lent (now sheet) (now offsets) (now table) ⌝ ∗ ⌜ Ready (now sheet) (now tags) (now numbers) 1 ⌝ ∗ ⌜ i < size (sheetOf (now sheet)) ⌝ ∗ ⌜ isNotice (markOf (decodeTable (now table) i)) ≡ false ⌝ }
-    ensures { λ _. ⌜ Left (now (sheet .entry)) (machine.stepItem (sheetOf (now (sheet .entry))) (decodeTable (now (table .entry))) i) (now (table .exit)) ⌝ }
+    ensures { λ _. ⌜ Left (now (sheet .entry)) (machine.stepItem (sheetOf (now (sheet .entry))) (decodeTable (now (table .entry))) i) (now (table .exit)) ⌝ ∗ ⌜ OwedKept (now (table .entry)) (now (table .exit)) ⌝ }
 {
     stepping::step_refresh(sheet, offsets, table, tags, numbers, 1, i);
 }
@@ -99,7 +99,7 @@ fn step_once(
     links: &mut [u16],
 )
     requires { ⌜ Lent (now sheet) (now offsets) (now table) ⌝ ∗ ⌜ (n ≡ size (sheetOf (now sheet))) × (n ≤ length (now bytes)) ⌝ ∗ ⌜ i < n ⌝ ∗ ⌜ owedTrue (sheetOf (now sheet)) (now table) ≡ true ⌝ ∗ ⌜ Ready (now sheet) (now tags) (now numbers) 1 × Lists (sheetOf (now sheet)) false (now heads) (now links) ⌝ }
-    ensures { λ _. ⌜ Left (now (sheet .entry)) (machine.stepItem (sheetOf (now (sheet .entry))) (decodeTable (now (table .entry))) i) (now (table .exit)) ⌝ }
+    ensures { λ _. ⌜ Left (now (sheet .entry)) (machine.stepItem (sheetOf (now (sheet .entry))) (decodeTable (now (table .entry))) i) (now (table .exit)) ⌝ ∗ ⌜ OwedKept (now (table .entry)) (now (table .exit)) ⌝ }
 {
     if table::is_noticed(table, i) {
         notice_once(
@@ -119,6 +119,7 @@ fn step_once(
     }
 }
 
+// A step leaves the owed bytes, which stay true: nothing becomes owed by it or stops being owed.
 fn step_lent(
     sheet: &[u8],
     offsets: &[usize],
@@ -150,7 +151,6 @@ fn step_lent(
         heads,
         links,
     );
-    owing::settle(sheet, offsets, n, table, bytes);
     admission::give(0, 0)
 }
 

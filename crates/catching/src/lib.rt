@@ -10,7 +10,7 @@ ghost use Rattle.table.specs.Bytes.{decodeTable, owedTrue};
 ghost use Rattle.looking.specs.Pass.{Lent};
 ghost use Rattle.stepping.specs.Stepping.{Ready, Lists, Steps};
 
-// Steps until no item is marked, from the lowest on. Telling goes by the owed bytes that the table has at the start, which are true then.
+// Steps until no item is marked, from the lowest on. Telling goes by the owed bytes that the table has at the start, which stay true.
 // What is in the arrays afterwards is left free, but for the generations of the memo.
 pub fn catch_up(
     sheet: &[u8],
@@ -24,7 +24,7 @@ pub fn catch_up(
     links: &mut [u16],
 )
     requires { ⌜ Lent (now sheet) (now offsets) (now table) ⌝ ∗ ⌜ Ready (now sheet) (now tags) (now numbers) 1 ⌝ ∗ ⌜ Lists (sheetOf (now sheet)) false (now heads) (now links) ⌝ ∗ ⌜ (n ≡ size (sheetOf (now sheet))) × (n ≤ length (now owed)) ⌝ ∗ ⌜ owedTrue (sheetOf (now sheet)) (now table) ≡ true ⌝ }
-    ensures { λ _. ⌜ Steps (now (sheet .entry)) (2 * n) (machine.catchUp (sheetOf (now (sheet .entry))) (decodeTable (now (table .entry)))) (now (table .exit)) (now (tags .exit)) ⌝ }
+    ensures { λ _. ⌜ Steps (now (sheet .entry)) (now (table .entry)) (2 * n) (machine.catchUp (sheetOf (now (sheet .entry))) (decodeTable (now (table .entry)))) (now (table .exit)) (now (tags .exit)) ⌝ }
 {
     let first = table::lowest_marked(table, n);
     if first < n {

@@ -17,7 +17,8 @@ use Rattle.circuit.specs.Machine.{Looked, Gathered, gathered, gather, andThen, 
 use Rattle.circuit.proofs.RuleLaws.{allWellFormed-snoc, and-true}
 use Rattle.layout.specs.Opened.{sheetOf}
 use Rattle.item.specs.Item.{Evaluated, CountRead, fieldItem}
-use Rattle.table.specs.Bytes.{decodeTable, tableForm}
+use Rattle.table.specs.Bytes.{decodeTable, tableForm, OwedKept}
+use Rattle.table.proofs.Tables.{owed-kept-refl, owed-kept-then}
 use Rattle.value.specs.Meaning.{meaning, firstValues}
 use Rattle.value.proofs.Parents.{firstValues-store}
 use Rattle.memo.specs.Memo.{Found, found, Memo, NoneFrom}
@@ -52,6 +53,7 @@ pub record Going (s offsets t₀ tags₀ : List ℕ) (numbers₀ : List ℤ) (ge
   pub tags-length : length tags ≡ length tags₀
   pub numbers-length : length numbers ≡ length numbers₀
   pub formed : tableForm (sheetOf s) t ≡ true
+  pub owed-kept : OwedKept t₀ t
   pub table-is : decodeTable t ≡ soFar s i t₀ k .table
   pub memo : Memo (sheetOf s) (soFar s i t₀ k .table) tags numbers generation
   pub values-are : firstValues kinds amounts k ≡ soFar s i t₀ k .values
@@ -107,6 +109,7 @@ going-start lent memo low figured count read kinds amounts a b =
       tags-length = refl;
       numbers-length = refl;
       formed = lent .formed;
+      owed-kept = owed-kept-refl _;
       table-is = refl;
       memo = memo;
       values-are = refl;
@@ -145,6 +148,7 @@ module _ {s offsets t₀ tags₀ : List ℕ} {numbers₀ : List ℤ} {generation
         tags-length = tags-len ∙ inv .tags-length;
         numbers-length = numbers-len ∙ inv .numbers-length;
         formed = here .formed;
+        owed-kept = owed-kept-then t₀ t t′ (inv .owed-kept) (here .owed-kept);
         table-is = here .table-is ∙ ap (λ x. x .table) is ∙ ap (λ g. g .table) step;
         memo = subst (λ X. Memo (sheetOf s) X tags′ numbers′ generation) (ap (λ x. x .table) is ∙ ap (λ g. g .table) step) (here .memo);
         values-are =
@@ -201,6 +205,7 @@ module _ {s offsets t₀ tags₀ : List ℕ} {numbers₀ : List ℤ} {generation
         flag-is = inv .flag-is ∙ ap (λ x. x .flag) is;
         value-formed = given .formed;
         table-is = inv .table-is ∙ ap (λ x. x .table) is;
+        owed-kept = inv .owed-kept;
         formed = inv .formed;
         memo = subst (λ X. Memo (sheetOf s) X tags numbers generation) (ap (λ x. x .table) is) (inv .memo);
         fresh = inv .fresh b over;

@@ -22,8 +22,8 @@ use Rattle.item.specs.Item.{fieldItem}
 use Rattle.item.proofs.Located.{sheet-ordered, located-item}
 use Rattle.table.specs.Rows.{setRow}
 use Rattle.table.specs.Record.{width, mayHold, encodeCell}
-use Rattle.table.specs.Bytes.{decodeTable, tableForm, Holdable}
-use Rattle.table.proofs.Tables.{decoded-holdable, decode-setRow, setRow-form, record-fits}
+use Rattle.table.specs.Bytes.{decodeTable, tableForm, OwedKept, Holdable}
+use Rattle.table.proofs.Tables.{decoded-holdable, decode-setRow, setRow-form, setRow-owed, owed-kept-refl, owed-kept-then, record-fits}
 use Rattle.value.specs.Meaning.{meaning}
 use Rattle.table.specs.Meaning.{markMeaning, cellMeaning}
 use Rattle.table.specs.declared.Cell.the-variants.{Unk, Held}
@@ -60,6 +60,7 @@ module _ {s offsets t : List ℕ} (lent : Lent s offsets t) where
         flag-is = ap (λ r. r .flag) (sym is);
         value-formed = subst (λ v. wellFormed v ≡ true) (ap (λ r. r .value) is) (look-formed (sheetOf s) (sheet-ordered s) (decodeTable t) i low lent-holdable);
         table-is = ap (λ r. r .table) (sym is);
+        owed-kept = owed-kept-refl t;
         formed = lent .formed;
         memo = subst (λ T. Memo (sheetOf s) T tags numbers generation) (ap (λ r. r .table) (sym is)) memo;
         fresh = λ h. h;
@@ -205,15 +206,16 @@ module _ {s offsets t : List ℕ} (lent : Lent s offsets t) {tags : List ℕ} {g
 
   -- the look-up leaves the table T′ and the memo of tags₂ and numbers₂
   leaves-settled : (T′ : Table) → lookUp S (decodeTable t) i ≡ looked T′ (f .value) (f .flag)
-      → (t₂ tags₂ : List ℕ) (numbers₂ : List ℤ) → decodeTable t₂ ≡ T′ → tableForm S t₂ ≡ true → Memo S T′ tags₂ numbers₂ generation
+      → (t₂ tags₂ : List ℕ) (numbers₂ : List ℤ) → decodeTable t₂ ≡ T′ → OwedKept t₁ t₂ → tableForm S t₂ ≡ true → Memo S T′ tags₂ numbers₂ generation
       → (b : ℕ) → (NoneFrom b tags generation → NoneFrom b tags₂ generation)
       → Leaves s t tags generation b (lookUp S (decodeTable t) i) f t₂ tags₂ numbers₂
-  leaves-settled T′ is t₂ tags₂ numbers₂ table-is formed memo b fresh =
+  leaves-settled T′ is t₂ tags₂ numbers₂ table-is owes formed memo b fresh =
       record {
         value-is = ap (λ x. x .value) (sym is);
         flag-is = ap (λ x. x .flag) (sym is);
         value-formed = formed-f;
         table-is = table-is ∙ ap (λ x. x .table) (sym is);
+        owed-kept = owed-kept-then t t₁ t₂ (here .owed-kept) owes;
         formed = formed;
         memo = rw is memo;
         fresh = fresh;
@@ -225,6 +227,7 @@ module _ {s offsets t : List ℕ} (lent : Lent s offsets t) {tags : List ℕ} {g
   leaves-kept kept-is b over =
       leaves-settled (upd (r .table) i cell) is (setRow width t₁ i (encodeCell cell)) tags₁ numbers₁
       (decode-setRow t₁ i cell fits formed-f ∙ ap (λ X. upd X i cell) (here .table-is))
+      (setRow-owed t₁ i cell)
       (setRow-form S t₁ i cell (len ∙ lent .length-is) (here .formed) low (rw fig formed-f))
       (memo-fill S (sheet-ordered s) (r .table) (upd (r .table) i cell) tags₁ numbers₁ generation fill (here .memo))
       b
@@ -262,6 +265,7 @@ module _ {s offsets t : List ℕ} (lent : Lent s offsets t) {tags : List ℕ} {g
   leaves-remembered kept-is b over =
       leaves-settled (r .table) is t₁ (set tags₁ i (tagOf generation f)) (set numbers₁ i (numberOf (f .value)))
       (here .table-is)
+      (owed-kept-refl t₁)
       (here .formed)
       (memo-remembered S (r .table) tags₁ numbers₁ generation i f low (here .memo) again)
       b

@@ -13,7 +13,7 @@ use Rattle.circuit.specs.Machine.{Looked}
 use Rattle.layout.specs.Opened.{sheetOf, Located}
 use Rattle.table.specs.Rows.{setRow}
 use Rattle.table.specs.Record.{width, encodeCell}
-use Rattle.table.specs.Bytes.{decodeTable, tableForm, tableLength}
+use Rattle.table.specs.Bytes.{decodeTable, tableForm, tableLength, OwedKept}
 use Rattle.memo.specs.Memo.{Found, found, tagOf, Memo, NoneFrom}
 
 -- the sheet with the offsets of its fields, and a table in form
@@ -23,13 +23,14 @@ pub record Lent (s offsets t : List ℕ) : Type 0 where
   pub length-is : length t ≡ tableLength (sheetOf s)
   pub formed : tableForm (sheetOf s) t ≡ true
 
--- What a look-up (or working out) leaves, which on the table t gives r by the machine: the value and the flag, the table,
--- and the memo; where nothing was remembered at or above b, nothing is.
+-- What a look-up (or working out) leaves, which on the table t gives r by the machine: the value and the flag, the table
+-- with its owed bytes as they were, and the memo; where nothing was remembered at or above b, nothing is.
 pub record Leaves (s t : List ℕ) (tags : List ℕ) (generation b : ℕ) (r : Looked) (f : Found) (t′ : List ℕ) (tags′ : List ℕ) (numbers′ : List ℤ) : Type 0 where
   pub value-is : f .value ≡ r .value
   pub flag-is : f .flag ≡ r .flag
   pub value-formed : wellFormed (f .value) ≡ true
   pub table-is : decodeTable t′ ≡ r .table
+  pub owed-kept : OwedKept t t′
   pub formed : tableForm (sheetOf s) t′ ≡ true
   pub memo : Memo (sheetOf s) (r .table) tags′ numbers′ generation
   pub fresh : NoneFrom b tags generation → NoneFrom b tags′ generation

@@ -16,7 +16,7 @@ use Rattle.circuit.specs.Owed.{owed}
 use Rattle.table.specs.Rows.{row, allBelow}
 use Rattle.table.specs.Record.{width, owedPlace, owedIn, owedCode, decodeCell, recordForm}
 use Rattle.table.specs.Bytes.{encodeTable, decodeTable, recordInForm, tableForm, owedTrueAt, owedTrue}
-use Rattle.table.proofs.Rows.{getD-row, below-true, true-below}
+use Rattle.table.proofs.Rows.{getD-row, below-same, below-true, true-below}
 use Rattle.table.proofs.Records.{decode-front, form-front}
 use Rattle.table.proofs.Tables.{encoded-as}
 use Rattle.owing.specs.Owing.{OwedIs, oweRows}
@@ -57,11 +57,6 @@ module _ (t bytes : List ℕ) (i : ℕ) where
       go : (b : Bool) → allBelow (matches t bytes) n ≡ b → false ≡ b
       go false e = refl
       go true e = absurd (other (sym (owed-read t i) ∙ eqb-true _ _ (below-true (matches t bytes) n e i low)))
-
-below-same : (p q : ℕ → Bool) (n : ℕ) → ((i : ℕ) → i < n → p i ≡ q i) → allBelow p n ≡ allBelow q n
-unfolding allBelow
-below-same p q zero e = refl
-below-same p q (suc n) e = rw (below-same p q n (λ i h. e i (omega arith)), e n (omega arith))
 
 pub matches-true : (S : Sheet) (t bytes : List ℕ) (n : ℕ) → n ≡ size S → OwedIs S (decodeTable t) bytes → allBelow (matches t bytes) n ≡ owedTrue S t
 unfolding owedTrue

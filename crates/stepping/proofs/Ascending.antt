@@ -18,7 +18,8 @@ use Rattle.circuit.proofs.CatchUp.{catchUp-still}
 use Rattle.circuit.proofs.CalledMore.{catchUp-by}
 use Rattle.layout.specs.Opened.{sheetOf}
 use Rattle.item.proofs.Located.{sheet-ordered, size-most}
-use Rattle.table.specs.Bytes.{decodeTable, LowestMarked}
+use Rattle.table.specs.Bytes.{decodeTable, OwedKept, LowestMarked}
+use Rattle.table.proofs.Tables.{owed-kept-refl, owed-kept-then}
 use Rattle.owing.specs.Owing.{saysOwed, OwedIs}
 use Rattle.memo.specs.Memo.{NoneFrom}
 use Rattle.looking.proofs.Gathering.{lent-on}
@@ -27,25 +28,25 @@ use Rattle.stepping.specs.Stepping.{Ready, Steps}
 use Rattle.stepping.proofs.Stepping.{still-older}
 
 module _ (w : ℕ → Bool) {s offsets t : List ℕ} (lent : Lent s offsets t) (i : ℕ) (b : Bool) (tests : b ≡ isMarked (decodeTable t i)) where
-  pub marked-steps : b ≡ true → {generation : ℕ} {t₂ tags₂ : List ℕ} → Steps s generation (stepBy w (sheetOf s) (decodeTable t) i) t₂ tags₂
-      → Steps s generation (stepMarkedBy w (sheetOf s) (decodeTable t) i) t₂ tags₂
+  pub marked-steps : b ≡ true → {generation : ℕ} {t₂ tags₂ : List ℕ} → Steps s t generation (stepBy w (sheetOf s) (decodeTable t) i) t₂ tags₂
+      → Steps s t generation (stepMarkedBy w (sheetOf s) (decodeTable t) i) t₂ tags₂
   unfolding stepMarkedBy
   marked-steps e {generation} {t₂} {tags₂} steps =
-      subst (λ x. Steps s generation (stepIfBy x w (sheetOf s) (decodeTable t) i) t₂ tags₂) (sym e ∙ tests) steps
+      subst (λ x. Steps s t generation (stepIfBy x w (sheetOf s) (decodeTable t) i) t₂ tags₂) (sym e ∙ tests) steps
 
   stays-so : b ≡ false → decodeTable t ≡ stepMarkedBy w (sheetOf s) (decodeTable t) i
   unfolding stepMarkedBy
   stays-so e = ap (λ x. stepIfBy x w (sheetOf s) (decodeTable t) i) (sym e ∙ tests)
 
-  pub unmarked-stays : b ≡ false → {tags : List ℕ} {generation : ℕ} → NoneFrom 0 tags generation → Steps s generation (stepMarkedBy w (sheetOf s) (decodeTable t) i) t tags
+  pub unmarked-stays : b ≡ false → {tags : List ℕ} {generation : ℕ} → NoneFrom 0 tags generation → Steps s t generation (stepMarkedBy w (sheetOf s) (decodeTable t) i) t tags
   unmarked-stays e {tags} {generation} older =
-      record { table-is = stays-so e; formed = lent .formed; older = still-older tags generation older }
+      record { table-is = stays-so e; owed-kept = owed-kept-refl t; formed = lent .formed; older = still-older tags generation older }
 
   -- an item that is not marked is not stepped a second time either
   pub unmarked-twice : b ≡ false → {tags : List ℕ} (generation : ℕ) → NoneFrom 0 tags (generation + 1)
-      → Steps s (generation + 1) (stepMarkedBy w (sheetOf s) (stepMarkedBy w (sheetOf s) (decodeTable t) i) i) t tags
+      → Steps s t (generation + 1) (stepMarkedBy w (sheetOf s) (stepMarkedBy w (sheetOf s) (decodeTable t) i) i) t tags
   unmarked-twice e {tags} generation older =
-      record { table-is = stays-so e ∙ ap (λ T. stepMarkedBy w (sheetOf s) T i) (stays-so e); formed = lent .formed; older = still-older tags (generation + 1) older }
+      record { table-is = stays-so e ∙ ap (λ T. stepMarkedBy w (sheetOf s) T i) (stays-so e); owed-kept = owed-kept-refl t; formed = lent .formed; older = still-older tags (generation + 1) older }
 
 -- the next generation
 pub ready-on : {s tags : List ℕ} {numbers : List ℤ} {generation : ℕ} → Ready s tags numbers generation → (tags₁ : List ℕ) (numbers₁ : List ℤ)
@@ -58,7 +59,7 @@ ready-on ready tags₁ numbers₁ a b few older =
 module _ (w : ℕ → Bool) {s offsets t tags : List ℕ} {numbers : List ℤ} {generation : ℕ} (lent : Lent s offsets t) (ready : Ready s tags numbers (generation + 1)) (i : ℕ)
     (b : Bool) (tests : b ≡ isMarked (decodeTable t i)) (e : b ≡ true)
     (t₁ tags₁ : List ℕ) (numbers₁ : List ℤ) (len : length t₁ ≡ length t) (tags-len : length tags₁ ≡ length tags) (numbers-len : length numbers₁ ≡ length numbers)
-    (first : Steps s generation (stepBy w (sheetOf s) (decodeTable t) i) t₁ tags₁) where
+    (first : Steps s t generation (stepBy w (sheetOf s) (decodeTable t) i) t₁ tags₁) where
   pub second-lent : Lent s offsets t₁
   second-lent = lent-on lent t₁ len (first .formed)
 
@@ -66,10 +67,15 @@ module _ (w : ℕ → Bool) {s offsets t tags : List ℕ} {numbers : List ℤ} {
   second-ready =
       record { tag-room = omega (arith, ready .tag-room); number-room = omega (arith, ready .number-room); generations = ready .generations; older = first .older }
 
-  pub stepped-twice : {t₂ tags₂ : List ℕ} → Steps s (generation + 1) (stepMarkedBy w (sheetOf s) (decodeTable t₁) i) t₂ tags₂
-      → Steps s (generation + 1) (stepMarkedBy w (sheetOf s) (stepMarkedBy w (sheetOf s) (decodeTable t) i) i) t₂ tags₂
+  pub stepped-twice : {t₂ tags₂ : List ℕ} → Steps s t₁ (generation + 1) (stepMarkedBy w (sheetOf s) (decodeTable t₁) i) t₂ tags₂
+      → Steps s t (generation + 1) (stepMarkedBy w (sheetOf s) (stepMarkedBy w (sheetOf s) (decodeTable t) i) i) t₂ tags₂
   stepped-twice {t₂} {tags₂} steps =
-      subst (λ T. Steps s (generation + 1) (stepMarkedBy w (sheetOf s) T i) t₂ tags₂) (marked-steps w lent i b tests e first .table-is) steps
+      record {
+        table-is = steps .table-is ∙ ap (λ T. stepMarkedBy w (sheetOf s) T i) (marked-steps w lent i b tests e first .table-is);
+        owed-kept = owed-kept-then t t₁ t₂ (first .owed-kept) (steps .owed-kept);
+        formed = steps .formed;
+        older = steps .older;
+      }
 
 -- a generation may begin where the one after it may, and nothing of it is remembered
 pub ready-before : {s tags : List ℕ} {numbers : List ℤ} {generation : ℕ} → Ready s tags numbers (generation + 1) → NoneFrom 0 tags generation → Ready s tags numbers generation
@@ -97,6 +103,7 @@ pub record Ascending (w : ℕ → Bool) (s offsets t₀ tags₀ : List ℕ) (num
   pub n-is : n ≡ size (sheetOf s)
   pub within : i ≤ n
   pub table-is : decodeTable t ≡ ascendBelowBy w (sheetOf s) (decodeTable t₀) i
+  pub owed-kept : OwedKept t₀ t
   pub ready : Ready s tags numbers (2 * i + 1)
   pub t-length : length t ≡ length t₀
   pub tags-length : length tags ≡ length tags₀
@@ -110,6 +117,7 @@ ascending-start w {s} {offsets} {t} {tags} {numbers} {n} {first} lent ready n-is
       n-is = n-is;
       within = lowest .within;
       table-is = sym (ascend-none w (sheetOf s) (decodeTable t) first (lowest .none-below));
+      owed-kept = owed-kept-refl t;
       ready = ready;
       t-length = refl;
       tags-length = refl;
@@ -125,7 +133,7 @@ module _ {w : ℕ → Bool} {s offsets t₀ tags₀ : List ℕ} {numbers₀ : Li
   ascending-ready = ready-after (inv .ready) (omega (arith, few))
 
   pub ascending-next : (t₂ tags₂ : List ℕ) (numbers₂ : List ℤ) → length t₂ ≡ length t → length tags₂ ≡ length tags → length numbers₂ ≡ length numbers
-      → Steps s (2 * i + 1 + 1) (stepMarkedBy w (sheetOf s) (stepMarkedBy w (sheetOf s) (decodeTable t) i) i) t₂ tags₂
+      → Steps s t (2 * i + 1 + 1) (stepMarkedBy w (sheetOf s) (stepMarkedBy w (sheetOf s) (decodeTable t) i) i) t₂ tags₂
       → Ascending w s offsets t₀ tags₀ numbers₀ n (i + 1) t₂ tags₂ numbers₂
   unfolding ascendBelowBy
   ascending-next t₂ tags₂ numbers₂ a b c steps =
@@ -137,6 +145,7 @@ module _ {w : ℕ → Bool} {s offsets t₀ tags₀ : List ℕ} {numbers₀ : Li
             steps .table-is
             ∙ ap (λ T. stepMarkedBy w (sheetOf s) (stepMarkedBy w (sheetOf s) T i) i) (inv .table-is)
             ∙ ap (ascendBelowBy w (sheetOf s) (decodeTable t₀)) (sym (add-one i));
+        owed-kept = owed-kept-then t₀ t t₂ (inv .owed-kept) (steps .owed-kept);
         ready = subst (Ready s tags₂ numbers₂) (omega arith) (ready-on ascending-ready tags₂ numbers₂ b c few (steps .older));
         t-length = a ∙ inv .t-length;
         tags-length = b ∙ inv .tags-length;
@@ -153,13 +162,14 @@ owed-called s bytes T is c o =
 
 pub ascending-done : {s offsets t₀ tags₀ bytes : List ℕ} {numbers₀ : List ℤ} {n i : ℕ} {t tags : List ℕ} {numbers : List ℤ}
     → OwedIs (sheetOf s) (decodeTable t₀) bytes → Ascending (saysOwed bytes) s offsets t₀ tags₀ numbers₀ n i t tags numbers → n ≤ i
-    → Steps s (2 * n) (catchUp (sheetOf s) (decodeTable t₀)) t tags
+    → Steps s t₀ (2 * n) (catchUp (sheetOf s) (decodeTable t₀)) t tags
 unfolding ascendBy
 ascending-done {s} {offsets} {t₀} {tags₀} {bytes} {numbers₀} {n} {i} {t} {tags} {numbers} is inv h =
     record {
       table-is =
           inv .table-is ∙ ap (ascendBelowBy (saysOwed bytes) (sheetOf s) (decodeTable t₀)) (end ∙ inv .n-is)
           ∙ catchUp-by (sheetOf s) (sheet-ordered s) (decodeTable t₀) (saysOwed bytes) (owed-called s bytes (decodeTable t₀) is);
+      owed-kept = inv .owed-kept;
       formed = inv .lent .formed;
       older = subst (λ k. NoneFrom 0 tags (2 * k + 1)) end (inv .ready .older);
     }

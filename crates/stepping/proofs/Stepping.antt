@@ -21,7 +21,7 @@ use Rattle.table.specs.Meaning.{cellMeaning, markMeaning}
 use Rattle.table.specs.declared.Cell.the-variants.{Unk, Held}
 use Rattle.table.specs.declared.Mark.the-variants.{Unmarked, Refresh, Notice}
 use Rattle.table.proofs.Records.{holds-wellFormed}
-use Rattle.table.proofs.Tables.{decode-setRow, setRow-form, decoded-holdable, record-fits}
+use Rattle.table.proofs.Tables.{decode-setRow, setRow-form, setRow-owed, owed-kept-refl, owed-kept-then, decoded-holdable, record-fits}
 use Rattle.value.specs.Meaning.{meaning}
 use Rattle.memo.specs.Memo.{Memo, NoneFrom}
 use Rattle.looking.specs.Pass.{Lent}
@@ -50,16 +50,17 @@ memo-older : {S : Sheet} {T : Table} {tags : List ℕ} {numbers : List ℤ} {gen
 memo-older memo j l = memo .young j
 
 -- the children are told, and the mark is cleared
-pub clear-steps : {s t₁ tags₁ : List ℕ} {numbers₁ : List ℤ} {generation n i : ℕ} (U : Table) → i < size (sheetOf s) → length t₁ ≡ Rattle.table.specs.Bytes.tableLength (sheetOf s)
-    → Moves s generation n U t₁ tags₁ numbers₁ → (t₂ : List ℕ) → t₂ ≡ setRow width t₁ i (encodeCell (clearCell (decodeTable t₁ i)))
-    → Steps s generation (clearMark U i) t₂ tags₁
+pub clear-steps : {s t t₁ tags₁ : List ℕ} {numbers₁ : List ℤ} {generation n i : ℕ} (U : Table) → i < size (sheetOf s) → length t₁ ≡ Rattle.table.specs.Bytes.tableLength (sheetOf s)
+    → Moves s t generation n U t₁ tags₁ numbers₁ → (t₂ : List ℕ) → t₂ ≡ setRow width t₁ i (encodeCell (clearCell (decodeTable t₁ i)))
+    → Steps s t generation (clearMark U i) t₂ tags₁
 unfolding clearMark
-clear-steps {s} {t₁} {tags₁} {numbers₁} {generation} {n} {i} U low len moves t₂ e =
+clear-steps {s} {t} {t₁} {tags₁} {numbers₁} {generation} {n} {i} U low len moves t₂ e =
     record {
       table-is =
           ap decodeTable e
           ∙ decode-setRow t₁ i (clearCell (decodeTable t₁ i)) (record-fits (sheetOf s) t₁ i len low) formed
           ∙ ap (λ T. Rattle.circuit.specs.Table.upd T i (clearCell (T i))) (moves .table-is);
+      owed-kept = owed-kept-then t t₁ t₂ (moves .owed-kept) (rw e (setRow-owed t₁ i (clearCell (decodeTable t₁ i))));
       formed = rw e (setRow-form (sheetOf s) t₁ i (clearCell (decodeTable t₁ i)) len (moves .formed) low may);
       older = memo-older (moves .memo);
     }
@@ -82,28 +83,29 @@ refreshed-figure false v e = e
 
 module _ {s offsets t tags : List ℕ} {numbers : List ℤ} {generation i : ℕ} (lent : Lent s offsets t) (ready : Ready s tags numbers generation)
     (low : i < size (sheetOf s)) (cell : Rattle.table.specs.declared.Cell.Cell) (reads : cellMeaning cell ≡ decodeTable t i) where
-  stays : (c : Cell) → decodeTable t i ≡ c → stepCell (sheetOf s) (decodeTable t) i c ≡ decodeTable t → Steps s generation (stepItem (sheetOf s) (decodeTable t) i) t tags
+  stays : (c : Cell) → decodeTable t i ≡ c → stepCell (sheetOf s) (decodeTable t) i c ≡ decodeTable t → Steps s t generation (stepItem (sheetOf s) (decodeTable t) i) t tags
   unfolding stepItem
   stays c e q =
       record {
         table-is = sym (ap (stepCell (sheetOf s) (decodeTable t) i) e ∙ q);
+        owed-kept = owed-kept-refl t;
         formed = lent .formed;
         older = still-older tags generation (ready .older);
       }
 
   steps-by : (c : Cell) → decodeTable t i ≡ c → (U : Table) → stepCell (sheetOf s) (decodeTable t) i c ≡ U → {t₂ tags₂ : List ℕ}
-      → Steps s generation U t₂ tags₂ → Steps s generation (stepItem (sheetOf s) (decodeTable t) i) t₂ tags₂
+      → Steps s t generation U t₂ tags₂ → Steps s t generation (stepItem (sheetOf s) (decodeTable t) i) t₂ tags₂
   unfolding stepItem
-  steps-by c e U q {t₂} {tags₂} steps = subst (λ X. Steps s generation X t₂ tags₂) (sym (ap (stepCell (sheetOf s) (decodeTable t) i) e ∙ q)) steps
+  steps-by c e U q {t₂} {tags₂} steps = subst (λ X. Steps s t generation X t₂ tags₂) (sym (ap (stepCell (sheetOf s) (decodeTable t) i) e ∙ q)) steps
 
   module _ (noticed : Bool) (is : cell ≡ Unk noticed) where
     holds-unk : decodeTable t i ≡ unk noticed
     holds-unk = sym reads ∙ ap cellMeaning is
 
-    pub step-unnoticed : isNotice (markOf (decodeTable t i)) ≡ false → Steps s generation (stepItem (sheetOf s) (decodeTable t) i) t tags
+    pub step-unnoticed : isNotice (markOf (decodeTable t i)) ≡ false → Steps s t generation (stepItem (sheetOf s) (decodeTable t) i) t tags
     step-unnoticed quiet = go noticed holds-unk
       where
-        go : (f : Bool) → decodeTable t i ≡ unk f → Steps s generation (stepItem (sheetOf s) (decodeTable t) i) t tags
+        go : (f : Bool) → decodeTable t i ≡ unk f → Steps s t generation (stepItem (sheetOf s) (decodeTable t) i) t tags
         go true q = let bad : _≡_ {A = ℕ} 0 1 = cc (ap (λ c. isNotice (markOf c)) q, quiet) in absurd (omega (arith, bad))
         go false q = stays (unk false) q refl
 
@@ -111,10 +113,10 @@ module _ {s offsets t tags : List ℕ} {numbers : List ℤ} {generation i : ℕ}
     holds-held : decodeTable t i ≡ held (meaning v) (markMeaning m)
     holds-held = sym reads ∙ ap cellMeaning is
 
-    pub step-unmarked : m ≡ Unmarked → Steps s generation (stepItem (sheetOf s) (decodeTable t) i) t tags
+    pub step-unmarked : m ≡ Unmarked → Steps s t generation (stepItem (sheetOf s) (decodeTable t) i) t tags
     step-unmarked e = stays (held (meaning v) unmarked) (holds-held ∙ ap (λ x. held (meaning v) (markMeaning x)) e) refl
 
-    pub step-notice : m ≡ Notice → isNotice (markOf (decodeTable t i)) ≡ false → Steps s generation (stepItem (sheetOf s) (decodeTable t) i) t tags
+    pub step-notice : m ≡ Notice → isNotice (markOf (decodeTable t i)) ≡ false → Steps s t generation (stepItem (sheetOf s) (decodeTable t) i) t tags
     step-notice e quiet =
         let bad : _≡_ {A = ℕ} 0 1 = cc (ap (λ c. isNotice (markOf c)) (holds-held ∙ ap (λ x. held (meaning v) (markMeaning x)) e), quiet) in
         absurd (omega (arith, bad))
@@ -131,11 +133,11 @@ module _ {s offsets t tags : List ℕ} {numbers : List ℤ} {generation i : ℕ}
         }
 
     pub step-refresh : m ≡ Refresh → {t₂ tags₂ : List ℕ} {numbers₂ : List ℤ}
-        → Moves s generation i (renewed i (meaning v) unmarked (workOut (sheetOf s) (decodeTable t) i)) t₂ tags₂ numbers₂
-        → Steps s generation (stepItem (sheetOf s) (decodeTable t) i) t₂ tags₂
+        → Moves s t generation i (renewed i (meaning v) unmarked (workOut (sheetOf s) (decodeTable t) i)) t₂ tags₂ numbers₂
+        → Steps s t generation (stepItem (sheetOf s) (decodeTable t) i) t₂ tags₂
     step-refresh e moves =
         steps-by (held (meaning v) refresh) (holds-held ∙ ap (λ x. held (meaning v) (markMeaning x)) e) _ refl
-        (record { table-is = moves .table-is; formed = moves .formed; older = memo-older (moves .memo) })
+        (record { table-is = moves .table-is; owed-kept = moves .owed-kept; formed = moves .formed; older = memo-older (moves .memo) })
 
 -- nothing is remembered at or above any item yet
 pub nothing-above : {s tags : List ℕ} {numbers : List ℤ} {generation : ℕ} → Ready s tags numbers generation → (i : ℕ) → NoneFrom i tags generation
@@ -166,12 +168,12 @@ module _ (w : ℕ → Bool) (S : Sheet) (T : Table) (i : ℕ) where
       go (held v notice) q = let bad : _≡_ {A = ℕ} 0 1 = cc in absurd (omega arith)
 
 module _ (w : ℕ → Bool) (s t : List ℕ) (i : ℕ) {generation : ℕ} (b : Bool) (tests : b ≡ isNotice (markOf (decodeTable t i))) where
-  pub steps-noticed : b ≡ true → {t₂ tags₂ : List ℕ} → Steps s generation (clearMark (tellBy w (sheetOf s) (decodeTable t) i) i) t₂ tags₂
-      → Steps s generation (stepBy w (sheetOf s) (decodeTable t) i) t₂ tags₂
+  pub steps-noticed : b ≡ true → {t₂ tags₂ : List ℕ} → Steps s t generation (clearMark (tellBy w (sheetOf s) (decodeTable t) i) i) t₂ tags₂
+      → Steps s t generation (stepBy w (sheetOf s) (decodeTable t) i) t₂ tags₂
   steps-noticed e {t₂} {tags₂} steps =
-      subst (λ U. Steps s generation U t₂ tags₂) (sym (noticed-step w (sheetOf s) (decodeTable t) i (sym tests ∙ e))) steps
+      subst (λ U. Steps s t generation U t₂ tags₂) (sym (noticed-step w (sheetOf s) (decodeTable t) i (sym tests ∙ e))) steps
 
-  pub steps-unnoticed : b ≡ false → {t₂ tags₂ : List ℕ} → Steps s generation (stepItem (sheetOf s) (decodeTable t) i) t₂ tags₂
-      → Steps s generation (stepBy w (sheetOf s) (decodeTable t) i) t₂ tags₂
+  pub steps-unnoticed : b ≡ false → {t₂ tags₂ : List ℕ} → Steps s t generation (stepItem (sheetOf s) (decodeTable t) i) t₂ tags₂
+      → Steps s t generation (stepBy w (sheetOf s) (decodeTable t) i) t₂ tags₂
   steps-unnoticed e {t₂} {tags₂} steps =
-      subst (λ U. Steps s generation U t₂ tags₂) (sym (unnoticed-step w (sheetOf s) (decodeTable t) i (sym tests ∙ e))) steps
+      subst (λ U. Steps s t generation U t₂ tags₂) (sym (unnoticed-step w (sheetOf s) (decodeTable t) i (sym tests ∙ e))) steps

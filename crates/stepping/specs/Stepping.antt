@@ -9,7 +9,7 @@ use Rattle.circuit.specs.Rules.{maxParents}
 use Rattle.circuit.specs.Sheet.{Sheet, size}
 use Rattle.circuit.specs.Table.{Table}
 use Rattle.layout.specs.Opened.{sheetOf}
-use Rattle.table.specs.Bytes.{decodeTable, tableForm}
+use Rattle.table.specs.Bytes.{decodeTable, tableForm, OwedKept}
 use Rattle.children.specs.Children.{Linked}
 use Rattle.memo.specs.Memo.{NoneFrom}
 
@@ -27,8 +27,9 @@ pub record Lists (S : Sheet) (built : Bool) (heads links : List ℕ) : Type 0 wh
   pub linked : built ≡ true → Linked S heads links
   pub blank : built ≡ false → (p : ℕ) → p < size S → getD heads p 0 ≡ 0
 
--- After a step: the table is U, in form, and the next generation may begin.
-pub record Steps (s : List ℕ) (generation : ℕ) (U : Table) (t′ tags′ : List ℕ) : Type 0 where
+-- After a step of the table t: it is U, in form and with its owed bytes as they were, and the next generation may begin.
+pub record Steps (s t : List ℕ) (generation : ℕ) (U : Table) (t′ tags′ : List ℕ) : Type 0 where
   pub table-is : decodeTable t′ ≡ U
+  pub owed-kept : OwedKept t t′
   pub formed : tableForm (sheetOf s) t′ ≡ true
   pub older : NoneFrom 0 tags′ (generation + 1)

@@ -47,7 +47,7 @@ pub fn tell_and_clear(
     i: usize,
 )
     requires { ⌜ Lent (now sheet) (now offsets) (now table) ⌝ ∗ ⌜ Ready (now sheet) (now tags) (now numbers) generation ⌝ ∗ ⌜ Telling (sheetOf (now sheet)) (now heads) (now links) (now owed) i ⌝ }
-    ensures { λ _. ⌜ Steps (now (sheet .entry)) generation (clearMark (tellBy (saysOwed (now (owed .entry))) (sheetOf (now (sheet .entry))) (decodeTable (now (table .entry))) i) i) (now (table .exit)) (now (tags .exit)) ⌝ }
+    ensures { λ _. ⌜ Steps (now (sheet .entry)) (now (table .entry)) generation (clearMark (tellBy (saysOwed (now (owed .entry))) (sheetOf (now (sheet .entry))) (decodeTable (now (table .entry))) i) i) (now (table .exit)) (now (tags .exit)) ⌝ }
 {
     telling::tell_children(
         sheet,
@@ -75,7 +75,7 @@ pub fn step_refresh(
     i: usize,
 )
     requires { ⌜ Lent (now sheet) (now offsets) (now table) ⌝ ∗ ⌜ Ready (now sheet) (now tags) (now numbers) generation ⌝ ∗ ⌜ i < size (sheetOf (now sheet)) ⌝ ∗ ⌜ isNotice (markOf (decodeTable (now table) i)) ≡ false ⌝ }
-    ensures { λ _. ⌜ Steps (now (sheet .entry)) generation (stepItem (sheetOf (now (sheet .entry))) (decodeTable (now (table .entry))) i) (now (table .exit)) (now (tags .exit)) ⌝ }
+    ensures { λ _. ⌜ Steps (now (sheet .entry)) (now (table .entry)) generation (stepItem (sheetOf (now (sheet .entry))) (decodeTable (now (table .entry))) i) (now (table .exit)) (now (tags .exit)) ⌝ }
 {
     match table::read_cell(table, i) {
         Cell::Unk(_) => {}
@@ -113,7 +113,7 @@ fn step_item(
     i: usize,
 )
     requires { ⌜ Lent (now sheet) (now offsets) (now table) ⌝ ∗ ⌜ Ready (now sheet) (now tags) (now numbers) generation ⌝ ∗ ⌜ Telling (sheetOf (now sheet)) (now heads) (now links) (now owed) i ⌝ }
-    ensures { λ _. ⌜ Steps (now (sheet .entry)) generation (stepBy (saysOwed (now (owed .entry))) (sheetOf (now (sheet .entry))) (decodeTable (now (table .entry))) i) (now (table .exit)) (now (tags .exit)) ⌝ }
+    ensures { λ _. ⌜ Steps (now (sheet .entry)) (now (table .entry)) generation (stepBy (saysOwed (now (owed .entry))) (sheetOf (now (sheet .entry))) (decodeTable (now (table .entry))) i) (now (table .exit)) (now (tags .exit)) ⌝ }
 {
     if table::is_noticed(table, i) {
         tell_and_clear(
@@ -147,7 +147,7 @@ fn step_marked(
     i: usize,
 )
     requires { ⌜ Lent (now sheet) (now offsets) (now table) ⌝ ∗ ⌜ Ready (now sheet) (now tags) (now numbers) generation ⌝ ∗ ⌜ Telling (sheetOf (now sheet)) (now heads) (now links) (now owed) i ⌝ }
-    ensures { λ _. ⌜ Steps (now (sheet .entry)) generation (stepMarkedBy (saysOwed (now (owed .entry))) (sheetOf (now (sheet .entry))) (decodeTable (now (table .entry))) i) (now (table .exit)) (now (tags .exit)) ⌝ }
+    ensures { λ _. ⌜ Steps (now (sheet .entry)) (now (table .entry)) generation (stepMarkedBy (saysOwed (now (owed .entry))) (sheetOf (now (sheet .entry))) (decodeTable (now (table .entry))) i) (now (table .exit)) (now (tags .exit)) ⌝ }
 {
     if table::is_marked(table, i) {
         step_item(
@@ -179,7 +179,7 @@ fn step_twice(
     i: usize,
 )
     requires { ⌜ Lent (now sheet) (now offsets) (now table) ⌝ ∗ ⌜ Ready (now sheet) (now tags) (now numbers) (generation + 1) ⌝ ∗ ⌜ NoneFrom 0 (now tags) generation ⌝ ∗ ⌜ Telling (sheetOf (now sheet)) (now heads) (now links) (now owed) i ⌝ ∗ ⌜ isMarked (decodeTable (now table) i) ≡ true ⌝ }
-    ensures { λ _. ⌜ Steps (now (sheet .entry)) (generation + 1) (stepMarkedBy (saysOwed (now (owed .entry))) (sheetOf (now (sheet .entry))) (stepMarkedBy (saysOwed (now (owed .entry))) (sheetOf (now (sheet .entry))) (decodeTable (now (table .entry))) i) i) (now (table .exit)) (now (tags .exit)) ⌝ }
+    ensures { λ _. ⌜ Steps (now (sheet .entry)) (now (table .entry)) (generation + 1) (stepMarkedBy (saysOwed (now (owed .entry))) (sheetOf (now (sheet .entry))) (stepMarkedBy (saysOwed (now (owed .entry))) (sheetOf (now (sheet .entry))) (decodeTable (now (table .entry))) i) i) (now (table .exit)) (now (tags .exit)) ⌝ }
 {
     step_item(
         sheet,
@@ -246,7 +246,7 @@ fn advance(
     i: usize,
 ) -> bool
     requires { ⌜ Lent (now sheet) (now offsets) (now table) ⌝ ∗ ⌜ Ready (now sheet) (now tags) (now numbers) (2 * i + 1) ⌝ ∗ ⌜ Lists (sheetOf (now sheet)) built (now heads) (now links) ⌝ ∗ ⌜ (n ≡ size (sheetOf (now sheet))) × (size (sheetOf (now sheet)) ≤ length (now owed)) ⌝ ∗ ⌜ i < n ⌝ }
-    ensures stepped { λ _. ⌜ Steps (now (sheet .entry)) (2 * i + 1 + 1) (stepMarkedBy (saysOwed (now (owed .entry))) (sheetOf (now (sheet .entry))) (stepMarkedBy (saysOwed (now (owed .entry))) (sheetOf (now (sheet .entry))) (decodeTable (now (table .entry))) i) i) (now (table .exit)) (now (tags .exit)) ⌝ }
+    ensures stepped { λ _. ⌜ Steps (now (sheet .entry)) (now (table .entry)) (2 * i + 1 + 1) (stepMarkedBy (saysOwed (now (owed .entry))) (sheetOf (now (sheet .entry))) (stepMarkedBy (saysOwed (now (owed .entry))) (sheetOf (now (sheet .entry))) (decodeTable (now (table .entry))) i) i) (now (table .exit)) (now (tags .exit)) ⌝ }
     ensures lists { λ r. ⌜ Lists (sheetOf (now (sheet .entry))) r (now (heads .exit)) (now (links .exit)) ⌝ }
 {
     if !table::is_marked(table, i) {
@@ -270,8 +270,8 @@ fn advance(
 }
 
 // Catches up: one ascending pass, in which each item is stepped while it is marked. No item below `first` is marked. A step is
-// a generation of the memo, from 1 on. The array says what is owed at the start. Later less is owed, and to call on more UNK children
-// changes nothing in the end. The child lists are built at the first marked item that is owed.
+// a generation of the memo, from 1 on. The array says what is owed at the start: while catching up nothing becomes owed or stops being owed.
+// The child lists are built at the first marked item that is owed.
 pub fn catch_up(
     sheet: &[u8],
     offsets: &[usize],
@@ -285,7 +285,7 @@ pub fn catch_up(
     n: usize,
 )
     requires { ⌜ Lent (now sheet) (now offsets) (now table) ⌝ ∗ ⌜ Ready (now sheet) (now tags) (now numbers) (2 * first + 1) ⌝ ∗ ⌜ Lists (sheetOf (now sheet)) false (now heads) (now links) ⌝ ∗ ⌜ (n ≡ size (sheetOf (now sheet))) × OwedIs (sheetOf (now sheet)) (decodeTable (now table)) (now owed) ⌝ ∗ ⌜ LowestMarked (decodeTable (now table)) n first ⌝ }
-    ensures { λ _. ⌜ Steps (now (sheet .entry)) (2 * n) (catchUp (sheetOf (now (sheet .entry))) (decodeTable (now (table .entry)))) (now (table .exit)) (now (tags .exit)) ⌝ }
+    ensures { λ _. ⌜ Steps (now (sheet .entry)) (now (table .entry)) (2 * n) (catchUp (sheetOf (now (sheet .entry))) (decodeTable (now (table .entry)))) (now (table .exit)) (now (tags .exit)) ⌝ }
 {
     let mut built = false;
     let mut i = first;

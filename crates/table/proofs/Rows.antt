@@ -116,6 +116,12 @@ row-setRow-other w bs i j r e apart =
 
 -- ---- a test of every row
 
+-- it depends on the numbers below n only
+pub below-same : (p q : ℕ → Bool) (n : ℕ) → ((i : ℕ) → i < n → p i ≡ q i) → allBelow p n ≡ allBelow q n
+unfolding allBelow
+below-same p q zero e = refl
+below-same p q (suc n) e = rw (below-same p q n (λ i h. e i (omega arith)), e n (omega arith))
+
 pub below-true : (p : ℕ → Bool) (n : ℕ) → allBelow p n ≡ true → (i : ℕ) → i < n → p i ≡ true
 unfolding allBelow
 below-true p zero t i h = absurd (omega arith)

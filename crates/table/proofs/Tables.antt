@@ -21,7 +21,7 @@ use Rattle.circuit.proofs.Fill.{upd-cases}
 use Rattle.circuit.proofs.Owed.{owed-ext, owed-stored}
 use Rattle.table.specs.Rows.{row, setRow}
 use Rattle.table.specs.Record.{width, owedPlace, kindIn, markIn, numberIn, owedIn, owedCode, encodeCell, decodeCell, recordForm, mayHold}
-use Rattle.table.specs.Bytes.{tableLength, encodeRecord, encodeTable, decodeTable, recordInForm, tableForm, owedTrueAt, owedTrue, Holdable}
+use Rattle.table.specs.Bytes.{tableLength, encodeRecord, encodeTable, decodeTable, recordInForm, tableForm, owedTrueAt, owedTrue, OwedKept, Holdable}
 use Rattle.table.proofs.Rows.{row-before, length-row, getD-row, rows-ext, length-rows, row-rows, rows-row, bytes-rows, length-setRow, row-front, row-setRow-other}
 use Rattle.table.proofs.Rows.{getD-sets-below, getD-sets-above, below-true, true-below}
 use Rattle.table.proofs.Records.{decode-encode, encode-decode, kind-by, mark-by, number-by, decode-front, form-front, length-encodeCell, bytes-encodeCell}
@@ -99,6 +99,13 @@ unfolding owedTrue
 encode-decodeTable S bs bytes e t o =
     encoded-as S bs bytes e t (λ i h. eqb-true _ _ (below-true (owedTrueAt S bs) (size S) o i h))
 
+-- the same where the owed bytes were true, and neither they nor what is owed have changed
+pub encoded-kept : (S : Sheet) (t bs : List ℕ) → owedTrue S t ≡ true → OwedKept t bs → ((i : ℕ) → owed S (decodeTable bs) i ≡ owed S (decodeTable t) i)
+    → Bytes bs → length bs ≡ tableLength S → tableForm S bs ≡ true → encodeTable S (decodeTable bs) ≡ bs
+unfolding owedTrue
+encoded-kept S t bs o kept same bytes e f =
+    encoded-as S bs bytes e f (λ i h. kept i ∙ eqb-true _ _ (below-true (owedTrueAt S t) (size S) o i h) ∙ ap owedCode (sym (same i)))
+
 -- two tables that agree on the sheet's items are the same bytes
 pub encodeTable-ext : (S : Sheet) (T U : Table) → ((i : ℕ) → i < size S → T i ≡ U i) → encodeTable S T ≡ encodeTable S U
 unfolding encodeTable
@@ -174,8 +181,8 @@ setRow-cell bs i c fits =
     ap (λ n. take n (row width (setRow width bs i (encodeCell c)) i)) (sym (length-encodeCell c))
     ∙ row-front width bs i (encodeCell c) fits (omega (arith, length-encodeCell c))
 
-setRow-owed : (bs : List ℕ) (i j : ℕ) (c : Cell) → owedIn (row width (setRow width bs i (encodeCell c)) j) ≡ owedIn (row width bs j)
-setRow-owed bs i j c =
+pub setRow-owed : (bs : List ℕ) (i : ℕ) (c : Cell) → OwedKept bs (setRow width bs i (encodeCell c))
+setRow-owed bs i c j =
     getD-row width (setRow width bs i (encodeCell c)) j owedPlace (omega arith) ∙ go (ltb i j) refl ∙ sym (getD-row width bs j owedPlace (omega arith))
   where
     go : (b : Bool) → ltb i j ≡ b → getD (setRow width bs i (encodeCell c)) (width * j + owedPlace) 0 ≡ getD bs (width * j + owedPlace) 0
@@ -191,12 +198,18 @@ setRow-owed bs i j c =
             let other : j ≡ i → ⊥ = eqb-false j i e in
             getD-sets-below (encodeCell c) bs (width * i) (width * j + owedPlace) (omega (arith, le, other))
 
+pub owed-kept-refl : (t : List ℕ) → OwedKept t t
+owed-kept-refl t k = refl
+
+pub owed-kept-then : (t t₁ t₂ : List ℕ) → OwedKept t t₁ → OwedKept t₁ t₂ → OwedKept t t₂
+owed-kept-then t t₁ t₂ first second k = second k ∙ first k
+
 setRow-record : (bs : List ℕ) (i : ℕ) (c : Cell) → width * i + width ≤ length bs
     → row width (setRow width bs i (encodeCell c)) i ≡ encodeCell c ++ owedIn (row width bs i) ∷ []
 setRow-record bs i c fits =
     let r : List ℕ = row width (setRow width bs i (encodeCell c)) i in
     let long : length r ≡ width = length-row width (setRow width bs i (encodeCell c)) i (rw (length-setRow width bs i (encodeCell c)) fits) in
-    sym (take-all width r (omega arith)) ∙ take-suc r owedPlace 0 (omega arith) ∙ rw (setRow-cell bs i c fits, setRow-owed bs i i c)
+    sym (take-all width r (omega arith)) ∙ take-suc r owedPlace 0 (omega arith) ∙ rw (setRow-cell bs i c fits, setRow-owed bs i c i)
 
 -- A store that leaves stored what was, and UNK what was, changes no owed byte.
 pub encode-upd : (S : Sheet) → Ordered S → (T : Table) (i : ℕ) (c : Cell) → i < size S → isStored c ≡ isStored (T i)

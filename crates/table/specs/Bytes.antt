@@ -43,6 +43,10 @@ owedTrueAt S bs i = eqb (owedIn (row width bs i)) (owedCode (owed S (decodeTable
 unfoldable pub owedTrue : Sheet → List ℕ → Bool
 owedTrue S bs = allBelow (owedTrueAt S bs) (size S)
 
+-- the owed bytes of the table t′ are those of t
+abbrev pub OwedKept : List ℕ → List ℕ → Type 0
+OwedKept t t′ = (k : ℕ) → owedIn (row width t′ k) ≡ owedIn (row width t k)
+
 -- k is the lowest marked item below n, or n where none is
 pub record LowestMarked (T : Table) (n k : ℕ) : Type 0 where
   pub within : k ≤ n

@@ -15,6 +15,7 @@ use Rattle.circuit.specs.Ascending.{tellChildBy, tellIfBy, tellBelowBy, tellWhe
 use Rattle.layout.specs.Opened.{sheetOf}
 use Rattle.item.proofs.Located.{sheet-ordered}
 use Rattle.table.specs.Bytes.{decodeTable}
+use Rattle.table.proofs.Tables.{owed-kept-refl, owed-kept-then}
 use Rattle.owing.specs.Owing.{saysOwed}
 use Rattle.children.specs.Children.{NoChild, Leads, Linked}
 use Rattle.children.proofs.Linking.{Child, leads-child, leads-end, left, next-less, place-child}
@@ -49,7 +50,7 @@ pub record ToldBelow (w : ℕ → Bool) (s offsets t₀ tags₀ : List ℕ) (num
   pub from : ℕ
   pub within : from ≤ size (sheetOf s)
   pub leads : Leads (sheetOf s) i from edge
-  pub moves : Moves s generation from (tellBelowBy w (sheetOf s) i (decodeTable t₀) from) t tags numbers
+  pub moves : Moves s t₀ generation from (tellBelowBy w (sheetOf s) i (decodeTable t₀) from) t tags numbers
   pub t-length : length t ≡ length t₀
   pub tags-length : length tags ≡ length tags₀
   pub numbers-length : length numbers ≡ length numbers₀
@@ -64,7 +65,7 @@ telling-start w {s} {offsets} {t} {tags} {heads} {links} {numbers} {generation} 
       from = 0;
       within = omega arith;
       leads = rw is (linked .head i low);
-      moves = record { table-is = refl; formed = lent .formed; memo = memo; fresh = none-from };
+      moves = record { table-is = refl; owed-kept = owed-kept-refl t; formed = lent .formed; memo = memo; fresh = none-from };
       t-length = refl;
       tags-length = refl;
       numbers-length = refl;
@@ -106,7 +107,7 @@ module _ {w : ℕ → Bool} {s offsets t₀ tags₀ : List ℕ} {numbers₀ : Li
       telling-less edge₂ is = rw is (next-less links edge-low more (getD links edge 0) leads-on)
 
       pub telling-next : (t₂ tags₂ : List ℕ) (numbers₂ : List ℤ) → length t₂ ≡ length t → length tags₂ ≡ length tags → length numbers₂ ≡ length numbers
-          → Moves s generation (edge / maxParents) (tellChildBy (w (edge / maxParents)) (sheetOf s) (decodeTable t) (edge / maxParents)) t₂ tags₂ numbers₂
+          → Moves s t generation (edge / maxParents) (tellChildBy (w (edge / maxParents)) (sheetOf s) (decodeTable t) (edge / maxParents)) t₂ tags₂ numbers₂
           → (edge₂ : ℕ) → edge₂ ≡ getD links edge 0
           → ToldBelow w s offsets t₀ tags₀ numbers₀ generation i edge₂ t₂ tags₂ numbers₂
       unfolding tellBelowBy
@@ -119,6 +120,7 @@ module _ {w : ℕ → Bool} {s offsets t₀ tags₀ : List ℕ} {numbers₀ : Li
             moves =
                 record {
                   table-is = moves .table-is ∙ told;
+                  owed-kept = owed-kept-then t₀ t t₂ (inv .moves .owed-kept) (moves .owed-kept);
                   formed = moves .formed;
                   memo = subst (λ U. Memo (sheetOf s) U tags₂ numbers₂ generation) told (moves .memo);
                   fresh = λ j h. moves .fresh j (omega arith);
@@ -138,7 +140,7 @@ module _ {w : ℕ → Bool} {s offsets t₀ tags₀ : List ℕ} {numbers₀ : Li
               ∙ ap (λ x. tellIfBy x called (sheetOf s) (tellBelowBy w (sheetOf s) i (decodeTable t₀) (edge / maxParents)) (edge / maxParents)) (sym child-is)
               ∙ ap (tellBelowBy w (sheetOf s) i (decodeTable t₀)) (sym (add-one (edge / maxParents)))
 
-  pub telling-done : w i ≡ true → edge ≡ 0 → Moves s generation (size (sheetOf s)) (tellBy w (sheetOf s) (decodeTable t₀) i) t tags numbers
+  pub telling-done : w i ≡ true → edge ≡ 0 → Moves s t₀ generation (size (sheetOf s)) (tellBy w (sheetOf s) (decodeTable t₀) i) t tags numbers
   unfolding tellBy
   telling-done owed end =
       let all : tellWhere (w i) w (sheetOf s) (decodeTable t₀) i ≡ tellBelowBy w (sheetOf s) i (decodeTable t₀) (inv .from)
@@ -146,6 +148,7 @@ module _ {w : ℕ → Bool} {s offsets t₀ tags₀ : List ℕ} {numbers₀ : Li
       ∙ tell-over w (sheetOf s) i (decodeTable t₀) (inv .from) (size (sheetOf s)) (inv .within) (leads-end (sheet-ordered s) (inv .leads) end) in
       record {
         table-is = inv .moves .table-is ∙ sym all;
+        owed-kept = inv .moves .owed-kept;
         formed = inv .moves .formed;
         memo = subst (λ U. Memo (sheetOf s) U tags numbers generation) (sym all) (inv .moves .memo);
         fresh = λ j h. inv .moves .fresh j (omega (arith, inv .within));
@@ -154,11 +157,11 @@ module _ {w : ℕ → Bool} {s offsets t₀ tags₀ : List ℕ} {numbers₀ : Li
 -- where the item is not owed, nobody is told
 pub telling-none : (w : ℕ → Bool) {s offsets t tags : List ℕ} {numbers : List ℤ} {generation i : ℕ} → Lent s offsets t
     → Memo (sheetOf s) (decodeTable t) tags numbers generation → NoneFrom 0 tags generation → w i ≡ false
-    → Moves s generation (size (sheetOf s)) (tellBy w (sheetOf s) (decodeTable t) i) t tags numbers
+    → Moves s t generation (size (sheetOf s)) (tellBy w (sheetOf s) (decodeTable t) i) t tags numbers
 unfolding tellBy
 telling-none w {s} {offsets} {t} {tags} {numbers} {generation} {i} lent memo none-from unowed =
-    subst (λ U. Moves s generation (size (sheetOf s)) U t tags numbers) (ap (λ b. tellWhere b w (sheetOf s) (decodeTable t) i) (sym unowed))
-    (record { table-is = refl; formed = lent .formed; memo = memo; fresh = λ j h. none-from j (omega arith) })
+    subst (λ U. Moves s t generation (size (sheetOf s)) U t tags numbers) (ap (λ b. tellWhere b w (sheetOf s) (decodeTable t) i) (sym unowed))
+    (record { table-is = refl; owed-kept = owed-kept-refl t; formed = lent .formed; memo = memo; fresh = λ j h. none-from j (omega arith) })
 
 -- what the array says of an item, by its byte
 pub byte-owed : (bytes : List ℕ) (i : ℕ) → (getD bytes i 0 ≡ 0 → ⊥) → saysOwed bytes i ≡ true

@@ -20,7 +20,7 @@ use Rattle.item.proofs.Located.{sheet-ordered}
 use Rattle.table.specs.Rows.{setRow}
 use Rattle.table.specs.Record.{width, encodeCell, mayHold}
 use Rattle.table.specs.Bytes.{decodeTable}
-use Rattle.table.proofs.Tables.{decode-setRow, setRow-form, holdable-wellFormed}
+use Rattle.table.proofs.Tables.{decode-setRow, setRow-form, setRow-owed, owed-kept-then, holdable-wellFormed}
 use Rattle.memo.specs.Memo.{Found, remembered, Memo, NoneFrom}
 use Rattle.looking.specs.Pass.{Lent, Leaves}
 use Rattle.telling.specs.Telling.{Moves, Renewable}
@@ -69,25 +69,26 @@ module _ {s offsets t tags : List ℕ} {generation i : ℕ} {v : Value} (lent : 
 
   -- a well-formed value is stored
   stores : (u : Value) (k : Mark) → wellFormed u ≡ true → (t₂ : List ℕ) → t₂ ≡ setRow width t₁ i (encodeCell (held u k))
-      → Moves s generation i (upd (workOut (sheetOf s) (decodeTable t) i .table) i (held u k)) t₂ tags₁ numbers₁
+      → Moves s t generation i (upd (workOut (sheetOf s) (decodeTable t) i .table) i (held u k)) t₂ tags₁ numbers₁
   stores u k formed t₂ e =
       record {
         table-is = ap decodeTable e ∙ decode-setRow t₁ i (held u k) (omega (arith, lent-fits lent i (figured .low))) formed ∙ ap (λ X. upd X i (held u k)) (here .table-is);
+        owed-kept = owed-kept-then t t₁ t₂ (here .owed-kept) (rw e (setRow-owed t₁ i (held u k)));
         formed = rw e (setRow-form (sheetOf s) t₁ i (held u k) (len ∙ lent .length-is) (here .formed) (figured .low) (figure-held (isFigure (itemAt (sheetOf s) i)) u k (figured .figured) formed));
         memo = memo-store (sheetOf s) (sheet-ordered s) (workOut (sheetOf s) (decodeTable t) i .table) i (held u k) tags₁ numbers₁ generation (here .fresh none-from) (here .memo);
         fresh = here .fresh none-from;
       }
 
   pub renew-equal : (b : Bool) → b ≡ same v (w .value) → b ≡ true → (t₂ : List ℕ) → t₂ ≡ setRow width t₁ i (encodeCell (held v m))
-      → Moves s generation i (renewed i v m (workOut (sheetOf s) (decodeTable t) i)) t₂ tags₁ numbers₁
+      → Moves s t generation i (renewed i v m (workOut (sheetOf s) (decodeTable t) i)) t₂ tags₁ numbers₁
   renew-equal b is agrees t₂ e =
-      subst (λ x. Moves s generation i (upd (workOut (sheetOf s) (decodeTable t) i .table) i (cond x (held v m) (held (workOut (sheetOf s) (decodeTable t) i .value) notice))) t₂ tags₁ numbers₁)
+      subst (λ x. Moves s t generation i (upd (workOut (sheetOf s) (decodeTable t) i .table) i (cond x (held v m) (held (workOut (sheetOf s) (decodeTable t) i .value) notice))) t₂ tags₁ numbers₁)
       (sym agrees ∙ is ∙ ap (same v) (here .value-is)) (stores v m value-formed t₂ e)
 
   pub renew-other : (b : Bool) → b ≡ same v (w .value) → b ≡ false → (t₂ : List ℕ) → t₂ ≡ setRow width t₁ i (encodeCell (held (w .value) notice))
-      → Moves s generation i (renewed i v m (workOut (sheetOf s) (decodeTable t) i)) t₂ tags₁ numbers₁
+      → Moves s t generation i (renewed i v m (workOut (sheetOf s) (decodeTable t) i)) t₂ tags₁ numbers₁
   renew-other b is not-same t₂ e =
-      subst (λ x. Moves s generation i (upd (workOut (sheetOf s) (decodeTable t) i .table) i (cond x (held v m) (held (workOut (sheetOf s) (decodeTable t) i .value) notice))) t₂ tags₁ numbers₁)
+      subst (λ x. Moves s t generation i (upd (workOut (sheetOf s) (decodeTable t) i .table) i (cond x (held v m) (held (workOut (sheetOf s) (decodeTable t) i .value) notice))) t₂ tags₁ numbers₁)
       (sym not-same ∙ is ∙ ap (same v) (here .value-is))
-      (subst (λ u. Moves s generation i (upd (workOut (sheetOf s) (decodeTable t) i .table) i (held u notice)) t₂ tags₁ numbers₁) (here .value-is)
+      (subst (λ u. Moves s t generation i (upd (workOut (sheetOf s) (decodeTable t) i .table) i (held u notice)) t₂ tags₁ numbers₁) (here .value-is)
       (stores (w .value) notice (here .value-formed) t₂ e))

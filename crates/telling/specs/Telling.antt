@@ -6,19 +6,20 @@ use mathlib.Core.List.{List}
 use lib.IntN.{ℤ}
 use lib.ListN.{length}
 use Rattle.circuit.specs.Value.{Value}
-use Rattle.circuit.specs.Sheet.{Sheet, Spread, defer, renew, forget, size, itemAt, isFigure}
+use Rattle.circuit.specs.Sheet.{Sheet, Spread, defer, renew, size, itemAt, isFigure}
 use Rattle.circuit.specs.Table.{Table, Mark, unmarked, refresh, notice, held}
 use Rattle.layout.specs.Opened.{sheetOf}
-use Rattle.table.specs.Bytes.{decodeTable, tableForm}
+use Rattle.table.specs.Bytes.{decodeTable, tableForm, OwedKept}
 use Rattle.owing.specs.Owing.{saysOwed}
 use Rattle.children.specs.Children.{Linked}
 use Rattle.memo.specs.Memo.{Memo, NoneFrom}
 use Rattle.telling.specs.declared.Told.{Told}
-use Rattle.telling.specs.declared.Told.the-variants.{Forgets, Refreshes, Renews}
+use Rattle.telling.specs.declared.Told.the-variants.{Refreshes, Renews}
 
--- The table becomes U, in form, and in the memo nothing is remembered at or above b.
-pub record Moves (s : List ℕ) (generation b : ℕ) (U : Table) (t′ tags′ : List ℕ) (numbers′ : List ℤ) : Type 0 where
+-- The table t becomes U, in form and with its owed bytes as they were, and in the memo nothing is remembered at or above b.
+pub record Moves (s t : List ℕ) (generation b : ℕ) (U : Table) (t′ tags′ : List ℕ) (numbers′ : List ℤ) : Type 0 where
   pub table-is : decodeTable t′ ≡ U
+  pub owed-kept : OwedKept t t′
   pub formed : tableForm (sheetOf s) t′ ≡ true
   pub memo : Memo (sheetOf s) U tags′ numbers′ generation
   pub fresh : NoneFrom b tags′ generation
@@ -43,4 +44,3 @@ toldBy defer unmarked = Refreshes
 toldBy defer refresh = Refreshes
 toldBy defer notice = Renews
 toldBy renew m = Renews
-toldBy forget m = Forgets

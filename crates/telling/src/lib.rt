@@ -20,9 +20,8 @@ use table::Mark;
 use value::MAX_PARENTS;
 use value::Value;
 
-// What a stored child does when it is told: it forgets its value, is to be refreshed, or is worked out anew.
+// What a stored child does when it is told: it is to be refreshed, or is worked out anew.
 pub enum Told {
-    Forgets,
     Refreshes,
     Renews,
 }
@@ -37,7 +36,6 @@ fn told_by(spread: Spread, mark: Mark) -> Told
             Mark::Notice => Told::Renews,
         },
         Spread::Renew => Told::Renews,
-        Spread::Forget => Told::Forgets,
     }
 }
 
@@ -66,7 +64,7 @@ pub fn renew(
     mark: Mark,
 )
     requires { ⌜ Lent (now sheet) (now offsets) (now table) ⌝ ∗ ⌜ Memo (sheetOf (now sheet)) (decodeTable (now table)) (now tags) (now numbers) generation ⌝ ∗ ⌜ NoneFrom i (now tags) generation ⌝ ∗ ⌜ Renewable (now sheet) (now table) i (meaning value) ⌝ }
-    ensures { λ _. ⌜ Moves (now (sheet .entry)) generation i (renewed i (meaning value) (markMeaning mark) (workOut (sheetOf (now (sheet .entry))) (decodeTable (now (table .entry))) i)) (now (table .exit)) (now (tags .exit)) (now (numbers .exit)) ⌝ }
+    ensures { λ _. ⌜ Moves (now (sheet .entry)) (now (table .entry)) generation i (renewed i (meaning value) (markMeaning mark) (workOut (sheetOf (now (sheet .entry))) (decodeTable (now (table .entry))) i)) (now (table .exit)) (now (tags .exit)) (now (numbers .exit)) ⌝ }
 {
     let worked = looking::work_out(sheet, offsets, table, tags, numbers, generation, i);
     let fresh = worked.value;
@@ -89,7 +87,7 @@ fn tell_child(
     called: bool,
 )
     requires { ⌜ Lent (now sheet) (now offsets) (now table) ⌝ ∗ ⌜ Memo (sheetOf (now sheet)) (decodeTable (now table)) (now tags) (now numbers) generation ⌝ ∗ ⌜ NoneFrom c (now tags) generation ⌝ ∗ ⌜ c < size (sheetOf (now sheet)) ⌝ ∗ ⌜ isFigure (itemAt (sheetOf (now sheet)) c) ≡ true ⌝ }
-    ensures { λ _. ⌜ Moves (now (sheet .entry)) generation c (tellChildBy called (sheetOf (now (sheet .entry))) (decodeTable (now (table .entry))) c) (now (table .exit)) (now (tags .exit)) (now (numbers .exit)) ⌝ }
+    ensures { λ _. ⌜ Moves (now (sheet .entry)) (now (table .entry)) generation c (tellChildBy called (sheetOf (now (sheet .entry))) (decodeTable (now (table .entry))) c) (now (table .exit)) (now (tags .exit)) (now (numbers .exit)) ⌝ }
 {
     match table::read_cell(table, c) {
         Cell::Unk(_) => {
@@ -99,9 +97,6 @@ fn tell_child(
         }
         Cell::Held(value, mark) => {
             match told_by(item::spread_of(sheet, offsets[c]), mark) {
-                Told::Forgets => {
-                    table::store_cell(table, c, Cell::Unk(true));
-                }
                 Told::Refreshes => {
                     table::store_cell(table, c, Cell::Held(value, Mark::Refresh));
                 }
@@ -130,7 +125,7 @@ fn wide(edge: u16) -> usize
 }
 
 // Tells the children of item i, lowest first, by their list. They have higher numbers. UNK children are called on where the array says that
-// they are owed. Where it does not say so of item i, nobody is told: arrays that are true, or were at the start, say so if a child leans on i.
+// they are owed. Where it does not say so of item i, nobody is told: an array that is true says so if a child leans on i.
 pub fn tell_children(
     sheet: &[u8],
     offsets: &[usize],
@@ -144,7 +139,7 @@ pub fn tell_children(
     i: usize,
 )
     requires { ⌜ Lent (now sheet) (now offsets) (now table) ⌝ ∗ ⌜ Memo (sheetOf (now sheet)) (decodeTable (now table)) (now tags) (now numbers) generation ⌝ ∗ ⌜ NoneFrom 0 (now tags) generation ⌝ ∗ ⌜ Telling (sheetOf (now sheet)) (now heads) (now links) (now owed) i ⌝ }
-    ensures { λ _. ⌜ Moves (now (sheet .entry)) generation (size (sheetOf (now (sheet .entry)))) (tellBy (saysOwed (now (owed .entry))) (sheetOf (now (sheet .entry))) (decodeTable (now (table .entry))) i) (now (table .exit)) (now (tags .exit)) (now (numbers .exit)) ⌝ }
+    ensures { λ _. ⌜ Moves (now (sheet .entry)) (now (table .entry)) generation (size (sheetOf (now (sheet .entry)))) (tellBy (saysOwed (now (owed .entry))) (sheetOf (now (sheet .entry))) (decodeTable (now (table .entry))) i) (now (table .exit)) (now (tags .exit)) (now (numbers .exit)) ⌝ }
 {
     if owed[i] == 0 {
         return;

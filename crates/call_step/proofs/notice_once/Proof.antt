@@ -30,7 +30,8 @@ returns c =
     let p = e .pre in
     let n-is = p .1 .0 .0 in
     let owed = copied-owed (e .args .sheet .now) (e .args .table .now) (o .last .1 .1 .0) (e .args .n) (p .1 .1 .1 .0) n-is (omega (arith, p .1 .0 .1, o .kept .1 .1 .0)) (o .ensures) in
-    left-told (e .args .sheet .now) (e .args .table .now) (o .last .1 .1 .0) (e .args .i) (omega (arith, n-is, p .1 .1 .0)) owed (c5 .tell-and-clear .ensures)
+    let steps = c5 .tell-and-clear .ensures in
+    (left-told (e .args .sheet .now) (e .args .table .now) (o .last .1 .1 .0) (e .args .i) (omega (arith, n-is, p .1 .1 .0)) owed steps, steps .owed-kept)
 
 pub notice-once-spec : {M : Type 1} → statement M
 notice-once-spec =

@@ -1,8 +1,6 @@
 -- `call_step::step_lent` meets its contract. Assumes nothing.
 use Rattle.call_step.proofs.StepCall.{mark-low, step-refused, step-done}
-use Rattle.admission.proofs.Admitting.{settle-needs}
 use Rattle.table.specs.Bytes.{decodeTable}
-use native.Mathlib.Omega.{arith}
 use borrow.Author.Needs.{needs}
 use Rattle.call_step.proofs.step_lent.Statement.{statement}
 use Rattle.call_step.proofs.step_lent.Tie as tie
@@ -23,25 +21,18 @@ step-once-requires c κs =
     let low = mark-low (decodeTable (e .args .table .now)) (e .args .n) (e .args .item) (m .result) (m .ensures) (c .before .before .before .before .before .before .if1 .left) in
     (p .1 .0, ((p .0 .count-is, p .1 .1 .1 .0), (low, (p .1 .1 .0, p .1 .1 .1 .1))))
 
-settle-requires : tie.Need-settle-requires
-settle-requires c κs =
-    let c13 = c .before .before .before .before .before .before .before .before .before .before .before .before .before in
-    let c30 = c13 .before .before .before .before .before .before .before .before .before .before .before .before .before .before .before .before .before in
-    let p = c30 .pre in
-    let d = c13 .step-once in
-    settle-needs (p .0) (p .1 .0) (omega (arith, p .1 .1 .1 .0, d .kept .1 .1 .1 .1 .1 .0)) _ (d .kept .1 .1 .0) (d .ensures .formed)
-
 returns-2 : tie.Need-returns-2
 returns-2 c =
     λ x.
-    let c5 = c .before .before .before .before .before in
-    let c19 = c5 .before .before .before .before .before .before .before .before .before .before .before .before .before .before in
-    let o = c19 .before .before .before .before .before .before .before in
-    let c27 = o .before in
-    let e = c27 .before .before .before .before .before .before .before .before .before in
-    let m = c27 .mark-cause in
-    step-done (e .pre .1 .0) x (e .args .n) (e .args .item) (m .result) (e .pre .0 .count-is) (m .ensures) (c .give2 .result) (c .give2 .ensures .1) (o .if1 .left) _
-    (c19 .step-once .ensures) _ (c5 .settle .ensures) (c .give2 .ensures .0)
+    let c10 = c .before .before .before .before .before .before .before .before .before .before in
+    let c12 = c10 .before .before in
+    let o = c12 .before .before .before .before .before .before .before in
+    let c20 = o .before in
+    let e = c20 .before .before .before .before .before .before .before .before .before in
+    let m = c20 .mark-cause in
+    let d = c12 .step-once in
+    step-done (e .pre .1 .0) x (e .args .n) (e .args .item) (m .result) (e .pre .0 .count-is) (m .ensures) (c .give2 .result) (c .give2 .ensures .1) (o .if1 .left)
+    (e .pre .1 .1 .0) _ (d .ensures .0) (d .ensures .1) (λ j. c10 .slice-known6 .given j .fits) (d .kept .1 .1 .0) (c .give2 .ensures .0)
 
 pub step-lent-spec : {M : Type 1} → statement M
 step-lent-spec =
@@ -52,7 +43,6 @@ step-lent-spec =
     (λ c. search needs)
     returns
     step-once-requires
-    settle-requires
     (λ c κs. search needs)
     (λ c. search needs)
     (λ c. search needs)

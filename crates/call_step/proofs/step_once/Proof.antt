@@ -18,7 +18,8 @@ returns c =
     let c19 = c18 .before in
     let c28 = c19 .before .before .before .before .before .before .before .before .before in
     let a = c28 .args in
-    left-noticed (a .sheet .now) (a .table .now) (a .i) _ (c19 .is-noticed .ensures) (c18 .if1 .taken) _ (c11 .notice-once .ensures)
+    let d = c11 .notice-once .ensures in
+    (left-noticed (a .sheet .now) (a .table .now) (a .i) _ (c19 .is-noticed .ensures) (c18 .if1 .taken) _ (d .0), d .1)
 
 pub step-once-spec : {M : Type 1} → statement M
 step-once-spec =

@@ -1,4 +1,4 @@
-use Rattle.telling.proofs.Telling.{told-renewable, told-unk, told-passed, told-forgets, told-refreshes, told-renews}
+use Rattle.telling.proofs.Telling.{told-renewable, told-unk, told-passed, told-refreshes, told-renews}
 use Rattle.item.proofs.Located.{located-field}
 use borrow.Author.Needs.{needs}
 use Rattle.telling.proofs.tell_child.Statement.{statement}
@@ -46,7 +46,7 @@ returns-3 : tie.Need-returns-3
 returns-3 c =
     let q = c .before .before .before .before .before .before .before .before .before .before .before .before .before .before .before .before .before .before .pre in
     let a = c .before .before .before .before .before .before .before .before .before .before .before .before .before .before .before .before .before .before .args in
-    told-forgets (q .0) (q .1 .0) (q .1 .1 .0) (q .1 .1 .1 .0) (q .1 .1 .1 .1) (a .called)
+    told-refreshes (q .0) (q .1 .0) (q .1 .1 .0) (q .1 .1 .1 .0) (q .1 .1 .1 .1) (a .called)
     (c .before .before .before .before .before .before .before .before .before .before .before .before .read-cell .result)
     (c .before .before .before .before .before .before .before .before .before .before .before .before .read-cell .ensures) _ _
     (c .before .before .before .before .before .before .before .before .before .before .value .given .1)
@@ -56,18 +56,6 @@ returns-3 c =
 
 returns-4 : tie.Need-returns-4
 returns-4 c =
-    let q = c .before .before .before .before .before .before .before .before .before .before .before .before .before .before .before .before .before .before .pre in
-    let a = c .before .before .before .before .before .before .before .before .before .before .before .before .before .before .before .before .before .before .args in
-    told-refreshes (q .0) (q .1 .0) (q .1 .1 .0) (q .1 .1 .1 .0) (q .1 .1 .1 .1) (a .called)
-    (c .before .before .before .before .before .before .before .before .before .before .before .before .read-cell .result)
-    (c .before .before .before .before .before .before .before .before .before .before .before .before .read-cell .ensures) _ _
-    (c .before .before .before .before .before .before .before .before .before .before .value .given .1)
-    (c .before .before .before .before .before .before .before .spread-of .result) (c .before .before .before .before .before .before .before .spread-of .ensures) _
-    (c .before .before .before .before .before .before .told-by .ensures) (c .before .before .before .before .enum-told3 .given .1) _
-    (c .before .before .store-cell3 .ensures)
-
-returns-5 : tie.Need-returns-5
-returns-5 c =
     let d = c .before .before .before .before .before .before .before .before .before .before .before .before .before .before .before .before in
     let b = d .before .before .before .before .before .before .before .before in
     let q = b .pre in
@@ -79,7 +67,7 @@ returns-5 c =
     (c .before .before .before .before .before .before .before .before .before .before .before .before .before .spread-of .result)
     (c .before .before .before .before .before .before .before .before .before .before .before .before .before .spread-of .ensures) _
     (c .before .before .before .before .before .before .before .before .before .before .before .before .told-by .ensures)
-    (c .before .before .before .before .before .before .before .before .before .before .enum-told4 .given .1) _
+    (c .before .before .before .before .before .before .before .before .before .before .enum-told3 .given .1) _
     (c .before .before .before .before .before .before .refresh-cleared .ensures) _ _ _ (c .before .before .before .before .before .renew .ensures)
 
 pub tell-child-spec : {M : Type 1} → statement M
@@ -98,8 +86,6 @@ tell-child-spec =
     (λ c κs. search needs)
     (λ c. search needs)
     (λ c κs. search needs)
-    (λ c. search needs)
-    (λ c κs. search needs)
     renew-requires
     (λ c. search needs)
     returns
@@ -108,8 +94,6 @@ tell-child-spec =
     (λ c. search needs)
     returns-3
     (λ c. search needs)
-    returns-4
     (λ c. search needs)
     (λ c. search needs)
-    (λ c. search needs)
-    returns-5)
+    returns-4)
