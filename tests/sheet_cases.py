@@ -45,6 +45,7 @@ def sheet(*items, count=None, edition=1):
 # --- the reader: the first field at fault counts, and in it the lowest number
 
 ITEMS = {1: 1024, 2: 4096}
+SPREADS = {1: (0, 1, 2), 2: (0, 1)}
 PARENTS = {1: (1, 16), 2: (2, 2), 3: (1, 16), 4: (1, 16), 5: (2, 2), 6: (3, 3), 7: (1, 16), 8: (2, 2)}
 
 
@@ -65,7 +66,7 @@ def is_name(b):
     return 1 <= len(b) <= 16 and all(33 <= c <= 126 for c in b)
 
 
-def item_level(tag, c, at, levels):
+def item_level(edition, tag, c, at, levels):
     if tag not in (2, 3):
         raise Refused(2, at)
     if tag == 2:
@@ -78,7 +79,7 @@ def item_level(tag, c, at, levels):
     if not is_name(c[4 + 2 * count:]):
         raise Refused(3, at)
     low, high = PARENTS.get(rule, (1, 0))
-    if not low <= count <= high or keep > 1 or spread > 2:
+    if not low <= count <= high or keep > 1 or spread not in SPREADS[edition]:
         raise Refused(5, at)
     parents = [c[4 + 2 * k] + 256 * c[5 + 2 * k] for k in range(count)]
     if any(p >= len(levels) for p in parents):
@@ -101,7 +102,7 @@ def read(s):
     offsets, levels = [], []
     for _ in range(count):
         tag, c, after = cut(s, at)
-        levels.append(item_level(tag, c, at, levels))
+        levels.append(item_level(edition, tag, c, at, levels))
         offsets.append(at)
         at = after
     tag, c, after = cut(s, at)
@@ -182,9 +183,29 @@ for rule, (low, high) in PARENTS.items():
         case('rule %d with %d parents' % (rule, n), sheet(A, figure(rule, [0] * n)))
 for keep in (0, 1, 2, 255):
     case('keep %d' % keep, sheet(A, figure(1, [0], keep=keep)))
-for spread in (0, 1, 2, 3):
+for spread in (0, 1, 2, 3, 4, 6, 130, 255):
     case('spread %d' % spread, sheet(A, figure(1, [0], spread=spread)))
     case('spread %d in edition 2' % spread, sheet(A, figure(1, [0], spread=spread), edition=2))
+case('rule, count, parents and name of 2 in edition 2', sheet(A, B, C, figure(2, [2, 2], name=b'2'), edition=2))
+for e in (1, 2):
+    PLAIN, FORGETS = figure(1, [0]), figure(1, [0], spread=2)
+    HIGH = [figure(1, [i]) for i in range(64)]
+    for label, s in (
+            ('in two figures', sheet(A, FORGETS, FORGETS, edition=e)),
+            ('in the last of three figures', sheet(A, PLAIN, PLAIN, FORGETS, edition=e)),
+            ('before spread 3', sheet(A, FORGETS, figure(1, [0], spread=3), edition=e)),
+            ('after spread 3', sheet(A, figure(1, [0], spread=3), FORGETS, edition=e)),
+            ('and a keep of 2', sheet(A, figure(1, [0], keep=2, spread=2), edition=e)),
+            ('and 6 in a figure', sheet(A, figure(1, [1], spread=2), edition=e)),
+            ('and 7 in a figure', sheet(A, *HIGH, figure(1, [64], spread=2), edition=e)),
+            ('and 1 in a figure', head(2, e) + A + FORGETS[:-1]),
+            ('and 2 in a figure', sheet(A, FORGETS, count=1, edition=e)),
+            ('and 3 in a figure', sheet(A, figure(1, [0], spread=2, name=b' '), edition=e)),
+            ('before a figure with 6', sheet(A, FORGETS, figure(1, [2]), edition=e)),
+            ('after a figure with 6', sheet(A, figure(1, [1]), FORGETS, edition=e)),
+            ('before a last field that is absent', sheet(A, FORGETS, edition=e)[:-3]),
+            ('and too many items', sheet(A, FORGETS, count=ITEMS[e] + 1, edition=e))):
+        case('edition %d, spread 2 %s' % (e, label), s)
 case('a parent listed twice', sheet(A, figure(1, [0, 0])))
 case('a parent equal to the item', sheet(A, figure(1, [1])))
 case('a parent above the item', sheet(A, figure(1, [2]), B))

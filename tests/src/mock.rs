@@ -25,6 +25,7 @@ mod edition;
 mod older;
 mod owed;
 mod printer;
+mod spread;
 mod step;
 mod swap;
 
@@ -38,6 +39,7 @@ use crate::model::value::{apply, in_range, Value, WHOLE};
 use choice::Where;
 pub use day::{MockDay, WrongDay};
 use owed::By;
+use spread::Function;
 use std::cell::RefCell;
 
 with_all! {
@@ -138,7 +140,6 @@ with_all! {
         TellingPassesOverOwed,
         TellingMarksUnowed,
         TellingStopsAtUnowed,
-        UnowedForgetsWithoutNotice,
         UnowedLosesNotice,
         DropLeavesOwed,
         DropEndsAllOwed,
@@ -146,8 +147,9 @@ with_all! {
         KeepLeavesUnowed,
         KeepMakesOwedOneLevel,
         LookUpLeavesUnowed,
-        ForgetLeavesOwed,
-        ForgetEndsAllOwed,
+        TellingEndsOwed,
+        RenewEndsOwed,
+        DeferEndsOwed,
         OpenFullOwesAll,
         OpenFullOwesNothing,
         OpenBareOwes,
@@ -300,9 +302,6 @@ with_all! {
         FaultBeyond1024At0,
         LongSheetsRefused,
         LongSheetsCut,
-        FirstForgetDefers,
-        SecondForgetDefers,
-        SecondForgetRefused,
         SecondOpensOtherwise,
         SecondPostAlwaysMarks,
         SecondExchangeUnmarked,
@@ -313,6 +312,39 @@ with_all! {
         SecondBoardStoresNothing,
         SecondRunLeavesNotice,
         SecondChoiceStrict,
+        SecondTakesSpread2,
+        SecondSpread2Renews,
+        SecondTakesSpread3,
+        FirstRefusesSpread2,
+        FirstSpread2Renews,
+        FirstTakesSpread3,
+        FirstTakesAnySpread,
+        SpreadIn2Bits,
+        SpreadEditionsExchanged,
+        SecondTakesSpread2InOpenings,
+        SecondTakesSpread2InCalls,
+        SecondTakesSpread2InExchanges,
+        SecondTakesSpread2OnBoards,
+        SecondTakesSpread2InRuns,
+        SecondTakesSpread2UpTo1024,
+        SecondTakesSpread2Beyond1024,
+        Spread2InFirstFigureOnly,
+        Spread2InLastFigureOnly,
+        Spread2After6,
+        Spread2After7,
+        Spread2TestedLast,
+        Spread2Before3,
+        Spread2AtTheLast,
+        Spread2At0,
+        Spread2Says4,
+        FirstSpread2Forgets,
+        FirstSpread2ForgetsWithoutKeep,
+        FirstSpread2IgnoresNotice,
+        FirstSpread2TellsNothing,
+        FirstSpread2IsNotKept,
+        RefusesStoredSpread2,
+        OpeningClearsSpread2,
+        CallClearsSpread2,
     }
 }
 
@@ -420,7 +452,7 @@ impl Sweep<'_> {
                 continue;
             }
             self.looked_up(i, given).iter().for_each(|&p| reached[p] = true);
-            if self.items[i].figure.as_ref().unwrap().keep {
+            if self.keeps(i) {
                 self.store(i, given[i], By::LookUp);
             }
         }
@@ -462,7 +494,7 @@ impl Sweep<'_> {
         }
         for child in self.told(i) {
             if !self.passes_over(child) {
-                self.tell(child, self.items[child].figure.as_ref().unwrap().spread);
+                self.tell(child);
             } else if self.wrong == Wrong::TellingStopsAtUnowed {
                 break;
             }
@@ -472,18 +504,17 @@ impl Sweep<'_> {
         }
     }
 
-    fn tell(&mut self, child: usize, spread: Spread) {
+    fn tell(&mut self, child: usize) {
         let Cell { stored, mark } = self.cells[child];
-        if mark != Mark::None && self.wrong == Wrong::TellsMarkedNothing {
+        if self.tells_nothing(child) {
             return;
         }
-        let spread = self.wrong.spread(spread, mark);
-        let defers = mark != Mark::Notice || self.wrong == Wrong::DeferIgnoresNotice;
-        if stored.is_none() || spread == Spread::Forget {
-            let mark = self.forgotten_mark(child);
-            self.put(child, Cell { stored: None, mark }, By::Forget);
-        } else if spread == Spread::Defer && defers {
-            self.cells[child].mark = self.wrong.deferred();
+        let spread = self.wrong.spread(self.items[child].figure.as_ref().unwrap().spread, mark);
+        if stored.is_none() || self.forgets(child) {
+            self.put(child, Cell { stored: None, mark: Mark::Notice }, By::Tell);
+        } else if spread == Spread::Defer && self.defers(child) {
+            let mark = self.wrong.deferred();
+            self.put(child, Cell { stored, mark }, By::Defer);
         } else {
             let value = self.work_out(child);
             if stored != Some(value) || self.wrong == Wrong::TellsRenewOfEqual {
@@ -597,7 +628,8 @@ impl Mock {
         }
         let items = read_sheet(sheet.bytes()).unwrap();
         let mut machine = Sweep::new(&items, &taken, wrong.here(Where::Call));
-        if let Some(number) = wrong.refusal(call, &machine.cells, &machine.owed) {
+        let refused = wrong.refusal(call, &machine.cells, &machine.owed);
+        if let Some(number) = refused.or(machine.refuses_stored().then_some(10)) {
             return Reply { number, offset: 0, kind: 0, value: 0 };
         }
         let reply = machine.give(call);
@@ -620,7 +652,9 @@ impl Engine for Mock {
         table: &mut Guarded,
     ) -> Reply {
         let lengths = [index.length(), table.length()];
-        self.as_taken(sheet, lengths, |mock, sheet| mock.give_open(full, sheet, index, table))
+        self.as_taken(Function::Open, sheet, lengths, |mock, sheet| {
+            mock.give_open(full, sheet, index, table)
+        })
     }
 
     fn call(
@@ -631,7 +665,9 @@ impl Engine for Mock {
         table: &mut Guarded,
     ) -> Reply {
         let lengths = [index.length(), table.length()];
-        self.as_taken(sheet, lengths, |mock, sheet| mock.give_call(call, sheet, index, table))
+        self.as_taken(Function::Call, sheet, lengths, |mock, sheet| {
+            mock.give_call(call, sheet, index, table)
+        })
     }
 
     fn swap(
@@ -642,12 +678,16 @@ impl Engine for Mock {
         table: &mut Guarded,
     ) -> Reply {
         let lengths = [index.length(), table.length()];
-        self.as_taken(sheet, lengths, |mock, sheet| mock.give_swap(swap, sheet, index, table))
+        self.as_taken(Function::Swap, sheet, lengths, |mock, sheet| {
+            mock.give_swap(swap, sheet, index, table)
+        })
     }
 
     fn close(&mut self, sheet: &mut Guarded, index: &mut Guarded, table: &mut Guarded) -> Reply {
         let lengths = [index.length(), table.length()];
-        self.as_taken(sheet, lengths, |mock, sheet| mock.give_close(sheet.bytes(), index, table))
+        self.as_taken(Function::Close, sheet, lengths, |mock, sheet| {
+            mock.give_close(sheet.bytes(), index, table)
+        })
     }
 
     fn board(
@@ -659,7 +699,7 @@ impl Engine for Mock {
         results: &mut Guarded,
     ) -> Reply {
         let lengths = [index.length(), table.length()];
-        self.as_taken(sheet, lengths, |mock, sheet| {
+        self.as_taken(Function::Board, sheet, lengths, |mock, sheet| {
             mock.give_board(sheet.bytes(), index.bytes(), table.bytes_mut(), items, results)
         })
     }

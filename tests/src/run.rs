@@ -13,6 +13,7 @@ use crate::harness::offices::run_offices;
 use crate::harness::older::run_older;
 use crate::harness::orders::run_orders;
 use crate::harness::shares::{run_pairs, BATCH};
+use crate::harness::spreads::{run_forgotten, run_spreads};
 use crate::harness::swaps::run_swaps;
 use crate::harness::tally::Tally;
 use crate::rng::Rng;
@@ -39,6 +40,10 @@ pub struct Plan {
     pub swaps: u64,
     /// Lists of which each call is made in both editions.
     pub editions: u64,
+    /// Lists of which each call is made with spread 2, with spread 0 and with others.
+    pub spreads: u64,
+    /// Tables of version 4.3.0.
+    pub forgotten: u64,
     /// Large sheets of both editions.
     pub large: u64,
     pub days: u64,
@@ -64,6 +69,8 @@ const ORDERS: u64 = 9 << 40;
 const SWAPS: u64 = 10 << 40;
 const EDITIONS: u64 = 11 << 40;
 const LARGE: u64 = 12 << 40;
+const SPREADS: u64 = 13 << 40;
+const FORGOTTEN: u64 = 14 << 40;
 
 /// Everything compared, or the first difference.
 pub fn run(
@@ -92,6 +99,8 @@ pub fn run(
         (SWAPS, plan.swaps),
         (EDITIONS, plan.editions),
         (LARGE, plan.large),
+        (SPREADS, plan.spreads),
+        (FORGOTTEN, plan.forgotten),
     ];
     for part in kinds.iter().flat_map(|&(first, count)| first..first + count) {
         run_part(plan, part, &mut c, &mut day)?;
@@ -134,6 +143,8 @@ fn run_part(
     c.rng = Rng::part(seed, part);
     let result = match (part, day) {
         (FIXED, _) => run_fixed(c),
+        (FORGOTTEN.., _) => run_forgotten(c),
+        (SPREADS.., _) => run_spreads(c),
         (LARGE.., _) => run_large(c),
         (EDITIONS.., _) => run_editions(c),
         (SWAPS.., _) => run_swaps(c),
@@ -164,7 +175,7 @@ mod tests {
     const SHORT: Plan = Plan {
         seed: 5,
         fixed: false,
-        calls: 50_000,
+        calls: 60_000,
         offices: 10,
         pairs: 0,
         older: 0,
@@ -174,6 +185,8 @@ mod tests {
         orders: 0,
         swaps: 0,
         editions: 0,
+        spreads: 0,
+        forgotten: 0,
         large: 0,
         days: 0,
         alone: false,
@@ -199,6 +212,8 @@ mod tests {
             orders: 5,
             swaps: 300,
             editions: 200,
+            spreads: 100,
+            forgotten: 200,
             large: 4,
             days: 100,
             ..SHORT
@@ -214,6 +229,9 @@ mod tests {
         );
         assert_eq!(tally.lists_from_tables, tally.lists.div_ceil(5));
         assert!(tally.random_pairs > 600 && tally.large_sheets == 4);
+        assert!(tally.edition_refusals > 100 && tally.random_spread_pairs > 200);
+        assert!(tally.other_spreads > 200 && tally.other_spreads_refused > 20);
+        assert!(tally.forgotten_tables == 200 && tally.forgotten_others > 50);
         assert_eq!(tally.random_days, 100);
         assert!(tally.damaged_days > 10);
     }
@@ -320,6 +338,35 @@ mod tests {
         }
     }
 
+    /// Wrong spreads of edition 1 are found by lists with spread 2 beside others alone.
+    #[test]
+    fn wrong_spreads_are_found() {
+        let plan = Plan { calls: 0, offices: 0, spreads: 1_500, ..SHORT };
+        let is_first = |wrong: &&Wrong| format!("{wrong:?}").starts_with("First");
+        let others = [Wrong::OpeningClearsSpread2, Wrong::CallClearsSpread2];
+        let first = Wrong::SPREADS.iter().filter(is_first).chain(&others);
+        for &wrong in first.chain(&[Wrong::RefusesStoredSpread2]) {
+            let found = try_mock(&plan, wrong).unwrap_err();
+            assert!(found.contains("--seed 5 --part"), "{wrong:?}: {found}");
+        }
+    }
+
+    /// What reads or refuses tables of version 4.3.0 otherwise is found by these alone.
+    #[test]
+    fn wrong_readings_of_forgotten_figures_are_found() {
+        let plan = Plan { calls: 0, offices: 0, forgotten: 300, ..SHORT };
+        for wrong in [
+            Wrong::FirstSpread2Forgets,
+            Wrong::FirstSpread2TellsNothing,
+            Wrong::FirstRefusesSpread2,
+            Wrong::RefusesStoredSpread2,
+            Wrong::RefusesUnowedNotice,
+        ] {
+            let found = try_mock(&plan, wrong).unwrap_err();
+            assert!(found.contains("--seed 5 --part"), "{wrong:?}: {found}");
+        }
+    }
+
     /// A day program that is wrong about the length of its files is found by random days alone.
     #[test]
     fn wrong_day_programs_are_found() {
@@ -387,6 +434,8 @@ mod tests {
             orders: 5,
             swaps: 300,
             editions: 200,
+            spreads: 100,
+            forgotten: 200,
             large: 4,
             ..SHORT
         };

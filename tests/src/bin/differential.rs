@@ -11,7 +11,7 @@ use std::time::{Instant, SystemTime, UNIX_EPOCH};
 const USAGE: &str =
     "differential [--self] [--trace] [--alone] [--seed N] [--calls N] [--offices N] \
      [--pairs N] [--older N] [--closes N] [--before N] [--choices N] [--orders N] [--swaps N] \
-     [--editions N] [--large N] [--days N] [--part N]";
+     [--editions N] [--spreads N] [--forgotten N] [--large N] [--days N] [--part N]";
 
 /// What a run compares unless it is told otherwise; its seed is then the clock's.
 const PLAN: Plan = Plan {
@@ -27,6 +27,8 @@ const PLAN: Plan = Plan {
     orders: 216,
     swaps: 5_000,
     editions: 2_000,
+    spreads: 2_000,
+    forgotten: 5_000,
     large: 200,
     days: 1_000,
     alone: false,
@@ -82,6 +84,8 @@ fn options() -> Result<Options, String> {
             "--orders" => options.plan.orders = number,
             "--swaps" => options.plan.swaps = number,
             "--editions" => options.plan.editions = number,
+            "--spreads" => options.plan.spreads = number,
+            "--forgotten" => options.plan.forgotten = number,
             "--large" => options.plan.large = number,
             "--days" => options.plan.days = number,
             "--part" => options.plan.only = Some(number),

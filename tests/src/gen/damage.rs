@@ -1,7 +1,9 @@
 //! Sheets past a limit, and bytes damaged in one to three places.
 
 use super::sheets::{random_specs, small_specs, tower};
-use super::write::{any_edition, raw, raw_sheet, write_any, write_edition, write_raw, Raw, Spec};
+use super::write::{
+    any_edition, for_edition, raw, raw_sheet, write_any, write_edition, write_raw, Raw, Spec,
+};
 use crate::model::sheet::{item_limit, MAX_LEVEL};
 use crate::rng::Rng;
 
@@ -21,11 +23,20 @@ pub fn bad_sheet(rng: &mut Rng) -> Vec<u8> {
     }
 }
 
+/// The fields of a sheet of either edition. In edition 2 spread 2 stays in one of ten, and is refused.
+fn any_fields(rng: &mut Rng, specs: &[Spec]) -> Vec<Raw> {
+    let edition = any_edition(rng, specs.len());
+    match rng.percent(10) {
+        true => raw_sheet(edition, specs),
+        false => raw_sheet(edition, &for_edition(rng, edition, specs)),
+    }
+}
+
 /// A tower with a figure above the highest level, which may have other faults too.
 fn too_high(rng: &mut Rng) -> Vec<u8> {
     let levels = rng.between(MAX_LEVEL as u64 + 1, MAX_LEVEL as u64 + 3) as usize;
     let specs = tower(rng, levels);
-    let mut fields = raw_sheet(any_edition(rng, specs.len()), &specs);
+    let mut fields = any_fields(rng, &specs);
     if rng.percent(60) {
         // After the head, the entries and the highest level.
         let at = 1 + specs.len() - levels + MAX_LEVEL;
@@ -42,7 +53,7 @@ pub fn damaged_sheet(rng: &mut Rng, specs: &[Spec]) -> Vec<u8> {
         let sheet = write_any(rng, specs);
         return damaged(rng, &sheet);
     }
-    let mut fields = raw_sheet(any_edition(rng, specs.len()), specs);
+    let mut fields = any_fields(rng, specs);
     let same_field = rng.percent(50);
     let mut at = rng.below(fields.len() as u64) as usize;
     for _ in 0..rng.between(1, 3) {
@@ -102,7 +113,7 @@ fn damage_content(rng: &mut Rng, field: &mut Raw, at: usize) {
         match rng.below(6) {
             0 => content[0] = *rng.pick(&[0, 1, 2, 5, 6, 7, 8, 9, 255]),
             1 => content[1] = *rng.pick(&[0, 1, 2, 255]),
-            2 => content[2] = *rng.pick(&[0, 1, 2, 3, 255]),
+            2 => content[2] = *rng.pick(&[0, 1, 2, 2, 3, 3, 4, 255]),
             3 => content[3] = *rng.pick(&[0, 1, 2, 3, 16, 17, 127, 128, 255]),
             4 => {
                 // The field at place 1 is item 0.
@@ -113,6 +124,9 @@ fn damage_content(rng: &mut Rng, field: &mut Raw, at: usize) {
                 content[4 + 2 * place..6 + 2 * place].copy_from_slice(&parent.to_le_bytes());
             }
             _ => *content.last_mut().unwrap() = *rng.pick(&[0, 32, 33, 126, 127, 255]),
+        }
+        if rng.percent(10) {
+            content[2] = 2;
         }
     } else if !content.is_empty() {
         let place = rng.below(content.len() as u64) as usize;

@@ -18,7 +18,8 @@ pub use tables::{
     number, older_table, share_pair, Numbers, OLDER_LIMIT,
 };
 pub use write::{
-    in_edition, plain_chain, spec_figure, write_any, write_edition, write_sheet, Spec,
+    deferring, first_spread_2, for_edition, in_edition, last_spread_2, plain_chain, spec_figure,
+    spread_places, with_spreads, write_any, write_edition, write_sheet, Spec,
 };
 
 #[cfg(test)]
@@ -58,14 +59,14 @@ mod tests {
         let mut rng = Rng::new(5);
         let mut met = [[[[0; 17]; 3]; 2]; 9];
         let (mut highest, mut most) = (0, 0);
-        for _ in 0..3_000 {
+        for _ in 0..6_000 {
             let shape = shape(&mut rng);
             let specs = sheet(&mut rng, shape);
             let items = read_sheet(&write_any(&mut rng, &specs)).unwrap();
             most = most.max(items.len());
             highest = highest.max(items.iter().map(|i| i.level).max().unwrap());
             for f in items.iter().filter_map(|i| i.figure.as_ref()) {
-                met[f.rule as usize][f.keep as usize][f.spread as usize][f.parents.len()] += 1;
+                met[f.rule as usize][f.keep as usize][f.spread_byte as usize][f.parents.len()] += 1;
             }
         }
         assert_eq!((highest, most), (MAX_LEVEL, item_limit(2)));
@@ -167,15 +168,49 @@ mod tests {
         assert!(met[1..].iter().flatten().all(|&m| m >= 20), "{met:?}");
     }
 
+    /// Spread 2 becomes 0 or 1 where the edition does not have it, and all else stays.
+    #[test]
+    fn sheets_have_spreads_of_their_edition() {
+        let mut rng = Rng::new(10);
+        let mut met = [[0; 3]; 3];
+        for _ in 0..500 {
+            let specs = small_specs(&mut rng);
+            let sheets = [1, 2].map(|e| write_edition(e, &for_edition(&mut rng, e, &specs)));
+            assert_eq!(sheets[0], write_sheet(&specs));
+            assert!(read_sheet(&sheets[1]).is_ok());
+            for at in spread_places(&sheets[0]) {
+                met[sheets[0][at] as usize][sheets[1][at] as usize] += 1;
+            }
+            let [one, two] = sheets.map(|sheet| with_spreads(&sheet, |_| 0));
+            assert_eq!(in_edition(2, &one), two);
+        }
+        assert!([met[0][0], met[1][1], met[2][0], met[2][1]].iter().all(|&m| m > 100), "{met:?}");
+        assert_eq!([met[0][1], met[0][2], met[1][0], met[1][2], met[2][2]], [0; 5]);
+    }
+
+    /// The figures with spread 2, also of a sheet that is cut.
+    #[test]
+    fn spreads_are_found() {
+        let specs: Vec<Spec> = [0, 2, 1, 2].map(|s| spec_figure(1, 0, s, &[0])).to_vec();
+        let sheet = write_sheet(&[vec![Spec::Entry(b"A".to_vec())], specs].concat());
+        assert_eq!(spread_places(&sheet), [16, 26, 36, 46]);
+        assert_eq!((first_spread_2(&sheet), last_spread_2(&sheet)), (Some(21), Some(41)));
+        let right = with_spreads(&sheet, |byte| byte % 2);
+        assert_eq!((deferring(&sheet), first_spread_2(&right)), (right, None));
+        let cut = &sheet[..50];
+        assert_eq!((spread_places(cut).len(), last_spread_2(cut)), (3, Some(21)));
+    }
+
     /// Every number that a figure's field is at fault with, its parents read as far as they go.
-    fn all_faults(content: &[u8], before: &[Item]) -> Vec<u64> {
+    fn all_faults(edition: u16, content: &[u8], before: &[Item]) -> Vec<u64> {
         if content.len() < 4 {
             return vec![3];
         }
         let count = content[3] as usize;
         let name = content.get(4 + 2 * count..).unwrap_or(&[]);
         let named = (1..=16).contains(&name.len()) && name.iter().all(|b| (33..=126).contains(b));
-        let right = count_fits(content[0], count) && content[1] <= 1 && content[2] <= 2;
+        let spread = content[2] < 2 || (edition, content[2]) == (1, 2);
+        let right = count_fits(content[0], count) && content[1] <= 1 && spread;
         let parents: Vec<usize> =
             content[4..].chunks_exact(2).take(count).map(|p| u16_at(p, 0) as usize).collect();
         let below = parents.iter().all(|&p| p < before.len());
@@ -188,7 +223,8 @@ mod tests {
     #[test]
     fn pairs_of_faults_are_met() {
         let mut rng = Rng::new(4);
-        let mut met = [[0; 8]; 8];
+        // Spread 2 in edition 2 apart.
+        let (mut met, mut spread_2) = ([[0; 8]; 8], [0; 8]);
         for _ in 0..20_000 {
             let bytes = bad_sheet(&mut rng);
             // Number 2 at a figure's tag: its place is past the last item.
@@ -207,13 +243,17 @@ mod tests {
             prefix[5..7].copy_from_slice(&count.to_le_bytes());
             prefix.extend([4, 0, 0]);
             let before = if count == 0 { vec![] } else { read_sheet(&prefix).unwrap() };
-            let faults = all_faults(field.content, &before);
+            let edition = u16_at(&bytes, 3);
+            let faults = all_faults(edition, field.content, &before);
             assert_eq!(faults.iter().min(), Some(&fault.number));
+            let is_2 = edition == 2 && field.content.get(2) == Some(&2);
+            faults.iter().filter(|_| is_2).for_each(|&b| spread_2[b as usize] += 1);
             faults.iter().for_each(|&b| met[fault.number as usize][b as usize] += 1);
         }
         for (a, b) in [(3, 5), (3, 6), (3, 7), (5, 6), (5, 7), (6, 7)] {
             assert!(met[a][b] >= 10, "{a} with {b}: {met:?}");
         }
+        assert!([3, 5, 6, 7].iter().all(|&n| spread_2[n] >= 10), "{spread_2:?}");
     }
 
     #[test]

@@ -72,7 +72,12 @@ pub fn bad_swap(rng: &mut Rng, items: &[Item], held: &[i64]) -> Swap {
         2 | 3 => (figure, *rng.pick(&[giver, taker, figure, figure])),
         4 => (giver, giver),
         5 | 6 => return Swap { giver, taker, quantity: none },
-        7 | 8 => return Swap { giver, taker, quantity: over },
+        7 | 8 => {
+            // From the one that holds less there is no more room, and both results can wrap.
+            let turned = held[giver as usize] > held[taker as usize] && rng.percent(70);
+            let (giver, taker) = if turned { (taker, giver) } else { (giver, taker) };
+            return Swap { giver, taker, quantity: over };
+        }
         _ => {
             let sides = [giver, taker, figure, absent];
             let (giver, taker) = (*rng.pick(&sides), *rng.pick(&sides));

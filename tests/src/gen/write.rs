@@ -1,6 +1,7 @@
 //! Items and fields as bytes.
 
-use crate::model::sheet::item_limit;
+use crate::model::field::field_at;
+use crate::model::sheet::{item_limit, spread_of};
 use crate::rng::Rng;
 
 /// An item to be written.
@@ -72,9 +73,23 @@ pub fn any_edition(rng: &mut Rng, count: usize) -> u16 {
     }
 }
 
-/// A sheet of either edition, if both take its items.
+/// The items with spreads that the edition has: another becomes 0 or 1.
+pub fn for_edition(rng: &mut Rng, edition: u16, specs: &[Spec]) -> Vec<Spec> {
+    let mut specs = specs.to_vec();
+    for spec in &mut specs {
+        if let Spec::Figure { spread, .. } = spec {
+            if spread_of(edition, *spread).is_none() {
+                *spread = rng.below(2) as u8;
+            }
+        }
+    }
+    specs
+}
+
+/// A sheet of either edition, if both take its items, with spreads that it has.
 pub fn write_any(rng: &mut Rng, specs: &[Spec]) -> Vec<u8> {
-    write_edition(any_edition(rng, specs.len()), specs)
+    let edition = any_edition(rng, specs.len());
+    write_edition(edition, &for_edition(rng, edition, specs))
 }
 
 /// The sheet with another edition in its head, whatever else is in it.
@@ -82,6 +97,42 @@ pub fn in_edition(edition: u16, sheet: &[u8]) -> Vec<u8> {
     let mut sheet = sheet.to_vec();
     sheet[3..5].copy_from_slice(&edition.to_le_bytes());
     sheet
+}
+
+/// The place of the spread byte in a figure's field.
+const SPREAD: usize = 5;
+
+/// Where the spread bytes are, lowest first, as far as the sheet can be cut into fields.
+pub fn spread_places(sheet: &[u8]) -> Vec<usize> {
+    let (mut at, mut places) = (0, Vec::new());
+    while let Some(field) = field_at(sheet, at) {
+        if field.tag == 3 && field.content.len() >= 4 {
+            places.push(at + SPREAD);
+        }
+        at = field.end();
+    }
+    places
+}
+
+/// Where the field of the first figure with spread 2 begins, or of the last.
+pub fn first_spread_2(sheet: &[u8]) -> Option<usize> {
+    spread_places(sheet).into_iter().find(|&at| sheet[at] == 2).map(|at| at - SPREAD)
+}
+
+pub fn last_spread_2(sheet: &[u8]) -> Option<usize> {
+    spread_places(sheet).into_iter().rfind(|&at| sheet[at] == 2).map(|at| at - SPREAD)
+}
+
+/// The sheet with another byte for each spread byte.
+pub fn with_spreads(sheet: &[u8], mut other: impl FnMut(u8) -> u8) -> Vec<u8> {
+    let mut changed = sheet.to_vec();
+    spread_places(sheet).into_iter().for_each(|at| changed[at] = other(sheet[at]));
+    changed
+}
+
+/// The sheet with 0 for each spread 2.
+pub fn deferring(sheet: &[u8]) -> Vec<u8> {
+    with_spreads(sheet, |byte| if byte == 2 { 0 } else { byte })
 }
 
 /// Entry 0 and a chain of sums above it, each of the item before, keep and spread 0.

@@ -120,7 +120,7 @@ impl<'a> Comparison<'a> {
             Act::Swap(swap) => swap::swap(swap, &lent.sheet, &lent.index, &mut lent.table),
             Act::Close => close::close(&lent.sheet, &lent.index, &mut lent.table),
         };
-        self.tally.count_act(act, reply.number, &before.sheet);
+        self.tally.count_act(act, &reply, &before.sheet);
         let mut handed = self.hand(&before);
         let Handed { sheet, index, table } = &mut handed;
         let given = match act {
@@ -163,7 +163,7 @@ impl<'a> Comparison<'a> {
         let (before, lists) = (lent.clone(), board.clone());
         let Board { items, results } = board;
         let reply = board::board(&lent.sheet, &lent.index, &mut lent.table, items, results);
-        self.tally.count_board(&lists, reply.number, &before.sheet);
+        self.tally.count_board(&lists, &reply, &before.sheet);
         let mut handed = self.hand(&before);
         let Handed { sheet, index, table } = &mut handed;
         let (mut items, mut results) = (self.lend(&lists.items), self.lend(&lists.results));

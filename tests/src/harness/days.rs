@@ -136,6 +136,7 @@ fn editions_and_lengths() -> Vec<(Vec<u8>, Vec<u8>, &'static str)> {
     for edition in [0, 3, 256, 257, 258] {
         days.push((in_edition(edition, &EXAMPLE), example_log(), "SHEET 4 0\n"));
     }
+    days.extend(days_with_spreads());
     // Entries, and a sum of the first and of the last of them.
     for (edition, most) in EDITIONS {
         let mut specs = vec![gen::Spec::Entry(b"A".to_vec()); most - 1];
@@ -196,6 +197,37 @@ fn editions_and_lengths() -> Vec<(Vec<u8>, Vec<u8>, &'static str)> {
     days.push((faulty(MOST + 1), log, TOO_LONG));
     days
 }
+
+/// The example with spreads of both its figures, in both editions; and a day on which figures with spread
+/// 2 are told: they get refresh, and stay stored.
+fn days_with_spreads() -> Vec<(Vec<u8>, Vec<u8>, &'static str)> {
+    let mut days = Vec::new();
+    for (spreads, in_1, in_2) in [
+        ([2, 2], EXAMPLE_OUTPUT, "SHEET 5 19\n"),
+        ([0, 2], EXAMPLE_OUTPUT, "SHEET 5 31\n"),
+        ([2, 1], EXAMPLE_OUTPUT, "SHEET 5 19\n"),
+        ([1, 0], EXAMPLE_OUTPUT, EXAMPLE_OUTPUT),
+        ([2, 3], "SHEET 5 31\n", "SHEET 5 19\n"),
+        ([3, 2], "SHEET 5 19\n", "SHEET 5 19\n"),
+    ] {
+        let mut spreads = spreads.into_iter();
+        let sheet = gen::with_spreads(&EXAMPLE, |_| spreads.next().unwrap());
+        for (edition, output) in [(1, in_1), (2, in_2)] {
+            days.push((in_edition(edition, &sheet), example_log(), output));
+        }
+    }
+    let (keep, step) = (|item| Call::Keep { item }, |item| Call::Step { item });
+    let told = [post(0, 6), step(0), step(1), step(1), step(1), step(2), ask(2)];
+    let log = log_of(&[&[post(0, 5), ask(0), keep(1), keep(2)][..], &told].concat());
+    for (edition, spread, output) in [(1, 0, DEFERS), (1, 2, DEFERS), (2, 2, "SHEET 5 11\n")] {
+        let entry = gen::Spec::Entry(b"A".to_vec());
+        let [first, second] = [0, 1].map(|parent| gen::spec_figure(1, 0, spread, &[parent]));
+        days.push((gen::write_edition(edition, &[entry, first, second]), log.clone(), output));
+    }
+    days
+}
+
+const DEFERS: &str = "OK\nASK 0 5\nOK\nOK\nOK\nOK\nOK\nOK\nNO 14\nOK\nASK 2 6\n";
 
 /// The same calls on 1,025 items of edition 2, where item 1,024 is an entry.
 fn output_of_1025() -> &'static str {

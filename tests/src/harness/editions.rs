@@ -1,22 +1,24 @@
-//! Editions: sheets of edition 1, whole and damaged, beside themselves in edition 2. Large sheets of
-//! both. What every act met of editions, item counts and lengths is counted.
+//! Editions: sheets of edition 1, whole and damaged, beside themselves in edition 2, which refuses spread
+//! 2. Large sheets of both. What every act met of editions, item counts, lengths and spreads is counted.
 
 use super::boards::plain_board;
 use super::closes::plain_close;
 use super::compare::{Act, Comparison, Lent};
 use super::fixed::{expect, post};
 use super::lists::{any_act, changed_bytes, open, plain_call, Office};
+use super::spreads::beside;
 use super::swaps::plain_swap;
-use crate::gen::{self, in_edition, Shape, Spec};
+use crate::gen::{self, first_spread_2, in_edition, Shape, Spec};
 use crate::model::calls::{Call, Reply};
 use crate::model::day::MOST;
 use crate::model::field::u16_at;
 use crate::model::sheet::{index_of, read_sheet, Item};
 use crate::model::table::RECORD;
+use crate::model::value::count_fits;
 use crate::rng::Rng;
 
 /// What each function must meet: accepted sheets, then refused ones.
-pub const MET: [&str; 24] = [
+pub const MET: [&str; 29] = [
     "edition 1",
     "edition 2",
     "1,024 items of edition 1",
@@ -29,6 +31,7 @@ pub const MET: [&str; 24] = [
     "129 to 1,024 items",
     "1,025 to 4,096 items",
     "over 65,536 bytes",
+    "spread 2 in edition 1",
     "no item",
     "1,025 items of edition 1",
     "4,097 items of edition 2",
@@ -41,14 +44,24 @@ pub const MET: [&str; 24] = [
     "a fault, 129 to 1,024 items claimed",
     "a fault, 1,025 to 4,096 items claimed",
     "no whole head",
+    "spread 2 in edition 2",
+    "spread 3 in edition 1",
+    "spread 3 in edition 2",
+    "a higher spread",
 ];
 /// Where the refused ones begin.
-pub const REFUSED: usize = 12;
+pub const REFUSED: usize = 13;
 
 pub type Times = [u64; MET.len()];
 
-/// Counts an act by its number and its sheet.
-pub fn count(met: &mut Times, number: u64, sheet: &[u8]) {
+/// The spread byte of the figure's field at an offset, if nothing else of it is refused with 5.
+fn spread_at_fault(sheet: &[u8], offset: u64) -> Option<u8> {
+    let &[_, _, _, rule, keep, spread, count, ..] = &sheet[offset as usize..] else { return None };
+    (count_fits(rule, count as usize) && keep < 2).then_some(spread)
+}
+
+/// Counts an act by its answer and its sheet.
+pub fn count(met: &mut Times, &Reply { number, offset, .. }: &Reply, sheet: &[u8]) {
     let in_form = sheet.len() >= 7 && sheet[..3] == [1, 4, 0];
     let (edition, items) = match in_form {
         true => (u16_at(sheet, 3), u16_at(sheet, 5)),
@@ -58,6 +71,7 @@ pub fn count(met: &mut Times, number: u64, sheet: &[u8]) {
     let fault = in_form && [1, 2, 3, 5, 6, 7].contains(&number);
     let sizes = [1..=128, 129..=1_024, 1_025..=4_096].map(|size| size.contains(&items));
     let known = [1, 2].contains(&edition);
+    let spread = if number == 5 { spread_at_fault(sheet, offset) } else { None };
     let met_here = [
         taken && edition == 1,
         taken && edition == 2,
@@ -71,6 +85,7 @@ pub fn count(met: &mut Times, number: u64, sheet: &[u8]) {
         taken && sizes[1],
         taken && sizes[2],
         taken && sheet.len() > MOST,
+        taken && edition == 1 && first_spread_2(sheet).is_some(),
         limit && known && items == 0,
         limit && (edition, items) == (1, 1_025),
         limit && (edition, items) == (2, 4_097),
@@ -83,6 +98,10 @@ pub fn count(met: &mut Times, number: u64, sheet: &[u8]) {
         fault && sizes[1],
         fault && sizes[2],
         number == 1 && sheet.len() < 7,
+        (edition, spread) == (2, Some(2)),
+        (edition, spread) == (1, Some(3)),
+        (edition, spread) == (2, Some(3)),
+        matches!(spread, Some(4..)),
     ];
     met.iter_mut().zip(met_here).for_each(|(times, met)| *times += met as u64);
 }
@@ -93,7 +112,7 @@ fn is_first(sheet: &[u8]) -> bool {
 }
 
 /// What an act gives; of a board its result list, too.
-fn given(c: &mut Comparison, act: &Act, lent: &mut Lent) -> Result<(Reply, Vec<u8>), String> {
+pub fn given(c: &mut Comparison, act: &Act, lent: &mut Lent) -> Result<(Reply, Vec<u8>), String> {
     match act {
         Act::Board(lists) => {
             let mut board = lists.clone();
@@ -104,14 +123,39 @@ fn given(c: &mut Comparison, act: &Act, lent: &mut Lent) -> Result<(Reply, Vec<u
     }
 }
 
+/// Where edition 2 refuses what edition 1 has given this answer: the first figure with spread 2, unless
+/// a field before it is at fault, or its own with a lower number.
+fn spread_refused(sheet: &[u8], reply: &Reply) -> Option<u64> {
+    let first = first_spread_2(sheet)? as u64;
+    let before = match reply.number {
+        1..=5 => reply.offset <= first,
+        6 | 7 => reply.offset < first,
+        _ => false,
+    };
+    (!before).then_some(first)
+}
+
 /// An act on a sheet of edition 1, and on a copy with edition 2: they give the same answer, and leave
-/// the same bytes.
+/// the same bytes. For spread 2 edition 2 gives 5, and changes nothing.
 pub fn same(c: &mut Comparison, act: &Act, lent: &mut Lent) -> Result<Reply, String> {
-    let mut second = Lent { sheet: in_edition(2, &lent.sheet), ..lent.clone() };
+    let before = Lent { sheet: in_edition(2, &lent.sheet), ..lent.clone() };
+    let mut second = before.clone();
     let replies = [given(c, act, lent)?, given(c, act, &mut second)?];
-    c.tally.edition_pairs += 1;
-    let right = Lent { sheet: in_edition(2, &lent.sheet), ..lent.clone() };
-    match replies[0] == replies[1] && second == right {
+    let (mut right, mut reply) = (before, replies[0].clone());
+    match spread_refused(&right.sheet, &replies[0].0) {
+        None => {
+            right = Lent { sheet: right.sheet, ..lent.clone() };
+            c.tally.edition_pairs += 1;
+        }
+        Some(offset) => {
+            reply.0 = Reply { number: 5, offset, kind: 0, value: 0 };
+            if let Act::Board(lists) = act {
+                reply.1.clone_from(&lists.results);
+            }
+            c.tally.edition_refusals += (replies[0].0.number == 0) as u64;
+        }
+    }
+    match replies[1] == reply && second == right {
         true => Ok(replies[0].0),
         false => Err(format!(
             "{act:?} gives {:?} in edition 1, {:?} in edition 2\n{}{}",
@@ -147,16 +191,36 @@ fn changed(c: &mut Comparison, specs: &[Spec], items: &[Item], lent: &Lent) -> L
     }
 }
 
-/// A list on a sheet of edition 1, each act of it in both editions; some on changed bytes.
-pub fn run_editions(c: &mut Comparison) -> Result<(), String> {
-    let shape = match c.rng.below(100) {
+/// What an act of a list is given to: two sheets, one beside the other.
+pub type Pair = fn(&mut Comparison, &Act, &mut Lent) -> Result<Reply, String>;
+
+/// The items of a sheet of edition 1.
+pub fn first_specs(rng: &mut Rng) -> Vec<Spec> {
+    let shape = match rng.below(100) {
         0..=69 => Shape::Small,
         70..=91 => Shape::Medium,
         92..=98 => Shape::Deep,
         _ => Shape::Wide,
     };
-    let specs = gen::sheet(&mut c.rng, shape);
-    let sheet = gen::write_sheet(&specs);
+    gen::sheet(rng, shape)
+}
+
+/// A list on a sheet of edition 1, each act of it in both editions; some on changed bytes. Three
+/// quarters have no spread 2.
+pub fn run_editions(c: &mut Comparison) -> Result<(), String> {
+    let mut specs = first_specs(&mut c.rng);
+    if c.rng.percent(75) {
+        specs = gen::for_edition(&mut c.rng, 2, &specs);
+    }
+    let pairs = c.tally.edition_pairs;
+    run_list_of_pairs(c, &specs, same)?;
+    c.tally.random_pairs += c.tally.edition_pairs - pairs;
+    Ok(())
+}
+
+/// A list on a sheet of edition 1, from any accepted table or an opening; some acts on changed bytes.
+pub fn run_list_of_pairs(c: &mut Comparison, specs: &[Spec], pair: Pair) -> Result<(), String> {
+    let sheet = gen::write_sheet(specs);
     let items = read_sheet(&sheet).unwrap();
     let mut lent = match c.rng.percent(50) {
         true => {
@@ -167,21 +231,19 @@ pub fn run_editions(c: &mut Comparison) -> Result<(), String> {
             let [index, table] = [4, RECORD].map(|record| c.rng.bytes(record * items.len()));
             let mut lent = Lent { sheet, index, table };
             let full = c.rng.percent(50);
-            expect("an opening", same(c, &Act::Open { full }, &mut lent)?.number, 0)?;
+            expect("an opening", pair(c, &Act::Open { full }, &mut lent)?.number, 0)?;
             lent
         }
     };
-    let pairs = c.tally.edition_pairs;
-    for _ in 0..c.rng.between(2, if shape == Shape::Wide { 3 } else { 8 }) {
+    for _ in 0..c.rng.between(2, if items.len() > 100 { 3 } else { 8 }) {
         let act = any_act(c, &items, &lent.table);
         if c.rng.percent(50) {
-            let mut changed = changed(c, &specs, &items, &lent);
-            same(c, &act, &mut changed)?;
+            let mut changed = changed(c, specs, &items, &lent);
+            pair(c, &act, &mut changed)?;
         } else {
-            same(c, &act, &mut lent)?;
+            pair(c, &act, &mut lent)?;
         }
     }
-    c.tally.random_pairs += c.tally.edition_pairs - pairs;
     Ok(())
 }
 
@@ -295,14 +357,37 @@ fn refused(
     let count = *c.rng.pick(&[n - 1, n + 1]) as u16;
     fewer.sheet[5..7].copy_from_slice(&count.to_le_bytes());
     c.act(&act, &mut fewer)?;
+    last_has_spread_2(c, items, &act, lent)?;
     let what = c.rng.between(1, 7);
     let mut changed = changed_bytes(c, specs, items, lent, what);
     c.act(&act, &mut changed).map(|_| ())
 }
 
+/// With spread 2 at its last item alone a sheet of edition 2 is refused there; one of edition 1 is as
+/// it is with spread 0.
+fn last_has_spread_2(
+    c: &mut Comparison,
+    items: &[Item],
+    act: &Act,
+    lent: &Lent,
+) -> Result<(), String> {
+    let (last, mut other) = (items[items.len() - 1].offset, lent.clone());
+    other.sheet[last + 5] = 2;
+    if u16_at(&other.sheet, 3) == 1 {
+        return beside(c, act, &mut other).map(|_| ());
+    }
+    let before = other.clone();
+    let reply = c.act(act, &mut other)?;
+    match (reply.number, reply.offset) == (5, last as u64) && other == before {
+        true => Ok(()),
+        false => Err(format!("{act:?} with spread 2 at the last item gives {reply:?}")),
+    }
+}
+
 #[cfg(test)]
 mod tests {
     use super::*;
+    use crate::gen::spread_places;
     use crate::mock::{Mock, Wrong};
     use crate::model::sheet::EXAMPLE;
 
@@ -311,6 +396,13 @@ mod tests {
         sheet.extend(edition.to_le_bytes());
         sheet.extend(items.to_le_bytes());
         sheet
+    }
+
+    /// What is counted of an act on this sheet that gives this number and offset.
+    fn counted(sheet: &[u8], number: u64, offset: u64) -> Vec<usize> {
+        let mut met = Times::default();
+        count(&mut met, &Reply { number, offset, kind: 0, value: 0 }, sheet);
+        (0..MET.len()).filter(|&at| met[at] == 1).collect()
     }
 
     /// Each sheet counts as what it is, and as nothing else.
@@ -327,27 +419,81 @@ mod tests {
             (head(2, 1_025), 0, &[1, 4, 10]),
             (head(2, 4_096), 0, &[1, 5, 10]),
             (long, 0, &[1, 10, 11]),
-            (head(2, 0), 4, &[12]),
-            (head(1, 1_025), 4, &[13]),
-            (head(2, 4_097), 4, &[14]),
-            (head(1, 65_535), 4, &[15]),
-            (head(0, 5), 4, &[16]),
-            (head(3, 5), 4, &[17]),
-            (head(256, 5), 4, &[18]),
-            (head(258, 5), 4, &[19]),
-            (head(1, 5), 2, &[20]),
-            (head(2, 200), 7, &[21]),
-            (head(2, 4_000), 1, &[22]),
-            (head(1, 5)[..6].to_vec(), 1, &[23]),
+            (head(2, 0), 4, &[13]),
+            (head(1, 1_025), 4, &[14]),
+            (head(2, 4_097), 4, &[15]),
+            (head(1, 65_535), 4, &[16]),
+            (head(0, 5), 4, &[17]),
+            (head(3, 5), 4, &[18]),
+            (head(256, 5), 4, &[19]),
+            (head(258, 5), 4, &[20]),
+            (head(1, 5), 2, &[21]),
+            (head(2, 200), 7, &[22]),
+            (head(2, 4_000), 1, &[23]),
+            (head(1, 5)[..6].to_vec(), 1, &[24]),
             (head(1, 5), 8, &[]),
             (head(2, 4_096), 11, &[]),
             (vec![2; 10], 2, &[]),
         ];
         for (sheet, number, right) in cases {
-            let mut met = Times::default();
-            count(&mut met, number, &sheet);
-            let met: Vec<usize> = (0..MET.len()).filter(|&at| met[at] == 1).collect();
-            assert_eq!(met, right, "{number} {:?}", &sheet[..sheet.len().min(7)]);
+            let head = &sheet[..sheet.len().min(7)];
+            assert_eq!(counted(&sheet, number, 0), right, "{number} {head:?}");
+        }
+    }
+
+    /// The same of the example with another spread at its first figure, and of one that is refused for its
+    /// rule or its keep, too.
+    #[test]
+    fn spreads_are_counted() {
+        let at = spread_places(&EXAMPLE)[0];
+        for (edition, spread, number, right) in [
+            (1, 1, 0, &[0, 8][..]),
+            (1, 2, 0, &[0, 8, 12]),
+            (2, 1, 0, &[1, 8]),
+            (2, 2, 5, &[21, 25]),
+            (1, 3, 5, &[21, 26]),
+            (2, 3, 5, &[21, 27]),
+            (1, 4, 5, &[21, 28]),
+            (2, 255, 5, &[21, 28]),
+            (2, 2, 6, &[21]),
+            (1, 2, 8, &[]),
+        ] {
+            let mut sheet = in_edition(edition, &EXAMPLE);
+            sheet[at] = spread;
+            assert_eq!(counted(&sheet, number, 19), right, "{edition} {spread} {number}");
+            for other in [at - 2, at - 1].iter().filter(|_| number == 5) {
+                let mut sheet = sheet.clone();
+                sheet[*other] = 9;
+                assert_eq!(counted(&sheet, 5, 19), [21]);
+            }
+        }
+    }
+
+    /// Where edition 2 refuses a sheet with spread 2 at its second figure, by what edition 1 gives.
+    #[test]
+    fn spread_2_is_refused_at_its_place() {
+        let mut sheet = EXAMPLE.to_vec();
+        let accepted = Reply { number: 0, offset: 0, kind: 0, value: 0 };
+        assert_eq!(spread_refused(&sheet, &accepted), None);
+        sheet[spread_places(&EXAMPLE)[1]] = 2;
+        for (number, offset, right) in [
+            (0, 0, Some(31)),
+            (4, 0, None),
+            (3, 7, None),
+            (6, 19, None),
+            (7, 19, None),
+            (1, 31, None),
+            (2, 31, None),
+            (3, 31, None),
+            (5, 31, None),
+            (6, 31, Some(31)),
+            (7, 31, Some(31)),
+            (2, 43, Some(31)),
+            (10, 0, Some(31)),
+            (11, 0, Some(31)),
+        ] {
+            let reply = Reply { number, offset, kind: 0, value: 0 };
+            assert_eq!(spread_refused(&sheet, &reply), right, "{number} {offset}");
         }
     }
 
@@ -379,10 +525,12 @@ mod tests {
             Wrong::SecondRefuses4096,
             Wrong::SecondRefuses1025,
             Wrong::SecondTakesAnyCount,
+            Wrong::SecondTakesSpread2Beyond1024,
         ];
-        let is_second = |wrong: &&Wrong| format!("{wrong:?}").starts_with("Second");
-        let second = Wrong::EDITIONS.iter().filter(is_second);
-        for wrong in second.filter(|wrong| !with_more.contains(wrong)) {
+        let is = |wrong: &Wrong, edition: &str| format!("{wrong:?}").starts_with(edition);
+        let editions = Wrong::EDITIONS.iter().filter(|wrong| is(wrong, "Second"));
+        let spreads = Wrong::SPREADS.iter().filter(|wrong| !is(wrong, "First"));
+        for wrong in editions.chain(spreads).filter(|wrong| !with_more.contains(wrong)) {
             let mut mock = Mock(*wrong);
             let found = (0..2_000).find_map(|part| {
                 let mut c = Comparison::new(&mut mock, Rng::part(4, part));

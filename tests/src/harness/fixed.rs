@@ -10,6 +10,7 @@ use super::fixed_closes::{closes_to, run_fixed_closes};
 use super::fixed_editions::run_fixed_editions;
 use super::fixed_orders::run_fixed_orders;
 use super::fixed_owed::run_fixed_owed;
+use super::fixed_spreads::run_fixed_spreads;
 use super::fixed_swaps::run_fixed_swaps;
 use super::lists::{plain_call, Office};
 use super::older::older_example;
@@ -46,7 +47,8 @@ pub fn run_fixed(c: &mut Comparison) -> Result<(), String> {
     run_fixed_owed(c)?;
     run_fixed_choices(c)?;
     run_fixed_orders(c)?;
-    run_fixed_editions(c)
+    run_fixed_editions(c)?;
+    run_fixed_spreads(c)
 }
 
 pub fn post(item: u64, number: i64) -> Call {
@@ -210,12 +212,21 @@ fn levels(c: &mut Comparison) -> Result<(), String> {
     Ok(())
 }
 
-/// So many items, each as long as it can be: figures of all levels above one entry.
+/// How many spreads an edition has: 0, 1 and, in edition 1, 2.
+pub const fn spreads(edition: u16) -> u8 {
+    match edition {
+        1 => 3,
+        _ => 2,
+    }
+}
+
+/// So many items, each as long as it can be: figures of all levels above one entry, with every spread
+/// that the edition has.
 pub fn longest_sheet(edition: u16, count: usize) -> Vec<u8> {
     let mut specs = vec![Spec::Entry(vec![b'~'; 16])];
     for i in 1..count {
         let parents = vec![(i.min(MAX_LEVEL) - 1) as u16; 16];
-        let (keep, spread) = ((i % 2) as u8, (i % 3) as u8);
+        let (keep, spread) = ((i / 3 % 2) as u8, (i % spreads(edition) as usize) as u8);
         specs.push(Spec::Figure { rule: 3, keep, spread, parents, name: vec![b'!'; 16] });
     }
     write_edition(edition, &specs)

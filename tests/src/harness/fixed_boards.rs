@@ -3,7 +3,7 @@
 
 use super::boards::as_asks;
 use super::compare::{Act, Comparison, Lent};
-use super::fixed::{busy_example, expect, opened, post, EDITIONS};
+use super::fixed::{busy_example, expect, opened, post, spreads, EDITIONS};
 use crate::gen::{plain_chain, spec_figure, write_edition, write_sheet, Spec};
 use crate::model::board::{Board, ITEM, MOST_ITEMS, RESULT};
 use crate::model::calls::Call;
@@ -145,8 +145,9 @@ fn tower(c: &mut Comparison) -> Result<(), String> {
 fn most_items(c: &mut Comparison, edition: u16, most: usize) -> Result<(), String> {
     let (first, last) = ((most - MOST_ITEMS) as u16, most as u16 - 1);
     let mut specs = vec![Spec::Entry(b"A".to_vec()); first as usize];
+    let spread = |i: u16| (i % spreads(edition) as u16) as u8;
     specs.extend(
-        (first..=last).map(|i| spec_figure(1, (i % 2) as u8, (i % 3) as u8, &[0, i - first])),
+        (first..=last).map(|i| spec_figure(1, (i / 3 % 2) as u8, spread(i), &[0, i - first])),
     );
     let (mut lent, _) = opened(c, write_edition(edition, &specs), most, true)?;
     c.act(&Act::Give(post(0, 3)), &mut lent)?;

@@ -3,9 +3,10 @@
 //! few sheets in both editions.
 
 use super::compare::{Act, Comparison, Lent};
-use super::editions::same;
-use super::fixed::{acts, busy_example, expect, longest_sheet, opened, reads, EDITIONS};
+use super::editions::{same, Pair};
+use super::fixed::{acts, busy_example, expect, longest_sheet, opened, reads, spreads, EDITIONS};
 use super::fixed_owed::{ask, drop, entry, keep, posted, step, sum};
+use super::spreads::beside;
 use crate::gen::{board_of, in_edition, spec_figure, write_edition, Spec};
 use crate::model::field::i64_at;
 use crate::model::sheet::{read_sheet, EXAMPLE};
@@ -27,13 +28,18 @@ pub fn run_fixed_editions(c: &mut Comparison) -> Result<(), String> {
     long_sheets(c)
 }
 
-const OPENINGS: [Act; 2] = [Act::Open { full: false }, Act::Open { full: true }];
+pub const OPENINGS: [Act; 2] = [Act::Open { full: false }, Act::Open { full: true }];
 
 /// The item counts on both sides of each limit.
 const COUNTS: [u16; 9] = [127, 128, 129, 1_023, 1_024, 1_025, 4_095, 4_096, 4_097];
 
 /// Each act on the bytes, which are kept, with the number and the offset that the paper gives it.
-fn give(c: &mut Comparison, acts: &[Act], lent: &Lent, right: (u64, u64)) -> Result<(), String> {
+pub fn give(
+    c: &mut Comparison,
+    acts: &[Act],
+    lent: &Lent,
+    right: (u64, u64),
+) -> Result<(), String> {
     for act in acts {
         let reply = c.act(act, &mut lent.clone())?;
         if (reply.number, reply.offset) != right {
@@ -111,20 +117,29 @@ fn each_byte(c: &mut Comparison) -> Result<(), String> {
     Ok(())
 }
 
-/// Entries 0 and 1, figure 2 a share of them, 3 a choice of 1 and of the share, 4 a sum that forgets, 5
-/// one of it.
-fn mixed() -> Vec<Spec> {
+/// Entries 0 and 1, figure 2 a share of them, 3 a choice of 1 and of the share, 4 a sum with this spread,
+/// 5 one of it.
+fn mixed(spread: u8) -> Vec<Spec> {
     let share = spec_figure(5, 1, 0, &[0, 1]);
     let choice = spec_figure(6, 1, 1, &[0, 1, 2]);
-    vec![entry(), entry(), share, choice, sum(0, 2, &[3, 0]), sum(0, 0, &[4])]
+    vec![entry(), entry(), share, choice, sum(0, spread, &[3, 0]), sum(0, 0, &[4])]
 }
 
-/// Lists in both editions, in which every function is accepted and refused; the share is OUT.
+/// Lists in which every function is accepted and refused, in both editions; the same list with spread 2
+/// and with spread 0, and in edition 2, where spread 2 is refused.
 fn every_act(c: &mut Comparison) -> Result<(), String> {
+    for (spread, pair) in [(0, same as Pair), (1, same), (2, beside), (2, same)] {
+        every_act_of(c, spread, pair)?;
+    }
+    Ok(())
+}
+
+/// From both openings; the share is OUT.
+fn every_act_of(c: &mut Comparison, spread: u8, pair: Pair) -> Result<(), String> {
     let swap = |giver, taker, quantity| Act::Swap(Swap { giver, taker, quantity });
     for full in [false, true] {
         let (index, table) = (vec![9; 24], vec![9; 6 * RECORD]);
-        let mut lent = Lent { sheet: write_edition(1, &mixed()), index, table };
+        let mut lent = Lent { sheet: write_edition(1, &mixed(spread)), index, table };
         let list = [
             (Act::Open { full }, 0),
             (posted(0, 50_000), 0),
@@ -156,23 +171,22 @@ fn every_act(c: &mut Comparison) -> Result<(), String> {
             (Act::Close, 0),
         ];
         for (act, right) in list {
-            let number = same(c, &act, &mut lent)?.number;
-            expect("an act in both editions", number, right)
-                .map_err(|e| format!("{act:?}: {e}"))?;
+            let number = pair(c, &act, &mut lent)?.number;
+            expect("an act on two sheets", number, right).map_err(|e| format!("{act:?}: {e}"))?;
         }
     }
     Ok(())
 }
 
 /// So many items: entries, and a figure, the sum of the first of them and the last.
-fn row(edition: u16, count: u16, spread: u8) -> Vec<u8> {
+pub fn row(edition: u16, count: u16, spread: u8) -> Vec<u8> {
     let mut specs = vec![entry(); count as usize - 1];
     specs.push(sum(0, spread, &[0, count - 2]));
     write_edition(edition, &specs)
 }
 
 /// The functions that a row of so many items takes; item 0 has a mark.
-fn acts_of(c: &mut Comparison, count: u16) -> Vec<Act> {
+pub fn acts_of(c: &mut Comparison, count: u16) -> Vec<Act> {
     let (last, before) = (count as u64 - 1, count as u64 - 2);
     let board = board_of(&mut c.rng, &[count - 1, 0, count - 2]);
     vec![
@@ -331,28 +345,31 @@ fn scratch(c: &mut Comparison) -> Result<(), String> {
 }
 
 /// The highest item as a sum of sixteen, the lowest and the highest before it and those beside each
-/// limit, or of some of them: told by each, and worked out.
+/// limit, or of some of them: told by each, and worked out. The highest of edition 1 with spread 2.
 fn sixteen_parents(c: &mut Comparison) -> Result<(), String> {
     let parents: [u16; 16] = [
         0, 127, 128, 129, 255, 256, 1_022, 1_023, 1_024, 1_025, 2_047, 2_048, 3_071, 3_072, 4_093,
         4_094,
     ];
-    for (spread, parents) in [(0, &parents[..]), (1, &parents[12..]), (2, &parents[6..10])] {
-        let mut specs = vec![entry(); 4_095];
+    for (edition, spread, parents) in [
+        (2, 0, &parents[..]),
+        (2, 1, &parents[12..]),
+        (1, 0, &parents[3..7]),
+        (1, 2, &parents[..7]),
+    ] {
+        let last = EDITIONS[edition as usize - 1].1 - 1;
+        let mut specs = vec![entry(); last];
         specs.push(sum(0, spread, parents));
-        let (mut lent, _) = opened(c, write_edition(2, &specs), 4_096, true)?;
-        let mut right = 0;
+        let (mut lent, _) = opened(c, write_edition(edition, &specs), last + 1, true)?;
+        let (last, mut right) = (last as u64, 0);
         for (k, &parent) in parents.iter().enumerate() {
             right += 1 << k;
             c.act(&posted(parent as u64, 1 << k), &mut lent)?;
             c.act(&step(parent as u64), &mut lent)?;
             let before = if k == 0 { (1, 1, 0) } else { (3, 1, right - (1 << k)) };
-            holds(&lent, 4_095, [before, (3, 2, right), (0, 2, 0)][spread as usize])?;
-            if spread == 2 {
-                c.act(&keep(4_095), &mut lent)?;
-            }
-            c.act(&ask(4_094), &mut lent)?;
-            holds(&lent, 4_095, (3, 0, right))?;
+            holds(&lent, last, if spread == 1 { (3, 2, right) } else { before })?;
+            c.act(&ask(last - 1), &mut lent)?;
+            holds(&lent, last, (3, 0, right))?;
         }
     }
     Ok(())
@@ -377,28 +394,31 @@ fn parents_beyond(c: &mut Comparison) -> Result<(), String> {
     Ok(())
 }
 
-/// Entry 0 with 4,000 children, told by one step, and all caught up by one ask. Every sixteenth is a sum
-/// of it, and gets another value; the others count it, and do not.
+/// Entry 0 with 4,000 children, or, in edition 1, 928, told by one step, and all caught up by one ask.
+/// Every sixteenth is a sum of it, and gets another value; the others count it, and do not.
 fn many_children(c: &mut Comparison) -> Result<(), String> {
+    EDITIONS.iter().try_for_each(|&(edition, items)| many_children_of(c, edition, items as u64))
+}
+
+fn many_children_of(c: &mut Comparison, edition: u16, items: u64) -> Result<(), String> {
     let is_sum = |i: u64| i % 16 == 0;
-    let spread = |i: u64| if is_sum(i) { i / 16 % 3 } else { i % 2 };
+    let spread = |i: u64| if is_sum(i) { i / 16 } else { i / 2 } % spreads(edition) as u64;
     let mut specs = vec![entry(); 96];
     let rule = |i| if is_sum(i) { 1 } else { 7 };
-    specs.extend((96..4_096).map(|i| spec_figure(rule(i), 0, spread(i) as u8, &[0])));
-    let (mut lent, _) = opened(c, write_edition(2, &specs), 4_096, true)?;
+    specs.extend((96..items).map(|i| spec_figure(rule(i), 0, spread(i) as u8, &[0])));
+    let (mut lent, _) = opened(c, write_edition(edition, &specs), items as usize, true)?;
     for act in [posted(0, 1), Act::Close, posted(0, 3)] {
         c.act(&act, &mut lent)?;
     }
     let mut asked = lent.clone();
     c.act(&step(0), &mut lent)?;
-    reads(c, &mut asked, 4_095, Some(1))?;
-    for item in 96..4_096 {
+    reads(c, &mut asked, items - 1, Some(1))?;
+    for item in 96..items {
         let (told, quiet) = match (is_sum(item), spread(item)) {
-            (true, 0) => ((3, 1, 1), (3, 0, 3)),
             (true, 1) => ((3, 2, 3), (3, 0, 3)),
-            (true, _) => ((0, 2, 0), (0, 0, 0)),
-            (false, 0) => ((3, 1, 1), (3, 0, 1)),
-            (false, _) => ((3, 0, 1), (3, 0, 1)),
+            (true, _) => ((3, 1, 1), (3, 0, 3)),
+            (false, 1) => ((3, 0, 1), (3, 0, 1)),
+            (false, _) => ((3, 1, 1), (3, 0, 1)),
         };
         holds(&lent, item, told)?;
         holds(&asked, item, quiet)?;
@@ -412,7 +432,7 @@ fn levels(c: &mut Comparison) -> Result<(), String> {
         let ground = 4_096 - levels;
         let mut specs = vec![entry(); ground as usize];
         specs.push(sum(0, 0, &[0, ground - 1]));
-        specs.extend((ground..4_095).map(|p| sum((p % 2) as u8, (p % 3) as u8, &[p])));
+        specs.extend((ground..4_095).map(|p| sum((p / 2 % 2) as u8, (p % 2) as u8, &[p])));
         let (mut lent, number) = opened(c, write_edition(2, &specs), 4_096, false)?;
         expect("levels", number, right)?;
         if right != 0 {
@@ -474,6 +494,7 @@ fn long_sheets(c: &mut Comparison) -> Result<(), String> {
 mod tests {
     use super::*;
     use crate::harness::editions::MET;
+    use crate::harness::fixed_spreads::run_fixed_spreads;
     use crate::harness::tally::FUNCTIONS;
     use crate::mock::{Mock, Wrong};
     use crate::rng::Rng;
@@ -482,24 +503,25 @@ mod tests {
         run_fixed_editions(&mut Comparison::new(&mut Mock(wrong), Rng::new(1)))
     }
 
-    /// These meet every sort of sheet with every function.
+    /// These meet every sort of sheet with every function, together with each spread.
     #[test]
     fn every_sort_is_met() {
         let mut mock = Mock(Wrong::Nothing);
         let mut c = Comparison::new(&mut mock, Rng::new(1));
         run_fixed_editions(&mut c).unwrap();
+        run_fixed_spreads(&mut c).unwrap();
         for (met, (function, _)) in c.tally.editions.iter().zip(FUNCTIONS) {
             let missing: Vec<&str> =
                 (0..MET.len()).filter(|&at| met[at] == 0).map(|at| MET[at]).collect();
             assert_eq!(missing, [""; 0], "{function}");
         }
-        assert!(c.tally.edition_pairs > 10_000);
+        assert!(c.tally.edition_pairs > 10_000 && c.tally.spread_pairs > 1_000);
     }
 
     /// Each wrong edition, limit or large sheet is found by these alone.
     #[test]
     fn wrong_editions_are_found() {
-        assert_eq!(Wrong::EDITIONS.len(), 41);
+        assert_eq!(Wrong::EDITIONS.len(), 38);
         for &wrong in Wrong::EDITIONS {
             let found = try_editions(wrong).err().unwrap_or_default();
             assert!(!found.is_empty(), "{wrong:?} was not found");

@@ -29,7 +29,8 @@ fn in_every_way(small: &[Small]) -> impl Iterator<Item = Vec<u8>> + '_ {
 }
 
 /// All sequences of steps: from all tables of sheets of one item and two, and from those with few
-/// values of each sheet of three in one way. The sheet of four has the longest that are known.
+/// values of each sheet of three in one way. The sheet of four has the longest that are known, with
+/// spreads of either edition.
 fn every_order(c: &mut Comparison) -> Result<(), String> {
     for sheet in in_every_way(&ONE).chain(in_every_way(&TWO)) {
         explore(c, &sheet, &MANY)?;
@@ -37,7 +38,7 @@ fn every_order(c: &mut Comparison) -> Result<(), String> {
     for (small, way) in THREE.iter().zip((0..).step_by(11)) {
         try_orders(c, &small.sheet(way % small.ways()), &FEW)?;
     }
-    try_orders(c, &FOUR[3].sheet(34), &FEW).map(|_| ())
+    [4, 118].iter().try_for_each(|&way| try_orders(c, &FOUR[3].sheet(way), &FEW).map(|_| ()))
 }
 
 /// All that calls leave since the openings, of each sheet of one item and two in one way, and of some of
@@ -165,6 +166,6 @@ mod tests {
         let mut mock = Mock(Wrong::Nothing);
         let mut c = Comparison::new(&mut mock, Rng::new(1));
         every_order(&mut c).unwrap();
-        assert_eq!(c.tally.orders.longest, [0, 1, 4, 10, 23]);
+        assert_eq!(c.tally.orders.longest, [0, 1, 4, 10, 21]);
     }
 }

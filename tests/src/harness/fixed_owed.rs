@@ -16,7 +16,7 @@ pub fn run_fixed_owed(c: &mut Comparison) -> Result<(), String> {
     order_of_tests(c)?;
     openings(c)?;
     two_children(c)?;
-    forgetting(c)?;
+    deferring(c)?;
     looking_up(c)?;
     fan(c)?;
     chain(c)
@@ -202,25 +202,38 @@ fn two_children(c: &mut Comparison) -> Result<(), String> {
     list(c, &[entry(), sum(0, 0, &[0; 16]), sum(0, 0, &[0, 0, 1])], &calls)
 }
 
-/// A figure that forgets, with nothing stored above it, and with a stored figure.
-fn forgetting(c: &mut Comparison) -> Result<(), String> {
-    let calls = [
+/// A figure that defers, by spread 0 and by spread 2, with nothing stored above it, and with a stored
+/// figure. With notice it acts as renew.
+fn deferring(c: &mut Comparison) -> Result<(), String> {
+    let alone = [
         (keep(3), "11100", "-----"),
         (posted(0, 4), "11100", "n----"),
         (posted(1, 5), "11100", "nn---"),
-        (step(0), "00000", "-n-n-"),
-        (step(1), "00000", "---n-"),
-        (ask(0), "00000", "-----"),
+        (step(0), "11100", "-n-r-"),
+        (step(1), "11100", "--nr-"),
+        (ask(0), "11100", "-----"),
         (keep(3), "11100", "-----"),
+    ];
+    let with_child = [
         (keep(4), "11110", "-----"),
         (posted(0, 6), "11110", "n----"),
+        (step(0), "11110", "---r-"),
+        (step(3), "11110", "---n-"),
+        (posted(0, 7), "11110", "n--n-"),
         (step(0), "11110", "---n-"),
         (step(3), "11110", "----r"),
         (ask(4), "11110", "-----"),
-        (drop(4), "00000", "-----"),
+        (drop(4), "11100", "-----"),
+        (posted(1, 6), "11100", "-n---"),
+        (step(1), "11100", "--n--"),
+        (step(2), "11100", "---r-"),
+        (drop(3), "00000", "---n-"),
+        (step(3), "00000", "-----"),
     ];
-    let specs = [entry(), entry(), sum(0, 0, &[1]), sum(0, 2, &[0, 2]), sum(0, 0, &[3])];
-    list(c, &specs, &calls)
+    [0, 2].iter().try_for_each(|&spread| {
+        let specs = [entry(), entry(), sum(0, 0, &[1]), sum(0, spread, &[0, 2]), sum(0, 0, &[3])];
+        list(c, &specs, &[&alone[..], &with_child].concat())
+    })
 }
 
 /// Look-ups keep figures with keep 1 on their way.

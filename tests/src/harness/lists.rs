@@ -7,7 +7,7 @@ use super::swaps::{fresh_swap, made, plain_swap, STAYS};
 use crate::gen::{self, Numbers, Shape};
 use crate::model::board::Board;
 use crate::model::calls::{Call, Reply};
-use crate::model::field::i64_at;
+use crate::model::field::{i64_at, u16_at};
 use crate::model::fresh::FreshOffice;
 use crate::model::sheet::{index_of, read_sheet, Item};
 use crate::model::swap::Swap;
@@ -128,10 +128,11 @@ pub fn changed_bytes(
         changed.index = gen::damaged_index(&mut c.rng, &lent.index);
     }
     if what & 4 != 0 {
-        changed.sheet = match c.rng.below(3) {
-            0 => gen::bad_sheet(&mut c.rng),
-            1 => gen::damaged_sheet(&mut c.rng, specs),
-            _ => gen::damaged(&mut c.rng, &lent.sheet),
+        changed.sheet = match c.rng.below(7) {
+            0 | 1 => gen::bad_sheet(&mut c.rng),
+            2 | 3 => gen::damaged_sheet(&mut c.rng, specs),
+            4 | 5 => gen::damaged(&mut c.rng, &lent.sheet),
+            _ => gen::in_edition(3 - u16_at(&lent.sheet, 3), &lent.sheet),
         };
         if let (Ok(others), true) = (read_sheet(&changed.sheet), c.rng.percent(50)) {
             // Another sheet with its own index: the table may fit it.
@@ -213,7 +214,12 @@ impl<'i> Office<'i> {
 
     /// Begins with the table that a close has left.
     pub fn of_table(items: &'i [Item], table: &[u8]) -> Self {
-        Office { fresh: fresh_of(items, table), ..Office::new(items) }
+        Office::with(items, fresh_of(items, table))
+    }
+
+    /// Begins with what a fresh office holds.
+    pub fn with(items: &'i [Item], fresh: FreshOffice<'i>) -> Self {
+        Office { fresh, ..Office::new(items) }
     }
 
     /// What is stored where no mark stands must stay.

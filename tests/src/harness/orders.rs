@@ -9,7 +9,7 @@ use crate::model::board::Board;
 use crate::model::calls::{Call, Reply};
 use crate::model::field::u32_at;
 use crate::model::sheet::{index_of, read_sheet};
-use crate::model::table::{is_marked, no_mark, RECORD};
+use crate::model::table::{is_marked, no_mark, OWED, RECORD};
 use std::collections::{HashMap, HashSet};
 
 /// The most items of a sheet that is explored.
@@ -22,7 +22,7 @@ pub const LARGE: usize = 100;
 pub const ORDERS: [&str; 4] = ["lowest first", "highest first", "any marked item", "in rounds"];
 
 /// What accepted steps must be met to do.
-pub const DONE: [&str; 12] = [
+pub const DONE: [&str; 13] = [
     "a refresh finds the same value",
     "a refresh finds another",
     "an entry's notice",
@@ -32,7 +32,8 @@ pub const DONE: [&str; 12] = [
     "a child gets refresh",
     "a child loses refresh",
     "another item gets notice",
-    "a child forgets",
+    "a child with spread 2 gets refresh",
+    "a child with spread 2 and notice gets another value",
     "a look-up stores a figure",
     "a look-up stores a figure with notice",
 ];
@@ -97,6 +98,13 @@ impl Times {
         let any = |test: fn(&[u8], &[u8]) -> bool| {
             records().enumerate().any(|(i, (old, new))| i != item && test(old, new))
         };
+        let spread_2 = |i: usize| {
+            let at = u32_at(&lent.index, 4 * i) as usize;
+            lent.sheet[at] == 3 && lent.sheet[at + 5] == 2
+        };
+        let any_2 = |test: fn(&[u8], &[u8]) -> bool| {
+            records().enumerate().any(|(i, (old, new))| i != item && test(old, new) && spread_2(i))
+        };
         let met = [
             !notice && new[1] == 0,
             !notice && new[1] == 2,
@@ -107,7 +115,8 @@ impl Times {
             any(|old, new| old[1] == 0 && new[1] == 1),
             any(|old, new| old[1] == 1 && new[1] == 0),
             any(|old, new| old[1] != 2 && new[1] == 2),
-            any(|old, new| old[0] != 0 && new[0] == 0),
+            any_2(|old, new| old[1] == 0 && new[1] == 1),
+            any_2(|old, new| old[0] != 0 && old[1] == 2 && old[..OWED] != new[..OWED]),
             any(|old, new| old[0] == 0 && new[0] != 0 && new[1] == 0),
             any(|old, new| old[0] == 0 && new[0] != 0 && new[1] == 2),
         ];
@@ -320,11 +329,10 @@ mod tests {
     use super::super::small::{ONE, TWO};
     use super::*;
     use crate::engine::Engine;
-    use crate::gen::{make_owed_true, plain_chain};
+    use crate::gen::{make_owed_true, plain_chain, spec_figure, write_sheet, Spec};
     use crate::guarded::Guarded;
     use crate::harness::fixed::post;
     use crate::mock::{Mock, Wrong};
-    use crate::model::sheet::Spread;
     use crate::rng::Rng;
 
     /// A mock without the model beside it, so that only what is promised of steps can find it.
@@ -446,7 +454,7 @@ mod tests {
     /// The turns have each sheet once, and the first of them each keep and spread of each figure.
     #[test]
     fn every_sheet_has_its_turn() {
-        for (small, count, first) in [(&THREE[..], 342, 60), (&FOUR, 2_484, 216)] {
+        for (small, count, first) in [(&THREE[..], 270, 60), (&FOUR, 1_404, 216)] {
             let turns = |count| (0..count).filter_map(|turn| chosen(small, turn));
             let all: Vec<_> =
                 small.iter().flat_map(|s| (0..s.ways()).map(|way| s.sheet(way))).collect();
@@ -455,12 +463,9 @@ mod tests {
             assert_eq!(turns(count as u64).collect::<HashSet<_>>(), all.into_iter().collect());
             let figures: Vec<_> = turns(first).map(|s| read_sheet(&s).unwrap()).collect();
             for item in 1..figures[0].len() {
-                for (keep, spread) in [Spread::Defer, Spread::Renew, Spread::Forget]
-                    .into_iter()
-                    .flat_map(|spread| [(false, spread), (true, spread)])
-                {
+                for (keep, spread) in [0, 1, 2].iter().flat_map(|s| [(false, s), (true, s)]) {
                     let mut met = figures.iter().filter_map(|items| items[item].figure.as_ref());
-                    assert!(met.any(|f| (f.keep, f.spread) == (keep, spread)));
+                    assert!(met.any(|f| (f.keep, &f.spread_byte) == (keep, spread)));
                 }
             }
         }
@@ -469,8 +474,9 @@ mod tests {
 
     /// What is counted of a step: the values and marks of an entry, a figure of it with keep 1, and a
     /// figure of that with a spread.
-    fn counted(spread: u64, values: [(u8, i64); 3], marks: [u8; 3], item: u64) -> Vec<usize> {
-        let sheet = Small(&[(1, &[0]), (1, &[1])]).sheet(1 + 6 * 2 * spread);
+    fn counted(spread: u8, values: [(u8, i64); 3], marks: [u8; 3], item: u64) -> Vec<usize> {
+        let figures = [spec_figure(1, 1, 0, &[0]), spec_figure(1, 0, spread, &[1])];
+        let sheet = write_sheet(&[vec![Spec::Entry(b"A".to_vec())], figures.to_vec()].concat());
         let record = |((kind, number), mark): ((u8, i64), u8)| {
             [vec![kind, mark], number.to_le_bytes().to_vec(), vec![0]].concat()
         };
@@ -487,7 +493,7 @@ mod tests {
     #[test]
     fn steps_are_counted() {
         let (unk, one, two) = ((0, 0), (3, 1), (3, 2));
-        let (renew, forget) = (1, 2);
+        let (defer, renew) = (2, 1);
         let right = |met: Vec<usize>, right: &[usize]| assert_eq!(met, right);
         right(counted(renew, [one, one, one], [0, 1, 0], 1), &[0]);
         right(counted(renew, [one, two, one], [0, 1, 0], 1), &[1]);
@@ -498,8 +504,12 @@ mod tests {
         right(counted(renew, [one, one, unk], [0, 2, 0], 1), &[3]);
         right(counted(renew, [one, unk, unk], [0, 2, 0], 1), &[4]);
         right(counted(renew, [one, unk, two], [0, 2, 0], 1), &[4, 5, 8]);
-        right(counted(forget, [one, one, one], [0, 2, 0], 1), &[3, 8, 9]);
-        right(counted(renew, [one, unk, one], [0, 0, 1], 2), &[0, 10]);
-        right(counted(renew, [one, unk, one], [2, 0, 1], 2), &[0, 8, 11]);
+        right(counted(0, [one, one, one], [0, 2, 0], 1), &[3, 6]);
+        right(counted(0, [one, one, two], [0, 2, 2], 1), &[3]);
+        right(counted(defer, [one, one, one], [0, 2, 0], 1), &[3, 6, 9]);
+        right(counted(defer, [one, one, two], [0, 2, 2], 1), &[3, 10]);
+        right(counted(defer, [one, one, one], [0, 2, 2], 1), &[3]);
+        right(counted(renew, [one, unk, one], [0, 0, 1], 2), &[0, 11]);
+        right(counted(renew, [one, unk, one], [2, 0, 1], 2), &[0, 8, 12]);
     }
 }

@@ -1,4 +1,4 @@
-//! Small sheets with every keep and spread, and all their tables with a few values.
+//! Small sheets with every keep and spreads 0 and 1, or 1 and 2, and all their tables with a few values.
 
 use crate::gen::{make_owed_true, spec_figure, write_edition, Spec};
 use crate::model::sheet::read_sheet;
@@ -72,22 +72,39 @@ pub const MANY: Values =
 pub const FEW: Values = Values { entries: &[(3, 3)], figures: &[(1, 0), (3, 3)] };
 
 impl Small {
-    /// How many keeps and spreads its figures can have.
-    pub fn ways(&self) -> u64 {
-        6u64.pow(self.0.iter().filter(|item| item.0 != 0).count() as u32)
+    /// Keep and spread of its figures: each keep, with spreads 0 and 1, or 2 and 1.
+    fn forms(&self) -> Vec<Vec<(u8, u8)>> {
+        let figures = self.0.iter().filter(|item| item.0 != 0).count() as u32;
+        let form = |way: u32| {
+            let digits = (0..figures).map(|k| (way / 6u32.pow(k) % 6) as u8);
+            digits.map(|digit| (digit % 2, digit / 2)).collect()
+        };
+        let has = |form: &[(u8, u8)], spread| form.iter().any(|figure| figure.1 == spread);
+        let forms = (0..6u32.pow(figures)).map(form);
+        forms.filter(|form: &Vec<(u8, u8)>| !has(form, 0) || !has(form, 2)).collect()
     }
 
-    /// The sheet with one of them, of either edition.
-    pub fn sheet(&self, mut way: u64) -> Vec<u8> {
-        let edition = 1 + (way / 3 % 2) as u16;
+    /// How many keeps and spreads its figures can have.
+    pub fn ways(&self) -> u64 {
+        self.forms().len() as u64
+    }
+
+    /// The sheet with one of them, of either edition; with spread 2 of edition 1.
+    pub fn sheet(&self, way: u64) -> Vec<u8> {
+        let form = &self.forms()[way as usize];
+        let edition = match form.iter().any(|figure| figure.1 == 2) {
+            true => 1,
+            false => 1 + (way / 3 % 2) as u16,
+        };
+        let mut form = form.iter();
         let mut specs = vec![Spec::Entry(b"A".to_vec())];
         for &(rule, parents) in self.0 {
             if rule == 0 {
                 specs.push(Spec::Entry(b"A".to_vec()));
                 continue;
             }
-            specs.push(spec_figure(rule, (way % 2) as u8, (way / 2 % 3) as u8, parents));
-            way /= 6;
+            let &(keep, spread) = form.next().unwrap();
+            specs.push(spec_figure(rule, keep, spread, parents));
         }
         write_edition(edition, &specs)
     }

@@ -8,7 +8,7 @@ use super::owed;
 use super::prints::MOST_DIGITS;
 use super::swaps;
 use crate::model::board::{Board, ITEM, MOST_ITEMS, RESULT};
-use crate::model::calls::Call;
+use crate::model::calls::{Call, Reply};
 use crate::model::sheet::{Item, MAX_LEVEL};
 use crate::model::table::{decode, Cell, Mark};
 use crate::model::value::Value;
@@ -69,6 +69,9 @@ const DIGITS: [&str; 2] = ["digits of numbers not below 0", "digits of numbers b
 /// What tables from before version 4.0.0 must often hold.
 const STRICT: &str = "a value of the choice of before";
 
+/// What tables of version 4.3.0 must often be.
+const FORGOTTEN: &str = "other bytes than now";
+
 /// What a share in the older range never had.
 const WIDE: &str = "a product beyond a signed 64-bit number";
 
@@ -82,9 +85,20 @@ pub struct Tally {
     pub given: [[u64; 19]; FUNCTIONS.len()],
     /// How often each function but the printer met each of `editions::MET`.
     pub editions: [editions::Times; PRINT],
-    /// Calls that were made in both editions, and those of random lists.
+    /// Calls that gave the same in both editions, and those of random lists.
     pub edition_pairs: u64,
     pub random_pairs: u64,
+    /// Calls that edition 1 accepts, and edition 2 refuses for spread 2.
+    pub edition_refusals: u64,
+    /// Calls on sheets of edition 1 with spread 2, made also with spread 0, and those of random lists.
+    pub spread_pairs: u64,
+    pub random_spread_pairs: u64,
+    /// Calls that gave the same number with other spreads, and those refused with 8, 9 or 10.
+    pub other_spreads: u64,
+    pub other_spreads_refused: u64,
+    /// Tables of version 4.3.0, and those that have other bytes now, with the same calls.
+    pub forgotten_tables: u64,
+    pub forgotten_others: u64,
     /// Runs on large sheets, and those of more than 1,024 items.
     pub large_sheets: u64,
     pub vast_sheets: u64,
@@ -148,7 +162,7 @@ pub struct Tally {
 }
 
 impl Tally {
-    pub fn count_act(&mut self, act: &Act, number: u64, sheet: &[u8]) {
+    pub fn count_act(&mut self, act: &Act, reply: &Reply, sheet: &[u8]) {
         let function = match act {
             Act::Open { full: false } => 0,
             Act::Open { full: true } => 1,
@@ -161,17 +175,18 @@ impl Tally {
             Act::Board(_) => BOARD,
             Act::Close => CLOSE,
         };
-        self.count(function, number, sheet);
+        self.count(function, reply, sheet);
     }
 
-    fn count(&mut self, function: usize, number: u64, sheet: &[u8]) {
-        self.given[function][number as usize] += 1;
-        editions::count(&mut self.editions[function], number, sheet);
+    fn count(&mut self, function: usize, reply: &Reply, sheet: &[u8]) {
+        self.given[function][reply.number as usize] += 1;
+        editions::count(&mut self.editions[function], reply, sheet);
     }
 
     /// Counts a board by its lists as lent.
-    pub fn count_board(&mut self, lists: &Board, number: u64, sheet: &[u8]) {
-        self.count(BOARD, number, sheet);
+    pub fn count_board(&mut self, lists: &Board, reply: &Reply, sheet: &[u8]) {
+        self.count(BOARD, reply, sheet);
+        let number = reply.number;
         let (items, results) = (&lists.items, lists.results.len());
         let (count, even) = (items.len() / ITEM, items.len() % ITEM == 0);
         let within = even && count <= MOST_ITEMS;
@@ -253,8 +268,8 @@ impl Tally {
     /// function but the printer is lent, the lists of boards, the tables and sheets of closes, what is
     /// done to owed bytes and false ones, the entries and causes of swaps, the parents of choices, what
     /// steps do and their orders, and numbers of each length in print, that were never met; also products
-    /// of shares beyond a signed 64-bit number, and values of the choice of before, if they were fewer
-    /// than one in twenty.
+    /// of shares beyond a signed 64-bit number, values of the choice of before, and tables that are others
+    /// since nothing forgets, if they were fewer than one in twenty.
     pub fn never_met(&self) -> Vec<String> {
         let mut missing = Vec::new();
         for ((name, numbers), given) in FUNCTIONS.iter().zip(&self.given) {
@@ -295,6 +310,9 @@ impl Tally {
         }
         if 20 * self.strict_values < self.strict_tables {
             missing.push(format!("{STRICT} in one table of twenty"));
+        }
+        if 20 * self.forgotten_others < self.forgotten_tables {
+            missing.push(format!("{FORGOTTEN} in one table of twenty"));
         }
         for ((word, numbers), printed) in LINES.iter().zip(&self.printed) {
             for &number in numbers.iter().filter(|&&n| self.days > 0 && printed[n] == 0) {
@@ -355,6 +373,29 @@ impl Tally {
             f,
             "runs on large sheets: {} ({} of more than 1,024 items)",
             self.large_sheets, self.vast_sheets
+        )
+    }
+
+    fn write_spreads(&self, f: &mut fmt::Formatter) -> fmt::Result {
+        writeln!(
+            f,
+            "calls that edition 1 accepts and edition 2 refuses for spread 2: {}",
+            self.edition_refusals
+        )?;
+        writeln!(
+            f,
+            "calls made with spread 2 and with spread 0: {} ({} in random lists)",
+            self.spread_pairs, self.random_spread_pairs
+        )?;
+        writeln!(
+            f,
+            "calls made with other spreads: {} ({} refused with 8, 9 or 10)",
+            self.other_spreads, self.other_spreads_refused
+        )?;
+        writeln!(
+            f,
+            "tables of 4.3.0: {} ({} with {FORGOTTEN})",
+            self.forgotten_tables, self.forgotten_others
         )
     }
 
@@ -434,6 +475,7 @@ impl fmt::Display for Tally {
             writeln!(f, "  {name:9}{}", times(given))?;
         }
         self.write_editions(f)?;
+        self.write_spreads(f)?;
         self.write_boards_and_closes(f)?;
         self.write_owed(f)?;
         self.write_choices(f)?;
@@ -613,6 +655,15 @@ mod tests {
         assert_eq!(tally.never_met(), [format!("{STRICT} in one table of twenty")]);
     }
 
+    /// One table in twenty of version 4.3.0 must be another now.
+    #[test]
+    fn forgotten_figures_are_missed() {
+        let tally = Tally { forgotten_tables: 20, forgotten_others: 1, ..full() };
+        assert_eq!(tally.never_met(), [""; 0]);
+        let tally = Tally { forgotten_tables: 21, ..tally };
+        assert_eq!(tally.never_met(), [format!("{FORGOTTEN} in one table of twenty")]);
+    }
+
     /// Each number of the paper's table is asked for somewhere.
     #[test]
     fn every_number_is_asked_for() {
@@ -641,7 +692,8 @@ mod tests {
         for (items, results, number, at) in cases {
             let mut tally = Tally::default();
             let list = (0..items).map(|i| if items == 4 { 0 } else { i as u8 }).collect();
-            tally.count_board(&Board { items: list, results: vec![0; results] }, number, &EXAMPLE);
+            let reply = Reply { number, offset: 0, kind: 0, value: 0 };
+            tally.count_board(&Board { items: list, results: vec![0; results] }, &reply, &EXAMPLE);
             let mut right = [0; BOARDS.len()];
             right[at] = 1;
             assert_eq!((tally.boards, tally.given[BOARD][number as usize]), (right, 1));

@@ -1,7 +1,8 @@
 //! How the mock can be wrong about editions, item limits and large sheets: it takes the sheet as other
 //! bytes, or is wrong in another respect where the sheet's edition is 2.
 
-use super::{Mock, Wrong};
+use super::{Function, Mock, Wrong};
+use crate::gen::deferring;
 use crate::guarded::Guarded;
 use crate::model::board::ITEM;
 use crate::model::calls::{Call, Reply};
@@ -42,9 +43,6 @@ impl Wrong {
         Wrong::FaultBeyond1024At0,
         Wrong::LongSheetsRefused,
         Wrong::LongSheetsCut,
-        Wrong::FirstForgetDefers,
-        Wrong::SecondForgetDefers,
-        Wrong::SecondForgetRefused,
         Wrong::SecondOpensOtherwise,
         Wrong::SecondPostAlwaysMarks,
         Wrong::SecondExchangeUnmarked,
@@ -68,6 +66,7 @@ impl Wrong {
         Wrong::FaultBeyond1024At0,
         Wrong::LongSheetsRefused,
         Wrong::LongSheetsCut,
+        Wrong::SecondTakesSpread2Beyond1024,
     ];
 
     /// What is wrong where the edition is 2, for those that are right elsewhere.
@@ -158,19 +157,13 @@ impl Wrong {
         }
     }
 
-    /// The figures' fields with their parents and spreads as they are taken, as far as they can be cut.
-    fn change_figures(self, edition: u16, sheet: &mut [u8]) {
-        let forgets = match (self, edition) {
-            (Wrong::FirstForgetDefers, 1) | (Wrong::SecondForgetDefers, 2) => 0,
-            (Wrong::SecondForgetRefused, 2) => 3,
-            _ => 2,
-        };
+    /// The figures' fields with their parents as they are taken, as far as they can be cut.
+    fn change_figures(self, sheet: &mut [u8]) {
         let mut at = 0;
         while let Some(field) = field_at(sheet, at) {
             let (tag, length, next) = (field.tag, field.content.len(), field.end());
             let content = &mut sheet[at + 3..next];
             if tag == 3 && length > 4 {
-                content[2] = if content[2] == 2 { forgets } else { content[2] };
                 let count = content[3] as usize;
                 for parent in content[4..].chunks_exact_mut(2).take(count) {
                     let number = u16_at(parent, 0) as u64;
@@ -193,11 +186,16 @@ impl Wrong {
         taken[5..7].copy_from_slice(&(cut as u16).to_le_bytes());
         let right = (1..=item_limit(edition)).contains(&(cut as usize));
         match (self.counts_taken(edition).contains(&(cut as usize)), right) {
+            // Edition 2 takes as many items, and refuses what edition 1 defers.
+            (true, false) if edition == 1 => {
+                taken = deferring(&taken);
+                taken[3..5].copy_from_slice(&[2, 0]);
+            }
             (true, false) => taken[3..5].copy_from_slice(&[2, 0]),
             (false, true) => taken[3..5].copy_from_slice(&[0, 0]),
             _ => {}
         }
-        self.change_figures(edition, &mut taken);
+        self.change_figures(&mut taken);
         taken
     }
 
@@ -229,7 +227,7 @@ impl Wrong {
 }
 
 /// Edition and item count of a head that is in form.
-fn head(sheet: &[u8]) -> Option<(u16, usize)> {
+pub(super) fn head(sheet: &[u8]) -> Option<(u16, usize)> {
     let field = field_at(sheet, 0).filter(|field| field.tag == 1 && field.content.len() == 4)?;
     Some((u16_at(field.content, 0), u16_at(field.content, 2) as usize))
 }
@@ -238,11 +236,15 @@ impl Mock {
     /// An act on the sheet as it is taken, by the mock that is then at work.
     pub(super) fn as_taken(
         &self,
+        function: Function,
         sheet: &mut Guarded,
         lengths: [usize; 2],
         give: impl FnOnce(&Mock, &mut Guarded) -> Reply,
     ) -> Reply {
         let wrong = self.0;
+        if Wrong::SPREADS.contains(&wrong) {
+            return self.with_spreads(function, sheet, give);
+        }
         if !Wrong::EDITIONS.contains(&wrong) {
             return give(self, sheet);
         }

@@ -8,13 +8,14 @@ use crate::model::table::{decode, record, Cell, Mark, OWED, RECORD};
 use crate::model::value::Value;
 use std::cell::RefCell;
 
-/// What stores a figure, or forgets it.
+/// What changes a cell.
 #[derive(Clone, Copy, PartialEq, Eq, Debug)]
 pub(super) enum By {
     LookUp,
     Keep,
     Drop,
-    Forget,
+    Tell,
+    Defer,
     Renew,
 }
 
@@ -117,17 +118,18 @@ impl<'a> Sweep<'a> {
         self.items[i].figure.as_ref().map_or(&[], |figure| &figure.parents)
     }
 
-    /// Every change of what is stored.
+    /// Every change of what is stored, and the refresh of what defers.
     pub(super) fn put(&mut self, i: usize, cell: Cell, by: By) {
         let counted = self.counts(i);
         self.cells[i] = cell;
         let changed = counted != self.counts(i) || self.wrong == Wrong::OwedByAnyUnk;
         match (self.wrong, by) {
             (Wrong::DropLeavesOwed, By::Drop)
-            | (Wrong::ForgetLeavesOwed, By::Forget)
             | (Wrong::KeepLeavesUnowed, By::Keep)
             | (Wrong::LookUpLeavesUnowed, By::LookUp) => {}
-            (Wrong::DropEndsAllOwed, By::Drop) | (Wrong::ForgetEndsAllOwed, By::Forget) => {
+            (Wrong::DropEndsAllOwed, By::Drop)
+            | (Wrong::RenewEndsOwed, By::Renew)
+            | (Wrong::DeferEndsOwed, By::Defer) => {
                 self.parents(i).iter().for_each(|&parent| self.owed[parent] = false);
             }
             (Wrong::DropEndsOwedOneLevel, By::Drop) if changed => self.mend(i, 1),
@@ -160,14 +162,6 @@ impl<'a> Sweep<'a> {
             Wrong::TellingPassesOverOwed => true,
             Wrong::TellingMarksUnowed => false,
             _ => !self.owed[child],
-        }
-    }
-
-    /// The mark of a child that is told and not stored afterwards.
-    pub(super) fn forgotten_mark(&self, child: usize) -> Mark {
-        match self.wrong {
-            Wrong::UnowedForgetsWithoutNotice if !self.owed[child] => Mark::None,
-            _ => Mark::Notice,
         }
     }
 

@@ -87,7 +87,6 @@ impl Wrong {
     /// The spread that a child is told by.
     pub(super) fn spread(self, spread: Spread, mark: Mark) -> Spread {
         match (self, spread) {
-            (Wrong::TellsDeferByForgetting, Spread::Defer) => Spread::Forget,
             (Wrong::TellsRenewAsDefer, Spread::Renew) if mark != Mark::Notice => Spread::Defer,
             _ => spread,
         }
@@ -215,11 +214,12 @@ impl Sweep<'_> {
         }
         self.cells[i].mark = Mark::None;
         match self.wrong {
+            Wrong::TellingEndsOwed => self.owed[i] = false,
             Wrong::StepTurnsNoticeToRefresh if !entry && stored.is_some() => {
                 self.cells[i].mark = Mark::Refresh;
             }
             Wrong::StepOfNoticeForgets if !entry => {
-                self.put(i, Cell { stored: None, mark: Mark::None }, By::Forget);
+                self.put(i, Cell { stored: None, mark: Mark::None }, By::Tell);
             }
             Wrong::StepOfNoticeStores if stored.is_none() => {
                 let value = self.work_out(i);

@@ -168,7 +168,6 @@ impl<'a> Machine<'a> {
             return;
         }
         match self.figure(child).spread {
-            Spread::Forget => self.store(child, None, Mark::Notice),
             Spread::Defer if cell.mark != Mark::Notice => self.cells[child].mark = Mark::Refresh,
             Spread::Defer | Spread::Renew => self.renew(child),
         }
@@ -293,22 +292,45 @@ mod tests {
         }
     }
 
-    /// Entries 0 and 1, figure 2 of 1, figure 3 of 0 and 2. The only stored child of 2 forgets: then
-    /// 2 is no longer owed, and is passed over. What forgets has notice, although nothing is owed it.
+    /// Entries 0 and 1, figure 2 of 1, figure 3 of 0 and 2. The only stored child of 2 has spread 2: it
+    /// stays stored, so that 2 is still owed, and told. With notice it acts as renew, as spread 0 does.
+    #[test]
+    fn spread_2_defers() {
+        let sum = |spread, parents: &[u16]| gen::spec_figure(1, 0, spread, parents);
+        for spread in [0, 2] {
+            let specs = [entry(), entry(), sum(0, &[1]), sum(spread, &[0, 2])];
+            let items = read_sheet(&gen::write_sheet(&specs)).unwrap();
+            let mut m = Machine::new(&items, vec![NULL, NULL, UNK, NULL]);
+            assert!(m.is_owed(2));
+            m.post(0, Value::Number(6));
+            m.post(1, Value::Number(1));
+            m.step(0);
+            assert_eq!(m.cells[3], Cell { mark: Mark::Refresh, ..NULL });
+            m.step(1);
+            assert_eq!(m.cells[2], Cell { mark: Mark::Notice, ..UNK });
+            m.step(3);
+            assert_eq!(m.cells[3], Cell { stored: numbered(7), mark: Mark::Notice });
+            m.post(1, Value::Number(2));
+            m.step(2);
+            assert_eq!(m.cells[3], Cell { stored: numbered(8), mark: Mark::Notice });
+            assert_eq!(m.ask(3), Value::Number(8));
+        }
+    }
+
+    /// Entries 0 and 1, figure 2 of 1, figure 3 of 2. When 3 is dropped, 2 is no longer owed, and passed
+    /// over.
     #[test]
     fn owed_is_of_the_moment() {
-        let sum = |spread, parents: &[u16]| gen::spec_figure(1, 0, spread, parents);
-        let specs = [entry(), entry(), sum(0, &[1]), sum(2, &[0, 2])];
+        let figure = |parent| gen::spec_figure(1, 0, 0, &[parent]);
+        let specs = [entry(), entry(), figure(1), figure(2)];
         let items = read_sheet(&gen::write_sheet(&specs)).unwrap();
         let mut m = Machine::new(&items, vec![NULL, NULL, UNK, NULL]);
         assert!(m.is_owed(2));
-        m.post(0, Value::Number(6));
+        m.drop(3);
         m.post(1, Value::Number(1));
-        m.step(0);
-        assert_eq!(m.cells[3], Cell { mark: Mark::Notice, ..UNK });
         m.step(1);
-        assert_eq!(m.cells[2], UNK);
-        assert_eq!(m.ask(3), Value::Number(7));
+        assert_eq!((m.cells[2], m.is_owed(2)), (UNK, false));
+        assert_eq!(m.ask(3), Value::Number(1));
     }
 
     /// A notice on a figure that is not owed stays until it is stepped.

@@ -36,6 +36,8 @@ pub struct Item {
 pub struct Figure {
     pub rule: u8,
     pub keep: bool,
+    /// The sheet's byte, and what it is treated as.
+    pub spread_byte: u8,
     pub spread: Spread,
     pub parents: Vec<usize>,
 }
@@ -44,7 +46,17 @@ pub struct Figure {
 pub enum Spread {
     Defer,
     Renew,
-    Forget,
+}
+
+/// What a spread byte is treated as in a sheet of this edition; none if it is refused there.
+pub const fn spread_of(edition: u16, byte: u8) -> Option<Spread> {
+    match (edition, byte) {
+        (_, 0) => Some(Spread::Defer),
+        (_, 1) => Some(Spread::Renew),
+        // It was forget.
+        (1, 2) => Some(Spread::Defer),
+        _ => None,
+    }
 }
 
 /// The items of a sheet, or the first field at fault with its lowest number.
@@ -58,12 +70,12 @@ pub fn read_limited(
     counts: &dyn Fn(u16) -> RangeInclusive<usize>,
 ) -> Result<Vec<Item>, Fault> {
     let head = cut(bytes, 0)?;
-    let count = read_head(&head, counts).map_err(|number| fault(number, 0))?;
+    let (edition, count) = read_head(&head, counts).map_err(|number| fault(number, 0))?;
     let mut items: Vec<Item> = Vec::new();
     let mut offset = head.end();
     for _ in 0..count {
         let field = cut(bytes, offset)?;
-        let item = read_item(&field, &items).map_err(|number| fault(number, offset))?;
+        let item = read_item(edition, &field, &items).map_err(|number| fault(number, offset))?;
         items.push(item);
         offset = field.end();
     }
@@ -89,8 +101,11 @@ fn cut(bytes: &[u8], offset: usize) -> Result<Field<'_>, Fault> {
     field_at(bytes, offset).ok_or(fault(1, offset))
 }
 
-/// The item count.
-fn read_head(field: &Field, counts: &dyn Fn(u16) -> RangeInclusive<usize>) -> Result<usize, u64> {
+/// The edition and the item count.
+fn read_head(
+    field: &Field,
+    counts: &dyn Fn(u16) -> RangeInclusive<usize>,
+) -> Result<(u16, usize), u64> {
     if field.tag != 1 {
         return Err(2);
     }
@@ -102,11 +117,11 @@ fn read_head(field: &Field, counts: &dyn Fn(u16) -> RangeInclusive<usize>) -> Re
     if !counts(edition).contains(&count) {
         return Err(4);
     }
-    Ok(count)
+    Ok((edition, count))
 }
 
 /// The next item, after those before it.
-fn read_item(field: &Field, before: &[Item]) -> Result<Item, u64> {
+fn read_item(edition: u16, field: &Field, before: &[Item]) -> Result<Item, u64> {
     match field.tag {
         2 => Ok(Item {
             offset: field.offset,
@@ -114,7 +129,7 @@ fn read_item(field: &Field, before: &[Item]) -> Result<Item, u64> {
             level: 0,
             figure: None,
         }),
-        3 => read_figure(field, before),
+        3 => read_figure(edition, field, before),
         _ => Err(2),
     }
 }
@@ -128,19 +143,21 @@ fn read_name(bytes: &[u8]) -> Result<Vec<u8>, u64> {
     }
 }
 
-fn read_figure(field: &Field, before: &[Item]) -> Result<Item, u64> {
+fn read_figure(edition: u16, field: &Field, before: &[Item]) -> Result<Item, u64> {
     let content = field.content;
     if content.len() < 4 {
         return Err(3);
     }
-    let (rule, keep, spread, count) = (content[0], content[1], content[2], content[3] as usize);
+    let (rule, keep, spread_byte, count) =
+        (content[0], content[1], content[2], content[3] as usize);
     if content.len() < 4 + 2 * count {
         return Err(3);
     }
     let name = read_name(&content[4 + 2 * count..])?;
-    if !count_fits(rule, count) || keep > 1 || spread > 2 {
+    if !count_fits(rule, count) || keep > 1 {
         return Err(5);
     }
+    let spread = spread_of(edition, spread_byte).ok_or(5u64)?;
     let parents: Vec<usize> = (0..count).map(|k| u16_at(content, 4 + 2 * k) as usize).collect();
     if parents.iter().any(|&p| p >= before.len()) {
         return Err(6);
@@ -149,8 +166,7 @@ fn read_figure(field: &Field, before: &[Item]) -> Result<Item, u64> {
     if level > MAX_LEVEL {
         return Err(7);
     }
-    let spread = [Spread::Defer, Spread::Renew, Spread::Forget][spread as usize];
-    let figure = Figure { rule, keep: keep == 1, spread, parents };
+    let figure = Figure { rule, keep: keep == 1, spread_byte, spread, parents };
     Ok(Item { offset: field.offset, name, level, figure: Some(figure) })
 }
 
@@ -314,21 +330,68 @@ mod tests {
         }
     }
 
-    /// What an edition does not decide is the same in both, spread 2 included.
+    /// Entry 0 and a figure of it with this spread, in each edition.
+    fn with_spread(spread: u8) -> [Result<Vec<Item>, Fault>; 2] {
+        [1, 2].map(|edition| {
+            let parts = [head(edition, 2), entry(), figure(1, 1, spread, &[0], b"F"), end()];
+            read_sheet(&parts.concat())
+        })
+    }
+
+    /// What an edition does not decide is the same in both.
     #[test]
     fn both_editions_have_the_same_items() {
         let mut second = EXAMPLE;
         second[3] = 2;
         assert_eq!(read_sheet(&second), read_sheet(&EXAMPLE));
-        for spread in 0..=3 {
-            let sheets = [1, 2].map(|edition| {
-                let parts =
-                    [head(edition, 2), entry(), figure(1, 1, spread, &[0], b"F"), end()].concat();
-                read_sheet(&parts)
-            });
-            assert_eq!(sheets[0], sheets[1]);
-            assert_eq!(sheets[1].is_ok(), spread < 3);
+        for spread in (0..=255).filter(|&spread| spread != 2) {
+            let [first, second] = with_spread(spread);
+            assert_eq!(first, second);
+            assert_eq!(first.is_ok(), spread < 2);
         }
+    }
+
+    /// Edition 1 takes it as spread 0, and the byte is kept. Edition 2 refuses it.
+    #[test]
+    fn spread_2() {
+        let [first, second] = with_spread(2);
+        assert_eq!(second.unwrap_err(), Fault { number: 5, offset: 11 });
+        let mut items = first.unwrap();
+        let figure = items[1].figure.as_mut().unwrap();
+        assert_eq!((figure.spread_byte, figure.spread), (2, Spread::Defer));
+        figure.spread_byte = 0;
+        assert_eq!(items, with_spread(0)[0].clone().unwrap());
+        assert_eq!(
+            with_spread(1)[0].clone().unwrap()[1].figure.as_ref().unwrap().spread,
+            Spread::Renew
+        );
+    }
+
+    /// The first figure that holds it counts, and in its field the lowest number.
+    #[test]
+    fn spread_2_among_other_faults() {
+        let forgets = |parents: &[u16], name: &[u8]| figure(1, 0, 2, parents, name);
+        let right = figure(1, 0, 0, &[0], b"F");
+        let two = [head(2, 3), entry(), forgets(&[0], b"F"), forgets(&[0], b"F"), end()];
+        assert_eq!(refused(&two), (5, 11));
+        let last = [head(2, 3), entry(), right.clone(), forgets(&[0], b"F"), vec![9]];
+        assert_eq!(refused(&last), (5, 21));
+        // With 6 or 7, or a fault after it.
+        assert_eq!(refused(&[head(2, 2), entry(), forgets(&[1], b"F"), end()]), (5, 11));
+        let mut high = chain(65);
+        (high[0], high[66]) = (head(2, 66), forgets(&[64], b"F"));
+        let offset: usize = high[..66].iter().map(Vec::len).sum();
+        assert_eq!(refused(&high), (5, offset as u64));
+        assert_eq!(
+            refused(&[head(2, 3), entry(), forgets(&[0], b"F"), entry()[..3].to_vec()]),
+            (5, 11)
+        );
+        // With 1, 2 or 3, or a fault before it.
+        assert_eq!(refused(&[head(2, 2), entry(), forgets(&[0], b"F")[..9].to_vec()]), (1, 11));
+        assert_eq!(refused(&[head(2, 1), entry(), forgets(&[0], b"F"), end()]), (2, 11));
+        assert_eq!(refused(&[head(2, 2), entry(), forgets(&[0], b" "), end()]), (3, 11));
+        assert_eq!(refused(&[head(2, 2), field(2, b" "), forgets(&[0], b"F"), end()]), (3, 7));
+        assert_eq!(refused(&[head(3, 2), entry(), forgets(&[0], b"F"), end()]), (4, 0));
     }
 
     /// The longest sheet: 4,096 items of 55 bytes, the last with parents up to item 4,094.
@@ -338,7 +401,7 @@ mod tests {
         for i in 1..4_096u16 {
             let parents: Vec<u16> =
                 (0..16).map(|k| if i == 4_095 { 4_079 + k } else { 0 }).collect();
-            parts.push(figure(1, 1, 2, &parents, &[126; 16]));
+            parts.push(figure(1, 1, 1, &parents, &[126; 16]));
         }
         parts.push(end());
         let items = accepted(&parts);
@@ -346,10 +409,12 @@ mod tests {
         assert_eq!((items[4_095].level, items[4_095].offset), (2, 7 + 19 + 4_094 * 55));
         assert_eq!(index_of(&items)[4 * 4_095..], (225_196u32).to_le_bytes());
         // A parent that fits 12 bits only if it is cut.
-        parts[4_096] = figure(1, 1, 2, &[4_096], b"F");
+        parts[4_096] = figure(1, 1, 1, &[4_096], b"F");
+        assert_eq!(refused(&parts), (6, 225_196));
+        parts[4_096] = figure(1, 1, 1, &[4_095], b"F");
         assert_eq!(refused(&parts), (6, 225_196));
         parts[4_096] = figure(1, 1, 2, &[4_095], b"F");
-        assert_eq!(refused(&parts), (6, 225_196));
+        assert_eq!(refused(&parts), (5, 225_196));
     }
 
     #[test]
