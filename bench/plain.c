@@ -37,10 +37,9 @@ struct value {
  * The work of a call. A figure that is looked up and not stored is remembered until the next pass.
  * The children of an item are a list of links, the lowest first.
  *
- * The owed bytes stay as the call found them until it ends, when they are written anew. A step tells
- * only items above those it has changed, so that their owed bytes are right. In catching up an item
- * may be told that is owed no longer: nothing stored leans on it, so its notice flags nothing, and is
- * cleared in the same sweep.
+ * Stepping and catching up change no owed byte: no figure becomes unstored, and what they store was
+ * owed, so that its parents were owed already. What is looked up then may not have been: the owed
+ * bytes are written anew after it.
  */
 struct desk {
     const uint8_t *sheet;
@@ -272,8 +271,15 @@ static uint64_t check_parents(const uint8_t *parents, size_t count, size_t i, ui
     return 0;
 }
 
+/* The highest spread of an edition that has items. */
+static uint8_t most_spread(size_t edition)
+{
+    return edition == ROZHINAL_EDITION_1 ? ROZHINAL_FORGET : ROZHINAL_RENEW;
+}
+
 /* The cause to refuse the field of a figure, item i, or 0. */
-static uint64_t check_figure(const uint8_t *field, size_t length, size_t i, uint8_t *level)
+static uint64_t check_figure(const uint8_t *field, size_t length, size_t i, uint8_t *level,
+                             uint8_t spreads)
 {
     if (length < PARENTS_AT - FIELD_HEADER)
         return ROZHINAL_REFUSED_LENGTH;
@@ -283,16 +289,17 @@ static uint64_t check_figure(const uint8_t *field, size_t length, size_t i, uint
         || !name_allowed(field + name_at, FIELD_HEADER + length - name_at))
         return ROZHINAL_REFUSED_LENGTH;
     if (!parents_allowed(field[RULE_AT], count) || field[KEEP_AT] > 1
-        || field[SPREAD_AT] > ROZHINAL_FORGET)
+        || field[SPREAD_AT] > spreads)
         return ROZHINAL_REFUSED_RULE;
     return check_parents(field + PARENTS_AT, count, i, level);
 }
 
-/* The cause to refuse the field of item i, or 0. */
-static uint64_t check_item(const uint8_t *field, size_t length, size_t i, uint8_t *level)
+/* The cause to refuse the field of item i, or 0. Spreads go up to the one given. */
+static uint64_t check_item(const uint8_t *field, size_t length, size_t i, uint8_t *level,
+                           uint8_t spreads)
 {
     if (field[0] == ROZHINAL_TAG_FIGURE)
-        return check_figure(field, length, i, level);
+        return check_figure(field, length, i, level, spreads);
     if (field[0] != ROZHINAL_TAG_ENTRY)
         return ROZHINAL_REFUSED_TAG;
     level[i] = 0;
@@ -346,12 +353,13 @@ static rozhinal_answer read_sheet(const uint8_t *sheet, size_t sheet_len, struct
     if (cause != 0)
         return refuse(cause, 0);
     layout->count = get_u16(sheet + 5);
+    uint8_t spreads = most_spread(get_u16(sheet + 3));
     size_t at = FIELD_HEADER + HEAD_LENGTH;
     for (size_t i = 0; i < layout->count; i++) {
         if (!field_fits(sheet, sheet_len, at))
             return refuse(ROZHINAL_REFUSED_FIELD, at);
         size_t length = get_u16(sheet + at + 1);
-        cause = check_item(sheet + at, length, i, layout->level);
+        cause = check_item(sheet + at, length, i, layout->level, spreads);
         if (cause != 0)
             return refuse(cause, at);
         layout->offset[i] = (uint32_t)at;
@@ -388,7 +396,7 @@ static void store_seen(uint8_t *record, struct value value)
 }
 
 /* A record of UNK with a mark. */
-static void forget(uint8_t *record, uint8_t mark)
+static void store_unk(uint8_t *record, uint8_t mark)
 {
     store(record, (struct value){ 0, ROZHINAL_UNK, false }, mark);
 }
@@ -499,7 +507,7 @@ static void sit_down(struct desk *desk, const uint8_t *sheet, const struct layou
     memset(desk->seen_in, 0, layout->count * sizeof desk->seen_in[0]);
 }
 
-/* At the end of a call. */
+/* At the end of a call that has looked up. */
 static void stand_up(const struct desk *desk)
 {
     write_owed(desk->sheet, desk->layout, desk->table);
@@ -581,6 +589,7 @@ static void renew(struct desk *desk, size_t i)
         record[MARK_AT] = ROZHINAL_MARK_NONE;
 }
 
+/* Every spread but renew defers. */
 static void tell_child(struct desk *desk, size_t i)
 {
     uint8_t *record = record_of(desk->table, i);
@@ -589,14 +598,10 @@ static void tell_child(struct desk *desk, size_t i)
             record[MARK_AT] = ROZHINAL_MARK_NOTICE;
         return;
     }
-    uint8_t spread = field_of(desk, i)[SPREAD_AT];
-    if (spread == ROZHINAL_FORGET) {
-        forget(record, ROZHINAL_MARK_NOTICE);
-    } else if (spread == ROZHINAL_DEFER && record[MARK_AT] != ROZHINAL_MARK_NOTICE) {
-        record[MARK_AT] = ROZHINAL_MARK_REFRESH;
-    } else {
+    if (field_of(desk, i)[SPREAD_AT] == ROZHINAL_RENEW || record[MARK_AT] == ROZHINAL_MARK_NOTICE)
         renew(desk, i);
-    }
+    else
+        record[MARK_AT] = ROZHINAL_MARK_REFRESH;
 }
 
 /* Tells the children, which are listed when the first item is met that has any to be told. */
@@ -652,7 +657,7 @@ static rozhinal_answer open_by(const uint8_t *sheet, size_t sheet_len, uint8_t *
         if (full || !figure)
             store(record, null_value, ROZHINAL_MARK_NONE);
         else
-            forget(record, ROZHINAL_MARK_NONE);
+            store_unk(record, ROZHINAL_MARK_NONE);
         if (full && figure)
             owe_parents(field, table + OWED_AT, ROZHINAL_RECORD_BYTES);
     }
@@ -769,7 +774,7 @@ rozhinal_answer plain_drop(const uint8_t *sheet, size_t sheet_len,
         return refuse(ROZHINAL_REFUSED_SORT, 0);
     uint8_t *record = record_of(table, (size_t)item);
     bool marked = record[MARK_AT] != ROZHINAL_MARK_NONE;
-    forget(record, marked ? ROZHINAL_MARK_NOTICE : ROZHINAL_MARK_NONE);
+    store_unk(record, marked ? ROZHINAL_MARK_NOTICE : ROZHINAL_MARK_NONE);
     write_owed(sheet, &layout, table);
     return accepted;
 }
@@ -791,7 +796,6 @@ rozhinal_answer plain_step(const uint8_t *sheet, size_t sheet_len,
     struct desk desk;
     sit_down(&desk, sheet, &layout, table);
     step(&desk, (size_t)item);
-    stand_up(&desk);
     return accepted;
 }
 

@@ -97,6 +97,11 @@ static void draw_name(struct figure *item)
         item->name[k] = (uint8_t)('a' + draw(26));
 }
 
+static uint8_t draw_spread(void)
+{
+    return draw(2) ? ROZHINAL_RENEW : ROZHINAL_DEFER;
+}
+
 static uint8_t draw_rule(void)
 {
     static const uint8_t rules[] = {
@@ -136,7 +141,7 @@ static void draw_figure(struct figure *group, size_t i)
     struct figure *item = &group[i];
     item->rule = draw_rule();
     item->keep = (uint8_t)draw(2);
-    item->spread = (uint8_t)draw(3);
+    item->spread = draw_spread();
     item->parent_count = draw_parent_count(item->rule);
     item->level = 1;
     item->most = 0;
@@ -233,7 +238,7 @@ void make_fan(struct sheet *sheet, size_t figures, int keeping)
         item.keep = (uint8_t)draw(2);
         if (!keeping)
             item.keep = 0;
-        item.spread = (uint8_t)draw(3);
+        item.spread = draw_spread();
         item.parent_count = 1 + draw(4);
         for (size_t k = 1; k < item.parent_count; k++)
             item.parents[k] = draw(COMMON_ENTRIES);
@@ -249,7 +254,7 @@ void make_shares(struct sheet *sheet, size_t figures)
     begin_sheet(sheet, RATES + SHARED + figures);
     put_entries(sheet, RATES + SHARED);
     for (size_t i = 0; i < figures; i++) {
-        item.spread = draw(2) ? ROZHINAL_RENEW : ROZHINAL_DEFER;
+        item.spread = draw_spread();
         item.parents[0] = RATES + draw(SHARED);
         item.parents[1] = draw(RATES);
         draw_name(&item);
@@ -263,7 +268,7 @@ static void put_guarded(struct sheet *sheet, uint8_t rule, size_t a, size_t b, s
     struct figure item = {
         .rule = rule,
         .level = rule == ROZHINAL_CHOICE ? 2 : 1,
-        .spread = draw(2) ? ROZHINAL_RENEW : ROZHINAL_DEFER,
+        .spread = draw_spread(),
         .parent_count = rule == ROZHINAL_CHOICE ? 3 : 2,
         .parents = { a, b, c },
     };
@@ -284,7 +289,7 @@ void make_guarded_shares(struct sheet *sheet, size_t guards)
         put_guarded(sheet, ROZHINAL_CHOICE, test, share, RATES + draw(SHARED));
     }
     for (size_t g = 0; g < guards; g += sum.parent_count) {
-        sum.spread = draw(2) ? ROZHINAL_RENEW : ROZHINAL_DEFER;
+        sum.spread = draw_spread();
         sum.parent_count = guards - g < ROZHINAL_MAX_PARENTS ? guards - g : ROZHINAL_MAX_PARENTS;
         for (size_t k = 0; k < sum.parent_count; k++)
             sum.parents[k] = GUARDS_AT + GUARD_ITEMS * (g + k) + GUARD_ITEMS - 1;

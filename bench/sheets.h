@@ -38,15 +38,15 @@ void make_chain(struct sheet *sheet);
 void make_fan(struct sheet *sheet, size_t figures, int keeping);
 
 /*
- * RATES + SHARED entries, and shares of the last SHARED by the first RATES. None is forgotten: once
- * stored, a share is worked out anew whenever a parent was posted.
+ * RATES + SHARED entries, and shares of the last SHARED by the first RATES. Once stored, a share is
+ * worked out anew whenever a parent was posted.
  */
 void make_shares(struct sheet *sheet, size_t figures);
 
 /*
  * The same entries and BOUND, then guards of GUARD_ITEMS items each: a share, a test whether its
  * rate is at most BOUND, and a choice of the share if it is, else of an entry. The rates take turns.
- * Last, sums of all the choices. No figure is forgotten.
+ * Last, sums of all the choices.
  */
 void make_guarded_shares(struct sheet *sheet, size_t guards);
 

@@ -12,7 +12,17 @@
 #include <stdlib.h>
 #include <string.h>
 
-static void list_item(size_t i, const struct item *items, const size_t *levels)
+/* The columns that spreads take: more for one that is retired, which has more words. */
+static int spread_columns(const struct item *items, size_t count)
+{
+    size_t columns = strlen("spread");
+    for (size_t i = 0; i < count; i++)
+        if (items[i].figure && strlen(spread_word(items[i].spread)) > columns)
+            columns = strlen(spread_word(items[i].spread));
+    return (int)columns;
+}
+
+static void list_item(size_t i, const struct item *items, const size_t *levels, int columns)
 {
     const struct item *item = &items[i];
     printf("%4zu  %-16s  %5zu", i, item->name, levels[i]);
@@ -20,7 +30,7 @@ static void list_item(size_t i, const struct item *items, const size_t *levels)
         puts("  entry");
         return;
     }
-    printf("  %-10s  %-6s  %-6s ", rule_word(item->rule), item->keep ? "keep" : "nokeep",
+    printf("  %-10s  %-6s  %-*s ", rule_word(item->rule), item->keep ? "keep" : "nokeep", columns,
            spread_word(item->spread));
     for (size_t k = 0; k < item->parent_count; k++)
         printf(" %zu:%s", item->parents[k], items[item->parents[k]].name);
@@ -31,14 +41,16 @@ static void list_items(const uint8_t *sheet, const uint8_t *index, size_t count)
 {
     static struct item items[ROZHINAL_MAX_ITEMS]; /* of either edition */
     static size_t levels[ROZHINAL_MAX_ITEMS];
-    puts("item  name              level  rule        keep    spread  parents");
     for (size_t i = 0; i < count; i++) {
         items[i] = item_at(sheet, index, i);
         for (size_t k = 0; k < items[i].parent_count; k++)
             if (levels[items[i].parents[k]] >= levels[i])
                 levels[i] = levels[items[i].parents[k]] + 1;
-        list_item(i, items, levels);
     }
+    int columns = spread_columns(items, count);
+    printf("item  name              level  rule        keep    %-*s  parents\n", columns, "spread");
+    for (size_t i = 0; i < count; i++)
+        list_item(i, items, levels, columns);
 }
 
 static int list_sheet(const uint8_t *sheet, size_t sheet_len)

@@ -15,8 +15,9 @@ says so. A line before the items asks for an edition:
     edition 2
 
 RULE is sum, difference, smallest, largest, share, choice, count or at-least. KEEP is keep or
-nokeep. SPREAD is defer, renew or forget. A PARENT is the name of an earlier item, or # and its
-number. A name has 1 to 16 characters, none a blank, all ASCII.
+nokeep. SPREAD is defer or renew; forget, of sheets from before version 5.0.0, is retired and not
+taken. A PARENT is the name of an earlier item, or # and its number. A name has 1 to 16 characters,
+none a blank, all ASCII.
 
 A day in text has a call a line, in the order in which they are made:
 
@@ -52,7 +53,8 @@ RULES = {
     "at-least": (8, 2, 2),
 }
 KEEPS = {"nokeep": 0, "keep": 1}
-SPREADS = {"defer": 0, "renew": 1, "forget": 2}
+SPREADS = {"defer": 0, "renew": 1}
+RETIRED_SPREAD = "forget"
 CALLS = {"post": 16, "ask": 17, "keep": 18, "drop": 19, "step": 20}
 
 Item = namedtuple("Item", "name level tag content")
@@ -136,13 +138,22 @@ def read_entry(words):
     return Item(words[1], 0, 2, name_bytes(words[1]))
 
 
+def spread_of(word):
+    if word == RETIRED_SPREAD:
+        raise Mistake(
+            f"{word!a} is retired: edition 1 treats it as defer, edition 2 refuses it;"
+            " write defer or renew"
+        )
+    return choose(SPREADS, word, "spread")
+
+
 def read_figure(words, sheet):
     if len(words) < 7 or words[5] != "=":
         raise Mistake("a figure is written: figure NAME RULE KEEP SPREAD = PARENT ...")
     name = name_bytes(words[1])
     code, least, most = choose(RULES, words[2], "rule")
     keep = choose(KEEPS, words[3], "keep")
-    spread = choose(SPREADS, words[4], "spread")
+    spread = spread_of(words[4])
     parents = [parent_number(word, sheet) for word in words[6:]]
     if not least <= len(parents) <= most:
         wanted = str(least) if least == most else f"{least} to {most}"

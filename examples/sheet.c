@@ -48,7 +48,7 @@ const char *rule_word(unsigned rule)
 
 const char *spread_word(unsigned spread)
 {
-    static const char *const words[] = { "defer", "renew", "forget" };
+    static const char *const words[] = { "defer", "renew", "forget (as defer)" };
     return spread < sizeof words / sizeof *words ? words[spread] : "?";
 }
 
@@ -104,6 +104,19 @@ static void print_bytes(FILE *to, const uint8_t *sheet, size_t sheet_len, size_t
     fputs(size > SHOWN ? " ...\n" : "\n", to);
 }
 
+/* Of a figure that has the retired spread, where, and what to write. Edition 1 takes it. */
+static void print_retired(FILE *to, const uint8_t *sheet, size_t sheet_len, size_t offset)
+{
+    enum { SPREAD_AT = 5 };
+    unsigned edition = rozhinal_edition(sheet, sheet_len);
+    if (edition == ROZHINAL_EDITION_1 || sheet_len - offset <= SPREAD_AT
+        || sheet[offset + SPREAD_AT] != ROZHINAL_FORGET)
+        return;
+    fprintf(to, "its spread, at offset %zu, is %d (forget), which edition %u does not take; ",
+            offset + SPREAD_AT, ROZHINAL_FORGET, edition);
+    fprintf(to, "write %d (defer) or %d (renew)\n", ROZHINAL_DEFER, ROZHINAL_RENEW);
+}
+
 /* What the head states, and what it may. */
 static void print_editions(FILE *to, const uint8_t *sheet, size_t sheet_len)
 {
@@ -138,6 +151,8 @@ void print_refusal(FILE *to, const uint8_t *sheet, size_t sheet_len, rozhinal_an
     print_bytes(to, sheet, sheet_len, offset);
     if (answer.number == ROZHINAL_REFUSED_COUNT)
         print_editions(to, sheet, sheet_len);
+    if (answer.number == ROZHINAL_REFUSED_RULE)
+        print_retired(to, sheet, sheet_len, offset);
 }
 
 uint8_t *read_file(const char *path, size_t most, size_t *length)

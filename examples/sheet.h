@@ -19,14 +19,15 @@ struct item {
 /* Item i of a sheet that the library has opened with this index. */
 struct item item_at(const uint8_t *sheet, const uint8_t *index, size_t i);
 
-/* The word for a rule, a spread or a refusal. */
+/* The words for a rule, a refusal, or a spread of a sheet that opens. */
 const char *rule_word(unsigned rule);
 const char *spread_word(unsigned spread);
 const char *refusal_words(uint64_t number);
 
 /*
  * Prints what was refused, in words. For a fault of the sheet also the place: the item, and the
- * bytes at the offset; for one of edition or item count what they are, and the limits.
+ * bytes at the offset; for one of edition or item count what they are, and the limits; for a spread
+ * that is retired, what to write.
  */
 void print_refusal(FILE *to, const uint8_t *sheet, size_t sheet_len, rozhinal_answer answer);
 

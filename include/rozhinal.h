@@ -1,5 +1,5 @@
 /*
- * Rozhinal 4.3.0: an engine for quota ledgers.
+ * Rozhinal 5.0.0: an engine for quota ledgers.
  *
  * A sheet is a circuit of items. An entry is posted; a figure is worked out from earlier items, its
  * parents, by one of eight rules. The caller lends three slices of bytes to each call:
@@ -26,6 +26,8 @@
  *   - A table that only the engine has written since an opening is always accepted (with its own
  *     sheet and index). A table with bytes from elsewhere may be accepted too, but its readings are
  *     then not promised, until rozhinal_close has worked every figure out anew.
+ *   - A table from versions 4.0.0 to 4.3.0 goes on as it is, also if figures of its sheet have the
+ *     spread ROZHINAL_FORGET of edition 1.
  *   - A table from version 3.0.0 is accepted, but until they are worked out again its stored figures
  *     may hold an OUT of the choice of before (ROZHINAL_CHOICE). Close it, and its readings are
  *     promised again; or open the sheet anew, and post its entries.
@@ -43,9 +45,9 @@
  * measures them:
  *
  *   items            ask, board      step      keep     close   post, swap   drop   openings
- *   up to 128            48,960    48,240    43,520     1,913        1,785  1,753      1,705
- *   up to 1,024         101,824   101,104    65,936     9,977        9,849  9,817      9,769
- *   up to 4,096         283,072   282,352   142,736    37,625       37,497 37,465     37,417
+ *   up to 128            48,960    48,224    43,520     1,914        1,786  1,754      1,706
+ *   up to 1,024         101,824   101,088    65,936     9,978        9,850  9,818      9,770
+ *   up to 4,096         283,072   282,336   142,736    37,626       37,498 37,466     37,418
  */
 #ifndef ROZHINAL_H
 #define ROZHINAL_H
@@ -57,10 +59,10 @@
 extern "C" {
 #endif
 
-#define ROZHINAL_VERSION_MAJOR 4
-#define ROZHINAL_VERSION_MINOR 3
+#define ROZHINAL_VERSION_MAJOR 5
+#define ROZHINAL_VERSION_MINOR 0
 #define ROZHINAL_VERSION_PATCH 0
-#define ROZHINAL_VERSION "4.3.0"
+#define ROZHINAL_VERSION "5.0.0"
 
 /* ---- Limits ---------------------------------------------------------------------------------- */
 
@@ -70,9 +72,11 @@ extern "C" {
 #define ROZHINAL_WHOLE INT64_C(10000)
 
 /*
- * The editions of sheets. They differ in how many items a sheet may have, and in nothing else: a
- * sheet that states edition 1 and at most 1,024 items gives the same answers with its edition number
- * changed to 2, and every opening and call leaves the same bytes.
+ * The editions of sheets. They differ in how many items a sheet may have, in the retired spread
+ * ROZHINAL_FORGET, which edition 1 treats as ROZHINAL_DEFER and edition 2 refuses, and in nothing
+ * else: a sheet that states edition 1 and at most 1,024 items, and is without that spread, gives the
+ * same answers with its edition number changed to 2, and every opening and call leaves the same
+ * bytes.
  */
 #define ROZHINAL_EDITION_1 1
 #define ROZHINAL_EDITION_2 2
@@ -163,7 +167,8 @@ enum rozhinal_rule {
 enum rozhinal_spread {
     ROZHINAL_DEFER = 0, /* it is marked refresh; if it is marked notice, as renew */
     ROZHINAL_RENEW = 1, /* it is worked out anew at once, and marked notice if it changed */
-    ROZHINAL_FORGET = 2 /* it is no longer stored, and is marked notice */
+    ROZHINAL_FORGET = 2 /* retired: in edition 1 treated as ROZHINAL_DEFER, in edition 2 refused
+                           with 5; until version 5.0.0 the figure was then no longer stored */
 };
 
 /*
@@ -246,7 +251,8 @@ enum rozhinal_refusal {
     ROZHINAL_REFUSED_LENGTH = 3, /* a field's length or a name is wrong */
     ROZHINAL_REFUSED_COUNT = 4,  /* the edition is neither 1 nor 2, or the item count is 0 or above
                                     the edition's limit */
-    ROZHINAL_REFUSED_RULE = 5,   /* rule, keep or spread, or the parent count for the rule */
+    ROZHINAL_REFUSED_RULE = 5,   /* rule, keep or spread, in edition 2 ROZHINAL_FORGET too, or the
+                                    parent count for the rule */
     ROZHINAL_REFUSED_PARENT = 6, /* a parent is not an earlier item */
     ROZHINAL_REFUSED_LEVEL = 7,  /* a level above ROZHINAL_MAX_LEVEL */
     /* faults of index and table */
@@ -350,8 +356,9 @@ rozhinal_answer rozhinal_drop(const uint8_t *sheet, size_t sheet_len,
 /*
  * Does the work of one mark. Refresh: the figure is worked out anew; the mark is cleared if nothing
  * changed, else it becomes notice. Notice: the children are told, and the mark is cleared. A child
- * that is not stored is marked notice if it is owed, and passed over if not. Refuses with 11 and 14
- * besides.
+ * that is not stored is marked notice if it is owed, and passed over if not. A step leaves every
+ * stored figure stored and every owed byte as it was: what it stores besides was owed already.
+ * Refuses with 11 and 14 besides.
  *
  * Marked items may be stepped in any order. On every accepted table of n items, accepted steps with
  * no other call between them number fewer than 3 to the power n, and can go on until no mark is

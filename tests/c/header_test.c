@@ -1,6 +1,7 @@
 /*
  * The header against the library: sizes, offsets, the example, each refusal that can be given. With
- * the argument 2 the example is of edition 2, and the same is shown.
+ * the argument 2 the example is of edition 2, and the same is shown. The retired spread, of which
+ * the editions differ, is in both editions in each run.
  */
 #include "rozhinal.h"
 
@@ -42,8 +43,10 @@ _Static_assert(ROZHINAL_STACK_BYTES_FOR(0) == ROZHINAL_STACK_BYTES_128
                    && ROZHINAL_STACK_BYTES_FOR(65535) == ROZHINAL_STACK_BYTES, "the stack by items");
 _Static_assert(ROZHINAL_LIMIT == INT64_C(1000000000000000) && ROZHINAL_WHOLE == 10000, "the range");
 _Static_assert(ROZHINAL_NUMBER == 3 && ROZHINAL_MARK_NOTICE == 2, "kinds and marks");
+_Static_assert(ROZHINAL_DEFER == 0 && ROZHINAL_RENEW == 1 && ROZHINAL_FORGET == 2, "spreads");
 
-enum { ITEMS = 5, ENTRIES = 3, INDEX = 4 * ITEMS, TABLE = 11 * ITEMS, SHEET = 46, RULE_OF_3 = 22 };
+enum { ITEMS = 5, ENTRIES = 3, INDEX = 4 * ITEMS, TABLE = 11 * ITEMS, SHEET = 46 };
+enum { RULE_OF_3 = 22, SPREAD_OF_3 = 24, PARENT_OF_3 = 26, NAME_OF_3 = 30, SPREAD_OF_4 = 36 };
 enum { RECORD = ROZHINAL_RECORD_BYTES, OWED = 10, KEPT = RECORD * 3, NOT_KEPT = RECORD * 4 };
 enum { MOST = ROZHINAL_MAX_BOARD, OVER = MOST + 1, PAIR = 2, RESULT = 9 };
 
@@ -268,7 +271,8 @@ static void sheet_refusals(void)
     damaged_sheet("edition 0", 3, 0);
     damaged_sheet("edition 3", 3, 3);
     damaged_sheet("rule 9", RULE_OF_3, 9);
-    damaged_sheet("item 3 with parent 3", 26, 3);
+    damaged_sheet("spread 3", SPREAD_OF_3, 3);
+    damaged_sheet("item 3 with parent 3", PARENT_OF_3, 3);
     too_deep();
 }
 
@@ -644,12 +648,6 @@ static void the_owed(void)
     owed("drop 4, marked refresh", rozhinal_drop(LENT, 4));
     owed("ask 0", answer_of(rozhinal_ask(LENT, 0)));
     owed("close", rozhinal_close(LENT));
-    start();
-    now.sheet[RULE_OF_3 + 2] = ROZHINAL_FORGET;
-    owed("open full", rozhinal_open_full(LENT));
-    owed("drop 4", rozhinal_drop(LENT, 4));
-    owed("post 2 5", rozhinal_post(LENT, 2, ROZHINAL_NUMBER, 5));
-    owed("step 2, 3 forgets", rozhinal_step(LENT, 2));
 }
 
 /* What every call gives for a table. */
@@ -716,6 +714,84 @@ static void owed_refusals(void)
     accepted("step 0", rozhinal_step(LENT, 0));
 }
 
+/* ---- The retired spread ---- */
+
+/* The example in an edition, with figure 3 of a spread. */
+static void start_spread(uint8_t of_edition, uint8_t spread)
+{
+    printf("edition %u, spread %u\n", (unsigned)of_edition, (unsigned)spread);
+    start();
+    now.sheet[3] = of_edition;
+    now.sheet[SPREAD_OF_3] = spread;
+    before = now;
+}
+
+/* The tables that calls leave where figure 3 has spread 2, and where it defers. */
+static struct tables {
+    size_t count;
+    uint8_t bytes[16][TABLE];
+} forgetting, deferring;
+
+static void note(struct tables *tables, const char *call, rozhinal_answer a)
+{
+    owed(call, a);
+    memcpy(tables->bytes[tables->count++], now.table, TABLE);
+}
+
+static void told_in_edition_1(struct tables *tables, uint8_t spread)
+{
+    start_spread(ROZHINAL_EDITION_1, spread);
+    note(tables, "open full", rozhinal_open_full(LENT));
+    note(tables, "drop 4", rozhinal_drop(LENT, 4));
+    note(tables, "post 2 5", rozhinal_post(LENT, 2, ROZHINAL_NUMBER, 5));
+    note(tables, "step 2, 3 defers", rozhinal_step(LENT, 2));
+    note(tables, "step 3, which is another", rozhinal_step(LENT, 3));
+    note(tables, "post 0 1000", rozhinal_post(LENT, 0, ROZHINAL_NUMBER, 1000));
+    note(tables, "step 0, 3 has notice and renews", rozhinal_step(LENT, 0));
+    printf("3 is stored as %" PRId64 "\n", number_at(now.table + KEPT + 2));
+    note(tables, "post 2 null", rozhinal_post(LENT, 2, ROZHINAL_NULL, 0));
+    note(tables, "ask 4", answer_of(rozhinal_ask(LENT, 4)));
+    note(tables, "post 2 0", rozhinal_post(LENT, 2, ROZHINAL_NUMBER, 0));
+    note(tables, "step 2, 3 defers", rozhinal_step(LENT, 2));
+    note(tables, "step 3, which is equal", rozhinal_step(LENT, 3));
+    note(tables, "close", rozhinal_close(LENT));
+    require(now.sheet[SPREAD_OF_3] == spread, "the spread of the sheet");
+    ask(4);
+}
+
+/* In edition 2: the answer of both openings, then the number of every other call. */
+static void refused_in_edition_2(const char *what, size_t place, uint8_t byte)
+{
+    uint8_t right = now.sheet[place];
+    now.sheet[place] = byte;
+    before = now;
+    refused(what, rozhinal_open_bare(LENT));
+    refused("the same, opened full", rozhinal_open_full(LENT));
+    fputs("the same, other calls:", stdout);
+    refused_by_all();
+    now.sheet[place] = right;
+    before = now;
+}
+
+static void the_retired_spread(void)
+{
+    told_in_edition_1(&forgetting, ROZHINAL_FORGET);
+    told_in_edition_1(&deferring, ROZHINAL_DEFER);
+    require(memcmp(&forgetting, &deferring, sizeof deferring) == 0, "the tables of spread 2 and 0");
+    start_spread(ROZHINAL_EDITION_2, ROZHINAL_DEFER);
+    accepted("open bare", rozhinal_open_bare(LENT));
+    refused_in_edition_2("figure 4 has spread 2", SPREAD_OF_4, ROZHINAL_FORGET);
+    refused_in_edition_2("figure 3 has spread 2", SPREAD_OF_3, ROZHINAL_FORGET);
+    now.sheet[SPREAD_OF_3] = ROZHINAL_FORGET;
+    refused_in_edition_2("figure 3 has spread 2, and so has 4", SPREAD_OF_4, ROZHINAL_FORGET);
+    refused_in_edition_2("figure 3 has spread 2, and parent 3", PARENT_OF_3, 3);
+    refused_in_edition_2("figure 3 has spread 2, and a blank for a name", NAME_OF_3, ' ');
+    refused_in_edition_2("figure 3 has spread 2, and 2 has a tag of 5", 15, 5);
+    refused_in_edition_2("figure 3 has spread 2, in edition 3", 3, 3);
+    now.sheet[3] = ROZHINAL_EDITION_1;
+    ask(4);
+}
+
 /* ---- Editions and large sheets ---- */
 
 enum { LARGEST = ROZHINAL_MAX_ITEMS + 1 };
@@ -739,7 +815,7 @@ static void add(const uint8_t *bytes, size_t length)
     large.sheet_len += length;
 }
 
-/* Entry 0, and figures that each sum it and the item at half their number; all keeps and spreads. */
+/* Entry 0, and figures that each sum it and the item at half their number; each keep and spread. */
 static void make_large(unsigned of_edition, size_t count)
 {
     memset(&large, 0xEE, sizeof large);
@@ -753,8 +829,8 @@ static void make_large(unsigned of_edition, size_t count)
         if (i == 0)
             add((const uint8_t[]){ 2, 1, 0, 'E' }, 4);
         else
-            add((const uint8_t[]){ 3, 9, 0, ROZHINAL_SUM, i % 2, i % 3, 2, (uint8_t)(i / 2 & 0xFF),
-                                   (uint8_t)(i / 2 >> 8), 0, 0, 'F' }, 12);
+            add((const uint8_t[]){ 3, 9, 0, ROZHINAL_SUM, i % 2, i % 3 % 2, 2,
+                                   (uint8_t)(i / 2 & 0xFF), (uint8_t)(i / 2 >> 8), 0, 0, 'F' }, 12);
     }
     add((const uint8_t[]){ 4, 0, 0 }, 3);
     large_before = large;
@@ -945,6 +1021,7 @@ int main(int count, char **arguments)
     close_refusals();
     the_owed();
     owed_refusals();
+    the_retired_spread();
     the_editions();
     null_pointers();
     return faults == 0 ? 0 : 1;

@@ -118,7 +118,7 @@ static void make_large(uint8_t *sheet, size_t n)
     memcpy(sheet, head, sizeof head);
     uint8_t *field = sheet + sizeof head;
     for (size_t i = 2; i < n; i++, field += FIGURE) {
-        const uint8_t figure[FIGURE] = { 3, 9, 0, 1, i % 2, i % 3, 2, (uint8_t)(i / 2),
+        const uint8_t figure[FIGURE] = { 3, 9, 0, 1, i % 2, i % 3 % 2, 2, (uint8_t)(i / 2),
                                          (uint8_t)(i / 2 >> 8), 0, 0, 'F' };
         memcpy(field, figure, FIGURE);
     }

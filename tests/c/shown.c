@@ -1,7 +1,7 @@
 /*
- * Runs the asks in threads, the board, the swap, the close, the catching up, the working out anew
- * and the taking over of an older table of docs/USE.md: the page's C is included, with its main
- * under another name.
+ * Runs the asks in threads, the board, the swap, the close, the catching up, the change of a sheet
+ * that forgets, the working out anew and the taking over of an older table of docs/USE.md: the C of
+ * the page is included, with its main under another name.
  */
 #define main page
 #include "use.c"
@@ -30,6 +30,32 @@ static int works_out_anew(const uint8_t *index, size_t index_len)
     const uint8_t *record = stale + 3 * ROZHINAL_RECORD_BYTES;
     return record[0] == ROZHINAL_NUMBER && number_at(record + 2) == 1000
            && record[ROZHINAL_RECORD_BYTES] == ROZHINAL_UNK;
+}
+
+#define CHANGED bytes, sizeof bytes, index, index_len
+
+/*
+ * The page's sheet in edition 2, with two figures that forget, is refused at the first. Then both
+ * defer, no other byte has changed, and the table goes on: T, of A and S, is marked refresh.
+ */
+static int retires_forget(const uint8_t *index, size_t index_len, const uint8_t *closed)
+{
+    uint8_t bytes[sizeof sheet], deferring[sizeof sheet], table[ROZHINAL_TABLE_BYTES(5)];
+    memcpy(deferring, sheet, sizeof sheet);
+    deferring[3] = ROZHINAL_EDITION_2;
+    memcpy(bytes, deferring, sizeof bytes);
+    bytes[19 + 5] = bytes[31 + 5] = ROZHINAL_FORGET;
+    memcpy(table, closed, sizeof table);
+    rozhinal_answer refused = rozhinal_post(CHANGED, table, sizeof table, 0, ROZHINAL_NUMBER, 2000);
+    if (refused.number != ROZHINAL_REFUSED_RULE || refused.offset != 19
+        || retire_forget(bytes, index, index_len) != 2
+        || retire_forget(bytes, index, index_len) != 0
+        || memcmp(bytes, deferring, sizeof bytes) != 0)
+        return 0;
+    return rozhinal_post(CHANGED, table, sizeof table, 0, ROZHINAL_NUMBER, 2000).number == 0
+           && rozhinal_step(CHANGED, table, sizeof table, 0).number == 0
+           && table[ROZHINAL_TABLE_BYTES(3) + 1] == ROZHINAL_MARK_REFRESH
+           && rozhinal_ask(CHANGED, table, sizeof table, 4).value == 1700;
 }
 
 /* How many steps are made before there is something else to do. */
@@ -153,7 +179,8 @@ int main(void)
         || swap_quota() != ROZHINAL_ACCEPTED
         || close_season(index, index_len, table, table_len) != ROZHINAL_ACCEPTED)
         return 1;
-    if (!catches_up(index, index_len, table) || !works_out_anew(index, index_len))
+    if (!catches_up(index, index_len, table) || !retires_forget(index, index_len, table)
+        || !works_out_anew(index, index_len))
         return 1;
     const uint8_t *bytes = former[0];
     if (take_over(index, index_len, table, table_len, bytes, 49) != ROZHINAL_REFUSED_SIZES)

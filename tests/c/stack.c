@@ -221,7 +221,7 @@ int main(void)
     int right = 1;
     idle = stack_of(nothing);
     for (size_t size = 0; size < SIZES; size++) {
-        for (unsigned kind = 0; kind < 6; kind++) {
+        for (unsigned kind = 0; kind < 4; kind++) { /* of keep and spread */
             make_sheet(sizes[size], kind % 2, kind / 2);
             measure(size);
         }
