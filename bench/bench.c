@@ -44,7 +44,7 @@ struct side {
                              const uint8_t *, size_t, uint8_t *, size_t);
     rozhinal_answer (*close)(const uint8_t *, size_t, const uint8_t *, size_t, uint8_t *, size_t);
     int64_t (*print)(uint64_t, int64_t, uint8_t *, size_t);
-    uint8_t index[ROZHINAL_INDEX_BYTES(ROZHINAL_MAX_ITEMS)];
+    uint8_t idx[ROZHINAL_INDEX_BYTES(ROZHINAL_MAX_ITEMS)];
     uint8_t table[ROZHINAL_TABLE_BYTES(ROZHINAL_MAX_ITEMS)];
     uint8_t results[ROZHINAL_RESULTS_BYTES(BOARD_ITEMS)];
     uint8_t scratch[ROZHINAL_PRINT_BYTES];
@@ -111,7 +111,7 @@ static rozhinal_reading reading_of(rozhinal_answer answer)
     } while (0)
 
 #define LENT                                                                                     \
-    sheet.bytes, sheet.length, side->index, ROZHINAL_INDEX_BYTES(sheet.count), side->table,      \
+    sheet.bytes, sheet.length, side->idx, ROZHINAL_INDEX_BYTES(sheet.count), side->table,      \
         ROZHINAL_TABLE_BYTES(sheet.count)
 
 /* A call that gives an answer. */
@@ -173,7 +173,7 @@ static void compare(rozhinal_reading a, rozhinal_reading b)
         fail("another answer");
     if (a.number != ROZHINAL_ACCEPTED)
         fail("refused");
-    if (memcmp(library.index, plain.index, sizeof plain.index) != 0)
+    if (memcmp(library.idx, plain.idx, sizeof plain.idx) != 0)
         fail("another index");
     if (memcmp(library.table, plain.table, sizeof plain.table) != 0)
         fail("another table");

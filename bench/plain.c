@@ -401,10 +401,10 @@ static void store_unk(uint8_t *record, uint8_t mark)
     store(record, (struct value){ 0, ROZHINAL_UNK, false }, mark);
 }
 
-static bool index_matches(const struct layout *layout, const uint8_t *index)
+static bool index_matches(const struct layout *layout, const uint8_t *idx)
 {
     for (size_t i = 0; i < layout->count; i++)
-        if (get_u32(index + ROZHINAL_OFFSET_BYTES * i) != layout->offset[i])
+        if (get_u32(idx + ROZHINAL_OFFSET_BYTES * i) != layout->offset[i])
             return false;
     return true;
 }
@@ -463,26 +463,26 @@ static void write_owed(const uint8_t *sheet, const struct layout *layout, uint8_
 }
 
 /* The tests of 1 to 8. */
-static rozhinal_answer measure(const uint8_t *sheet, size_t sheet_len, size_t index_len,
+static rozhinal_answer measure(const uint8_t *sheet, size_t sheet_len, size_t idx_len,
                                size_t table_len, struct layout *layout)
 {
     rozhinal_answer answer = read_sheet(sheet, sheet_len, layout);
     if (answer.number == 0
-        && (index_len != ROZHINAL_INDEX_BYTES(layout->count)
+        && (idx_len != ROZHINAL_INDEX_BYTES(layout->count)
             || table_len != ROZHINAL_TABLE_BYTES(layout->count)))
         return refuse(ROZHINAL_REFUSED_SIZES, 0);
     return answer;
 }
 
 /* The tests of 1 to 10. */
-static rozhinal_answer enter(const uint8_t *sheet, size_t sheet_len, const uint8_t *index,
-                             size_t index_len, uint8_t *table, size_t table_len,
+static rozhinal_answer enter(const uint8_t *sheet, size_t sheet_len, const uint8_t *idx,
+                             size_t idx_len, uint8_t *table, size_t table_len,
                              struct layout *layout)
 {
-    rozhinal_answer answer = measure(sheet, sheet_len, index_len, table_len, layout);
+    rozhinal_answer answer = measure(sheet, sheet_len, idx_len, table_len, layout);
     if (answer.number != 0)
         return answer;
-    if (!index_matches(layout, index))
+    if (!index_matches(layout, idx))
         return refuse(ROZHINAL_REFUSED_INDEX, 0);
     if (!table_allowed(sheet, layout, table))
         return refuse(ROZHINAL_REFUSED_TABLE, 0);
@@ -641,18 +641,18 @@ static void catch_up(struct desk *desk)
 
 /* ---- Openings -------------------------------------------------------------------------------- */
 
-static rozhinal_answer open_by(const uint8_t *sheet, size_t sheet_len, uint8_t *index,
-                               size_t index_len, uint8_t *table, size_t table_len, bool full)
+static rozhinal_answer open_by(const uint8_t *sheet, size_t sheet_len, uint8_t *idx,
+                               size_t idx_len, uint8_t *table, size_t table_len, bool full)
 {
     struct layout layout;
-    rozhinal_answer answer = measure(sheet, sheet_len, index_len, table_len, &layout);
+    rozhinal_answer answer = measure(sheet, sheet_len, idx_len, table_len, &layout);
     if (answer.number != 0)
         return answer;
     for (size_t i = 0; i < layout.count; i++) {
         const uint8_t *field = sheet + layout.offset[i];
         bool figure = field[0] == ROZHINAL_TAG_FIGURE;
         uint8_t *record = record_of(table, i);
-        put_u32(index + ROZHINAL_OFFSET_BYTES * i, layout.offset[i]);
+        put_u32(idx + ROZHINAL_OFFSET_BYTES * i, layout.offset[i]);
         record[OWED_AT] = 0;
         if (full || !figure)
             store(record, null_value, ROZHINAL_MARK_NONE);
@@ -665,29 +665,29 @@ static rozhinal_answer open_by(const uint8_t *sheet, size_t sheet_len, uint8_t *
 }
 
 rozhinal_answer plain_open_bare(const uint8_t *sheet, size_t sheet_len,
-                                uint8_t *index, size_t index_len,
+                                uint8_t *idx, size_t idx_len,
                                 uint8_t *table, size_t table_len)
 {
-    return open_by(sheet, sheet_len, index, index_len, table, table_len, false);
+    return open_by(sheet, sheet_len, idx, idx_len, table, table_len, false);
 }
 
 rozhinal_answer plain_open_full(const uint8_t *sheet, size_t sheet_len,
-                                uint8_t *index, size_t index_len,
+                                uint8_t *idx, size_t idx_len,
                                 uint8_t *table, size_t table_len)
 {
-    return open_by(sheet, sheet_len, index, index_len, table, table_len, true);
+    return open_by(sheet, sheet_len, idx, idx_len, table, table_len, true);
 }
 
 /* ---- Calls ----------------------------------------------------------------------------------- */
 
 rozhinal_answer plain_post(const uint8_t *sheet, size_t sheet_len,
-                           const uint8_t *index, size_t index_len,
+                           const uint8_t *idx, size_t idx_len,
                            uint8_t *table, size_t table_len,
                            uint64_t item, uint64_t kind, int64_t number)
 {
     struct layout layout;
     rozhinal_answer answer =
-        enter(sheet, sheet_len, index, index_len, table, table_len, &layout);
+        enter(sheet, sheet_len, idx, idx_len, table, table_len, &layout);
     if (answer.number != 0)
         return answer;
     if (item >= layout.count)
@@ -704,13 +704,13 @@ rozhinal_answer plain_post(const uint8_t *sheet, size_t sheet_len,
 }
 
 rozhinal_answer plain_swap(const uint8_t *sheet, size_t sheet_len,
-                           const uint8_t *index, size_t index_len,
+                           const uint8_t *idx, size_t idx_len,
                            uint8_t *table, size_t table_len,
                            uint64_t giver, uint64_t taker, int64_t quantity)
 {
     struct layout layout;
     rozhinal_answer answer =
-        enter(sheet, sheet_len, index, index_len, table, table_len, &layout);
+        enter(sheet, sheet_len, idx, idx_len, table, table_len, &layout);
     if (answer.number != 0)
         return answer;
     if (giver >= layout.count || taker >= layout.count)
@@ -733,13 +733,13 @@ rozhinal_answer plain_swap(const uint8_t *sheet, size_t sheet_len,
 }
 
 rozhinal_answer plain_keep(const uint8_t *sheet, size_t sheet_len,
-                           const uint8_t *index, size_t index_len,
+                           const uint8_t *idx, size_t idx_len,
                            uint8_t *table, size_t table_len,
                            uint64_t item)
 {
     struct layout layout;
     rozhinal_answer answer =
-        enter(sheet, sheet_len, index, index_len, table, table_len, &layout);
+        enter(sheet, sheet_len, idx, idx_len, table, table_len, &layout);
     if (answer.number != 0)
         return answer;
     if (item >= layout.count)
@@ -759,13 +759,13 @@ rozhinal_answer plain_keep(const uint8_t *sheet, size_t sheet_len,
 }
 
 rozhinal_answer plain_drop(const uint8_t *sheet, size_t sheet_len,
-                           const uint8_t *index, size_t index_len,
+                           const uint8_t *idx, size_t idx_len,
                            uint8_t *table, size_t table_len,
                            uint64_t item)
 {
     struct layout layout;
     rozhinal_answer answer =
-        enter(sheet, sheet_len, index, index_len, table, table_len, &layout);
+        enter(sheet, sheet_len, idx, idx_len, table, table_len, &layout);
     if (answer.number != 0)
         return answer;
     if (item >= layout.count)
@@ -780,13 +780,13 @@ rozhinal_answer plain_drop(const uint8_t *sheet, size_t sheet_len,
 }
 
 rozhinal_answer plain_step(const uint8_t *sheet, size_t sheet_len,
-                           const uint8_t *index, size_t index_len,
+                           const uint8_t *idx, size_t idx_len,
                            uint8_t *table, size_t table_len,
                            uint64_t item)
 {
     struct layout layout;
     rozhinal_answer answer =
-        enter(sheet, sheet_len, index, index_len, table, table_len, &layout);
+        enter(sheet, sheet_len, idx, idx_len, table, table_len, &layout);
     if (answer.number != 0)
         return answer;
     if (item >= layout.count)
@@ -800,13 +800,13 @@ rozhinal_answer plain_step(const uint8_t *sheet, size_t sheet_len,
 }
 
 rozhinal_reading plain_ask(const uint8_t *sheet, size_t sheet_len,
-                           const uint8_t *index, size_t index_len,
+                           const uint8_t *idx, size_t idx_len,
                            uint8_t *table, size_t table_len,
                            uint64_t item)
 {
     struct layout layout;
     rozhinal_answer answer =
-        enter(sheet, sheet_len, index, index_len, table, table_len, &layout);
+        enter(sheet, sheet_len, idx, idx_len, table, table_len, &layout);
     if (answer.number == 0 && item >= layout.count)
         answer = refuse(ROZHINAL_REFUSED_ITEM, 0);
     if (answer.number != 0)
@@ -834,14 +834,14 @@ static rozhinal_answer check_lists(const uint8_t *items, size_t items_len, size_
 }
 
 rozhinal_answer plain_board(const uint8_t *sheet, size_t sheet_len,
-                            const uint8_t *index, size_t index_len,
+                            const uint8_t *idx, size_t idx_len,
                             uint8_t *table, size_t table_len,
                             const uint8_t *items, size_t items_len,
                             uint8_t *results, size_t results_len)
 {
     struct layout layout;
     rozhinal_answer answer =
-        enter(sheet, sheet_len, index, index_len, table, table_len, &layout);
+        enter(sheet, sheet_len, idx, idx_len, table, table_len, &layout);
     if (answer.number == 0)
         answer = check_lists(items, items_len, results_len, layout.count);
     if (answer.number != 0 || items_len == 0)
@@ -873,12 +873,12 @@ static struct value work_out_stored(const uint8_t *field, uint8_t *table)
 }
 
 rozhinal_answer plain_close(const uint8_t *sheet, size_t sheet_len,
-                            const uint8_t *index, size_t index_len,
+                            const uint8_t *idx, size_t idx_len,
                             uint8_t *table, size_t table_len)
 {
     struct layout layout;
     rozhinal_answer answer =
-        enter(sheet, sheet_len, index, index_len, table, table_len, &layout);
+        enter(sheet, sheet_len, idx, idx_len, table, table_len, &layout);
     if (answer.number != 0)
         return answer;
     for (size_t i = 0; i < layout.count; i++) {

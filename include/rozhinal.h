@@ -1,5 +1,5 @@
 /*
- * Rozhinal 5.0.0: an engine for quota ledgers.
+ * Rozhinal 5.1.0: an engine for quota ledgers.
  *
  * A sheet is a circuit of items. An entry is posted; a figure is worked out from earlier items, its
  * parents, by one of eight rules. The caller lends three slices of bytes to each call:
@@ -48,6 +48,12 @@
  *   up to 128            48,960    48,224    43,520     1,914        1,786  1,754      1,706
  *   up to 1,024         101,824   101,088    65,936     9,978        9,850  9,818      9,770
  *   up to 4,096         283,072   282,336   142,736    37,626       37,498 37,466     37,418
+ *
+ * Backtraces end inside a call: the archive has no unwind tables and keeps no frame pointers. There
+ * a debugger and a profiler name the function, backtrace() gives its address, and none its callers;
+ * a debugger that stops where a function of this header begins shows them all, and counts by
+ * function are right. No call throws or calls back. What a signal handler throws during a call, and
+ * an asynchronous cancellation of the thread, cannot be unwound through it.
  */
 #ifndef ROZHINAL_H
 #define ROZHINAL_H
@@ -60,9 +66,9 @@ extern "C" {
 #endif
 
 #define ROZHINAL_VERSION_MAJOR 5
-#define ROZHINAL_VERSION_MINOR 0
+#define ROZHINAL_VERSION_MINOR 1
 #define ROZHINAL_VERSION_PATCH 0
-#define ROZHINAL_VERSION "5.0.0"
+#define ROZHINAL_VERSION "5.1.0"
 
 /* ---- Limits ---------------------------------------------------------------------------------- */
 
@@ -89,7 +95,7 @@ extern "C" {
 #define ROZHINAL_EDITION ROZHINAL_EDITION_1
 /* The lowest edition for n items. Versions before 4.3.0 take edition 1 alone. */
 #define ROZHINAL_EDITION_FOR(n)                                                                  \
-    ((n) <= ROZHINAL_MAX_ITEMS_EDITION_1 ? ROZHINAL_EDITION_1 : ROZHINAL_EDITION_2)
+    ((size_t)(n) <= ROZHINAL_MAX_ITEMS_EDITION_1 ? ROZHINAL_EDITION_1 : ROZHINAL_EDITION_2)
 
 #define ROZHINAL_MAX_PARENTS 16
 #define ROZHINAL_MAX_LEVEL 64
@@ -98,15 +104,16 @@ extern "C" {
 
 /*
  * The stack that no call exceeds, by the items of its sheet: see the head of this file. A thread
- * that makes calls needs so much besides what its own functions take.
+ * that makes calls needs so much besides what its own functions take. The last names n twice.
  */
 #define ROZHINAL_STACK_BYTES_128 65536
 #define ROZHINAL_STACK_BYTES_1024 131072
 #define ROZHINAL_STACK_BYTES_4096 393216
 #define ROZHINAL_STACK_BYTES ROZHINAL_STACK_BYTES_4096
 #define ROZHINAL_STACK_BYTES_FOR(n)                                                              \
-    ((n) <= 128 ? ROZHINAL_STACK_BYTES_128                                                       \
-                : (n) <= 1024 ? ROZHINAL_STACK_BYTES_1024 : ROZHINAL_STACK_BYTES_4096)
+    ((size_t)((size_t)(n) <= 128    ? ROZHINAL_STACK_BYTES_128                                   \
+              : (size_t)(n) <= 1024 ? ROZHINAL_STACK_BYTES_1024                                  \
+                                    : ROZHINAL_STACK_BYTES_4096))
 
 /*
  * The day program refuses a sheet.bin of more bytes with 19, and reads no more of a day.bin. The
@@ -173,7 +180,8 @@ enum rozhinal_spread {
 
 /*
  * The most bytes of a sheet of n items that opens: the head, an entry, n - 1 figures of 16 parents
- * and the end, all names of 16 bytes. That is 56,294 in edition 1, and 225,254 in edition 2.
+ * and the end, all names of 16 bytes; n is at least 1. That is 56,294 in edition 1, and 225,254 in
+ * edition 2.
  */
 #define ROZHINAL_MAX_SHEET_BYTES(n)                                                              \
     (7 + 3 + (size_t)ROZHINAL_MAX_NAME                                                           \
@@ -198,7 +206,7 @@ static inline unsigned rozhinal_edition(const uint8_t *sheet, size_t sheet_len)
 
 /* The index: for each item the offset of its field in the sheet, 4 bytes, little-endian. */
 #define ROZHINAL_OFFSET_BYTES 4
-#define ROZHINAL_INDEX_BYTES(n) ((size_t)ROZHINAL_OFFSET_BYTES * (n))
+#define ROZHINAL_INDEX_BYTES(n) ((size_t)ROZHINAL_OFFSET_BYTES * (size_t)(n))
 
 /*
  * The table: a record for each item.
@@ -219,7 +227,7 @@ static inline unsigned rozhinal_edition(const uint8_t *sheet, size_t sheet_len)
  * table in which one is false.
  */
 #define ROZHINAL_RECORD_BYTES 11
-#define ROZHINAL_TABLE_BYTES(n) ((size_t)ROZHINAL_RECORD_BYTES * (n))
+#define ROZHINAL_TABLE_BYTES(n) ((size_t)ROZHINAL_RECORD_BYTES * (size_t)(n))
 
 enum rozhinal_kind {
     ROZHINAL_UNK = 0,   /* no value: a figure with nothing stored */
@@ -256,7 +264,7 @@ enum rozhinal_refusal {
     ROZHINAL_REFUSED_PARENT = 6, /* a parent is not an earlier item */
     ROZHINAL_REFUSED_LEVEL = 7,  /* a level above ROZHINAL_MAX_LEVEL */
     /* faults of index and table */
-    ROZHINAL_REFUSED_SIZES = 8,  /* index_len or table_len is not the size for n items */
+    ROZHINAL_REFUSED_SIZES = 8,  /* idx_len or table_len is not the size for n items */
     ROZHINAL_REFUSED_INDEX = 9,  /* the index is not the one that an opening of the sheet writes */
     ROZHINAL_REFUSED_TABLE = 10, /* a record, or the value to print, breaks its form or range, or an
                                     owed byte is false */
@@ -302,12 +310,12 @@ typedef struct {
 
 /* Opens with no figure stored. No item is owed. */
 rozhinal_answer rozhinal_open_bare(const uint8_t *sheet, size_t sheet_len,
-                                   uint8_t *index, size_t index_len,
+                                   uint8_t *idx, size_t idx_len,
                                    uint8_t *table, size_t table_len);
 
 /* Opens with every figure stored, as NULL. Each item that has a child is owed. */
 rozhinal_answer rozhinal_open_full(const uint8_t *sheet, size_t sheet_len,
-                                   uint8_t *index, size_t index_len,
+                                   uint8_t *idx, size_t idx_len,
                                    uint8_t *table, size_t table_len);
 
 /* ---- Calls ----------------------------------------------------------------------------------- */
@@ -320,7 +328,7 @@ rozhinal_answer rozhinal_open_full(const uint8_t *sheet, size_t sheet_len,
  * besides.
  */
 rozhinal_answer rozhinal_post(const uint8_t *sheet, size_t sheet_len,
-                              const uint8_t *index, size_t index_len,
+                              const uint8_t *idx, size_t idx_len,
                               uint8_t *table, size_t table_len,
                               uint64_t item, uint64_t kind, int64_t number);
 
@@ -334,7 +342,7 @@ rozhinal_answer rozhinal_post(const uint8_t *sheet, size_t sheet_len,
  * are held to the range.
  */
 rozhinal_answer rozhinal_swap(const uint8_t *sheet, size_t sheet_len,
-                              const uint8_t *index, size_t index_len,
+                              const uint8_t *idx, size_t idx_len,
                               uint8_t *table, size_t table_len,
                               uint64_t giver, uint64_t taker, int64_t quantity);
 
@@ -343,13 +351,13 @@ rozhinal_answer rozhinal_swap(const uint8_t *sheet, size_t sheet_len,
  * with 11 and 12 besides.
  */
 rozhinal_answer rozhinal_keep(const uint8_t *sheet, size_t sheet_len,
-                              const uint8_t *index, size_t index_len,
+                              const uint8_t *idx, size_t idx_len,
                               uint8_t *table, size_t table_len,
                               uint64_t item);
 
 /* Makes a figure unstored; a refresh mark becomes notice. Refuses with 11 and 12 besides. */
 rozhinal_answer rozhinal_drop(const uint8_t *sheet, size_t sheet_len,
-                              const uint8_t *index, size_t index_len,
+                              const uint8_t *idx, size_t idx_len,
                               uint8_t *table, size_t table_len,
                               uint64_t item);
 
@@ -370,7 +378,7 @@ rozhinal_answer rozhinal_drop(const uint8_t *sheet, size_t sheet_len,
  * when no mark is left, what is stored is what an ask gives.
  */
 rozhinal_answer rozhinal_step(const uint8_t *sheet, size_t sheet_len,
-                              const uint8_t *index, size_t index_len,
+                              const uint8_t *idx, size_t idx_len,
                               uint8_t *table, size_t table_len,
                               uint64_t item);
 
@@ -380,7 +388,7 @@ rozhinal_answer rozhinal_step(const uint8_t *sheet, size_t sheet_len,
  * before. Refuses with 11 besides.
  */
 rozhinal_reading rozhinal_ask(const uint8_t *sheet, size_t sheet_len,
-                              const uint8_t *index, size_t index_len,
+                              const uint8_t *idx, size_t idx_len,
                               uint8_t *table, size_t table_len,
                               uint64_t item);
 
@@ -391,7 +399,7 @@ rozhinal_reading rozhinal_ask(const uint8_t *sheet, size_t sheet_len,
  * number over 65,535 is no item, and must not be cut to 2 bytes.
  */
 #define ROZHINAL_BOARD_ITEM_BYTES 2
-#define ROZHINAL_ITEMS_BYTES(k) ((size_t)ROZHINAL_BOARD_ITEM_BYTES * (k))
+#define ROZHINAL_ITEMS_BYTES(k) ((size_t)ROZHINAL_BOARD_ITEM_BYTES * (size_t)(k))
 
 /*
  * The results of a board: for each item listed, in the same order,
@@ -400,7 +408,7 @@ rozhinal_reading rozhinal_ask(const uint8_t *sheet, size_t sheet_len,
  *   bytes 1-8   number, as in the table; 0 unless the kind is ROZHINAL_NUMBER
  */
 #define ROZHINAL_BOARD_RESULT_BYTES 9
-#define ROZHINAL_RESULTS_BYTES(k) ((size_t)ROZHINAL_BOARD_RESULT_BYTES * (k))
+#define ROZHINAL_RESULTS_BYTES(k) ((size_t)ROZHINAL_BOARD_RESULT_BYTES * (size_t)(k))
 
 /*
  * Reads up to ROZHINAL_MAX_BOARD items: steps the lowest marked item until none is marked, then
@@ -410,7 +418,7 @@ rozhinal_reading rozhinal_ask(const uint8_t *sheet, size_t sheet_len,
  * every call, then with 17, then with 11 if a number in the list is no item.
  */
 rozhinal_answer rozhinal_board(const uint8_t *sheet, size_t sheet_len,
-                               const uint8_t *index, size_t index_len,
+                               const uint8_t *idx, size_t idx_len,
                                uint8_t *table, size_t table_len,
                                const uint8_t *items, size_t items_len,
                                uint8_t *results, size_t results_len);
@@ -428,7 +436,7 @@ rozhinal_answer rozhinal_board(const uint8_t *sheet, size_t sheet_len,
  * run changes nothing. Refuses with 1 to 10 as every call, and with no other number.
  */
 rozhinal_answer rozhinal_close(const uint8_t *sheet, size_t sheet_len,
-                               const uint8_t *index, size_t index_len,
+                               const uint8_t *idx, size_t idx_len,
                                uint8_t *table, size_t table_len);
 
 /* ---- Printer --------------------------------------------------------------------------------- */

@@ -63,7 +63,7 @@ static const uint8_t example[SHEET] = {
 /* Side by side, so that a byte written outside its slice shows as a change. */
 struct lent {
     uint8_t sheet[1024];
-    uint8_t index[INDEX];
+    uint8_t idx[INDEX];
     uint8_t table[TABLE];
     uint8_t scratch[ROZHINAL_PRINT_BYTES];
     uint8_t items[PAIR * OVER];
@@ -76,7 +76,7 @@ static uint8_t edition = ROZHINAL_EDITION_1; /* of the example */
 static int faults;
 
 #define SHEET_SLICE now.sheet, sheet_len
-#define LENT SHEET_SLICE, now.index, sizeof now.index, now.table, sizeof now.table
+#define LENT SHEET_SLICE, now.idx, sizeof now.idx, now.table, sizeof now.table
 
 static void require(int right, const char *what)
 {
@@ -137,7 +137,7 @@ static void the_example(void)
     require(rozhinal_edition(now.sheet, 4) == 0, "the edition of a short sheet");
     accepted("open bare", rozhinal_open_bare(LENT));
     for (size_t i = 0; i < ITEMS; i++)
-        printf("index %zu: %u\n", i, (unsigned)now.index[4 * i]);
+        printf("index %zu: %u\n", i, (unsigned)now.idx[4 * i]);
     accepted("post 0 1000", rozhinal_post(LENT, 0, ROZHINAL_NUMBER, 1000));
     accepted("post 1 300", rozhinal_post(LENT, 1, ROZHINAL_NUMBER, 300));
     ask(4);
@@ -280,12 +280,12 @@ static void other_refusals(void)
 {
     start();
     refused("an index of 19 bytes",
-            rozhinal_open_bare(SHEET_SLICE, now.index, INDEX - 1, now.table, TABLE));
+            rozhinal_open_bare(SHEET_SLICE, now.idx, INDEX - 1, now.table, TABLE));
     accepted("open bare", rozhinal_open_bare(LENT));
-    now.index[4]++;
+    now.idx[4]++;
     before = now;
     refused("a changed index", rozhinal_step(LENT, 0));
-    now.index[4]--;
+    now.idx[4]--;
     now.table[1] = ROZHINAL_MARK_REFRESH;
     before = now;
     refused("an entry marked refresh", rozhinal_step(LENT, 0));
@@ -400,11 +400,11 @@ static void swap_refusals(void)
     now.table[NOT_KEPT + 1] = ROZHINAL_MARK_REFRESH;
     before = now;
     refused("swap, an unstored figure marked refresh", rozhinal_swap(LENT, ITEMS, ITEMS, 0));
-    now.index[4]++;
+    now.idx[4]++;
     before = now;
     refused("swap, a changed index besides", rozhinal_swap(LENT, ITEMS, ITEMS, 0));
     refused("swap, a table of 54 bytes besides",
-            rozhinal_swap(SHEET_SLICE, now.index, INDEX, now.table, TABLE - 1, 0, 2, 1));
+            rozhinal_swap(SHEET_SLICE, now.idx, INDEX, now.table, TABLE - 1, 0, 2, 1));
     now.sheet[11] = 5;
     before = now;
     refused("swap, a tag of 5 besides", rozhinal_swap(LENT, 0, 2, 1));
@@ -506,11 +506,11 @@ static void board_refusals(void)
     now.table[1] = ROZHINAL_MARK_REFRESH;
     before = now;
     refused("65 items, and an entry marked refresh", board(PAIR * OVER, RESULT * OVER));
-    now.index[4]++;
+    now.idx[4]++;
     before = now;
     refused("65 items, and a changed index", board(PAIR * OVER, RESULT * OVER));
     refused("65 items, and a table of 54 bytes",
-            rozhinal_board(SHEET_SLICE, now.index, INDEX, now.table, TABLE - 1, now.items,
+            rozhinal_board(SHEET_SLICE, now.idx, INDEX, now.table, TABLE - 1, now.items,
                            PAIR * OVER, now.results, RESULT * OVER));
     now.sheet[11] = 5;
     before = now;
@@ -597,13 +597,13 @@ static void close_refusals(void)
     now.table[NOT_KEPT + 1] = ROZHINAL_MARK_REFRESH;
     before = now;
     refused("close, an unstored figure marked refresh", rozhinal_close(LENT));
-    now.index[4]++;
+    now.idx[4]++;
     before = now;
     refused("close, a changed index besides", rozhinal_close(LENT));
     refused("close, a table of 54 bytes besides",
-            rozhinal_close(SHEET_SLICE, now.index, INDEX, now.table, TABLE - 1));
+            rozhinal_close(SHEET_SLICE, now.idx, INDEX, now.table, TABLE - 1));
     refused("close, an index of 21 bytes besides",
-            rozhinal_close(SHEET_SLICE, now.index, INDEX + 1, now.table, TABLE));
+            rozhinal_close(SHEET_SLICE, now.idx, INDEX + 1, now.table, TABLE));
     now.sheet[11] = 5;
     before = now;
     refused("close, a tag of 5 besides", rozhinal_close(LENT));
@@ -694,12 +694,12 @@ static void owed_refusals(void)
     for (size_t k = 0; k < sizeof lengths / sizeof *lengths; k++) {
         size_t length = lengths[k];
         printf("a table of %zu bytes: open bare %" PRIu64 ", open full %" PRIu64, length,
-               rozhinal_open_bare(SHEET_SLICE, now.index, INDEX, table, length).number,
-               rozhinal_open_full(SHEET_SLICE, now.index, INDEX, table, length).number);
-        rozhinal_open_bare(SHEET_SLICE, now.index, INDEX, table, TABLE);
+               rozhinal_open_bare(SHEET_SLICE, now.idx, INDEX, table, length).number,
+               rozhinal_open_full(SHEET_SLICE, now.idx, INDEX, table, length).number);
+        rozhinal_open_bare(SHEET_SLICE, now.idx, INDEX, table, TABLE);
         printf(", ask %" PRIu64 ", close %" PRIu64 "\n",
-               rozhinal_ask(SHEET_SLICE, now.index, INDEX, table, length, 0).number,
-               rozhinal_close(SHEET_SLICE, now.index, INDEX, table, length).number);
+               rozhinal_ask(SHEET_SLICE, now.idx, INDEX, table, length, 0).number,
+               rozhinal_close(SHEET_SLICE, now.idx, INDEX, table, length).number);
     }
     accepted("open bare", rozhinal_open_bare(LENT));
     accepted("post 0 1000", rozhinal_post(LENT, 0, ROZHINAL_NUMBER, 1000));
@@ -798,16 +798,16 @@ enum { LARGEST = ROZHINAL_MAX_ITEMS + 1 };
 
 /* Of an edition and a size; the bytes after those lent stay as they are. */
 struct large {
-    size_t count, sheet_len, index_len, table_len;
+    size_t count, sheet_len, idx_len, table_len;
     uint8_t sheet[ROZHINAL_MAX_SHEET_BYTES(LARGEST)];
-    uint8_t index[ROZHINAL_INDEX_BYTES(LARGEST)];
+    uint8_t idx[ROZHINAL_INDEX_BYTES(LARGEST)];
     uint8_t table[ROZHINAL_TABLE_BYTES(LARGEST)];
 };
 
 static struct large large, large_before, edition_1;
 
 #define LARGE                                                                                    \
-    large.sheet, large.sheet_len, large.index, large.index_len, large.table, large.table_len
+    large.sheet, large.sheet_len, large.idx, large.idx_len, large.table, large.table_len
 
 static void add(const uint8_t *bytes, size_t length)
 {
@@ -821,7 +821,7 @@ static void make_large(unsigned of_edition, size_t count)
     memset(&large, 0xEE, sizeof large);
     large.count = count;
     large.sheet_len = 0;
-    large.index_len = ROZHINAL_INDEX_BYTES(count);
+    large.idx_len = ROZHINAL_INDEX_BYTES(count);
     large.table_len = ROZHINAL_TABLE_BYTES(count);
     add((const uint8_t[]){ 1, 4, 0, (uint8_t)(of_edition & 0xFF), (uint8_t)(of_edition >> 8),
                            (uint8_t)(count & 0xFF), (uint8_t)(count >> 8) }, 7);
@@ -901,8 +901,8 @@ static void use_large(void)
     require(rozhinal_post(LARGE, 0, ROZHINAL_NUMBER, 11).number == 0, "a large post");
     require_reading(last / 2, 11, "a large ask after a close");
     require(memcmp(large.sheet, large_before.sheet, sizeof large.sheet) == 0, "a large sheet");
-    require(memcmp(large.index + large.index_len, large_before.index + large.index_len,
-                   sizeof large.index - large.index_len) == 0
+    require(memcmp(large.idx + large.idx_len, large_before.idx + large.idx_len,
+                   sizeof large.idx - large.idx_len) == 0
                 && memcmp(large.table + large.table_len, large_before.table + large.table_len,
                           sizeof large.table - large.table_len) == 0,
             "bytes after a large index or table");
@@ -939,7 +939,7 @@ static void the_limits(void)
         make_large(heads[k][0], heads[k][1]);
         /* More than there is room for is refused before index and table are looked at. */
         if (large.count > LARGEST)
-            large.index_len = large.table_len = 0;
+            large.idx_len = large.table_len = 0;
         large_before = large;
         rozhinal_answer bare = rozhinal_open_bare(LARGE), full = rozhinal_open_full(LARGE);
         printf("edition %u, %u items: open bare %" PRIu64 " %" PRIu64 ", open full %" PRIu64
@@ -989,17 +989,17 @@ static void null_pointers(void)
 {
     start();
     refused("no bytes at all", rozhinal_open_full(NULL, 0, NULL, 0, NULL, 0));
-    refused("no sheet", rozhinal_post(NULL, 0, now.index, INDEX, now.table, TABLE, 0, 1, 0));
+    refused("no sheet", rozhinal_post(NULL, 0, now.idx, INDEX, now.table, TABLE, 0, 1, 0));
     refused("no index", rozhinal_open_bare(SHEET_SLICE, NULL, 0, now.table, TABLE));
-    refused("no table", rozhinal_open_bare(SHEET_SLICE, now.index, INDEX, NULL, 0));
+    refused("no table", rozhinal_open_bare(SHEET_SLICE, now.idx, INDEX, NULL, 0));
     refused("no index and no table", answer_of(rozhinal_ask(SHEET_SLICE, NULL, 0, NULL, 0, 4)));
     printf("print into nothing: %" PRId64 "\n", rozhinal_print(ROZHINAL_NULL, 0, NULL, 0));
     refused("a board of nothing", rozhinal_board(NULL, 0, NULL, 0, NULL, 0, NULL, 0, NULL, 0));
     refused("a swap of nothing", rozhinal_swap(NULL, 0, NULL, 0, NULL, 0, 0, 1, 1));
     refused("a swap without a table",
-            rozhinal_swap(SHEET_SLICE, now.index, INDEX, NULL, 0, 0, 1, 1));
+            rozhinal_swap(SHEET_SLICE, now.idx, INDEX, NULL, 0, 0, 1, 1));
     refused("a close of nothing", rozhinal_close(NULL, 0, NULL, 0, NULL, 0));
-    refused("a close without a table", rozhinal_close(SHEET_SLICE, now.index, INDEX, NULL, 0));
+    refused("a close without a table", rozhinal_close(SHEET_SLICE, now.idx, INDEX, NULL, 0));
     accepted("open bare", rozhinal_open_bare(LENT));
     accepted("no items and no results", rozhinal_board(LENT, NULL, 0, NULL, 0));
     refused("no results", rozhinal_board(LENT, now.items, PAIR, NULL, 0));

@@ -56,11 +56,11 @@ static void only_read(uint8_t *bytes)
     only_read_all(bytes, PAGE);
 }
 
-#define LENT sheet, sizeof example, index, INDEX, table, TABLE
+#define LENT sheet, sizeof example, idx, INDEX, table, TABLE
 #define LISTS items, 2 * LISTED, results, 9 * LISTED
 
 /* Entry 0 has 1000, and entry 2 nothing. */
-static void check_swaps(const uint8_t *sheet, const uint8_t *index, uint8_t *table)
+static void check_swaps(const uint8_t *sheet, const uint8_t *idx, uint8_t *table)
 {
     require(rozhinal_swap(LENT, 0, 2, 400).number == 0, "swap");
     require(table[2] == (600 & 0xFF) && table[2 * 11 + 2] == (400 & 0xFF), "entries 0 and 2");
@@ -70,7 +70,7 @@ static void check_swaps(const uint8_t *sheet, const uint8_t *index, uint8_t *tab
 
 static void run(int at_end)
 {
-    uint8_t *sheet = slice(sizeof example, at_end), *index = slice(INDEX, at_end);
+    uint8_t *sheet = slice(sizeof example, at_end), *idx = slice(INDEX, at_end);
     uint8_t *table = slice(TABLE, at_end), *scratch = slice(ROZHINAL_PRINT_BYTES, at_end);
     uint8_t *items = slice(2 * LISTED, at_end), *results = slice(9 * LISTED, at_end);
     uint8_t *beyond = slice(2 * LISTED, at_end);
@@ -81,7 +81,7 @@ static void run(int at_end)
     only_read(sheet), only_read(items), only_read(beyond);
     require(rozhinal_open_full(LENT).number == 0, "open full");
     require(rozhinal_open_bare(LENT).number == 0, "open bare");
-    only_read(index);
+    only_read(idx);
     require(rozhinal_post(LENT, 0, ROZHINAL_NUMBER, 1000).number == 0, "post");
     require(rozhinal_keep(LENT, 4).number == 0, "keep");
     require(rozhinal_step(LENT, 0).number == 0, "step");
@@ -89,11 +89,11 @@ static void run(int at_end)
     require(results[0] == ROZHINAL_NUMBER && results[9 * 63 + 1] == (1000 & 0xFF), "results");
     require(rozhinal_drop(LENT, 4).number == 0, "drop");
     require(rozhinal_post(LENT, 1, ROZHINAL_NUMBER, 300).number == 0, "post");
-    check_swaps(sheet, index, table);
+    check_swaps(sheet, idx, table);
     require(rozhinal_board(LENT, beyond, 2 * LISTED, results, 9 * LISTED).number == 11, "item 5");
     require(rozhinal_board(LENT, items, 2 * LISTED - 1, results, 9 * LISTED).number == 17, "odd");
     require(rozhinal_board(LENT, items, 0, results, 0).number == 0, "an empty board");
-    require(rozhinal_close(sheet, sizeof example, index, INDEX, table, TABLE - 1).number == 8,
+    require(rozhinal_close(sheet, sizeof example, idx, INDEX, table, TABLE - 1).number == 8,
             "a refused close");
     require(rozhinal_close(LENT).number == 0, "close");
     require(table[TABLE - 11] == ROZHINAL_NUMBER && table[TABLE - 9] == (700 & 0xFF), "figure 4");
@@ -126,10 +126,10 @@ static void make_large(uint8_t *sheet, size_t n)
 }
 
 #define LARGE                                                                                    \
-    sheet, large_bytes(n), index, ROZHINAL_INDEX_BYTES(n), table, ROZHINAL_TABLE_BYTES(n)
+    sheet, large_bytes(n), idx, ROZHINAL_INDEX_BYTES(n), table, ROZHINAL_TABLE_BYTES(n)
 
 /* Every figure leans on entry 0, so that all are numbers. */
-static void use_large(const uint8_t *sheet, const uint8_t *index, uint8_t *table, size_t n,
+static void use_large(const uint8_t *sheet, const uint8_t *idx, uint8_t *table, size_t n,
                       const uint8_t *items, uint8_t *results)
 {
     require(rozhinal_post(LARGE, 0, ROZHINAL_NUMBER, 1000).number == 0, "a large post");
@@ -149,8 +149,8 @@ static void use_large(const uint8_t *sheet, const uint8_t *index, uint8_t *table
 /* On the board the last item stands at the front. */
 static void run_large(size_t n, int at_end)
 {
-    size_t sheet_len = large_bytes(n), index_len = ROZHINAL_INDEX_BYTES(n);
-    uint8_t *sheet = slice(sheet_len, at_end), *index = slice(index_len, at_end);
+    size_t sheet_len = large_bytes(n), idx_len = ROZHINAL_INDEX_BYTES(n);
+    uint8_t *sheet = slice(sheet_len, at_end), *idx = slice(idx_len, at_end);
     uint8_t *table = slice(ROZHINAL_TABLE_BYTES(n), at_end);
     uint8_t *items = slice(2 * LISTED, at_end), *results = slice(9 * LISTED, at_end);
     make_large(sheet, n);
@@ -161,8 +161,8 @@ static void run_large(size_t n, int at_end)
     only_read_all(sheet, sheet_len), only_read(items);
     require(rozhinal_open_full(LARGE).number == 0, "a large full opening");
     require(rozhinal_open_bare(LARGE).number == 0, "a large bare opening");
-    only_read_all(index, index_len);
-    use_large(sheet, index, table, n, items, results);
+    only_read_all(idx, idx_len);
+    use_large(sheet, idx, table, n, items, results);
 }
 
 int main(void)

@@ -31,12 +31,12 @@ static uint8_t *lend_again(const uint8_t *table, const char *named, const char *
     return bytes;
 }
 
-#define LENT(table) sheet, sizeof sheet, index, INDEX, table, TABLE
+#define LENT(table) sheet, sizeof sheet, idx, INDEX, table, TABLE
 
 int main(int count, char **arguments)
 {
     const char *named = count == 2 ? arguments[1] : "nothing";
-    uint8_t index[INDEX], *table = lend(TABLE, named, "table");
+    uint8_t idx[INDEX], *table = lend(TABLE, named, "table");
     uint8_t *items = lend(2 * LISTED, named, "items"), *results = lend(RESULTS, named, "results");
     uint64_t refused = rozhinal_open_bare(LENT(table)).number;
     refused |= rozhinal_board(LENT(table), items, 2 * LISTED, results, RESULTS).number;

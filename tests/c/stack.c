@@ -17,12 +17,12 @@ enum { LEVELS = ROZHINAL_MAX_LEVEL, PARENTS = ROZHINAL_MAX_PARENTS };
 enum { STACK = 1 << 20, PAINT = 0xA5 };
 
 static uint8_t sheet[ROZHINAL_MAX_SHEET_BYTES(ROZHINAL_MAX_ITEMS)];
-static uint8_t index[ROZHINAL_INDEX_BYTES(ROZHINAL_MAX_ITEMS)];
+static uint8_t idx[ROZHINAL_INDEX_BYTES(ROZHINAL_MAX_ITEMS)];
 static uint8_t table[ROZHINAL_TABLE_BYTES(ROZHINAL_MAX_ITEMS)];
 static size_t sheet_len, items, entries; /* at least two of them are entries */
 
 #define LENT                                                                                     \
-    sheet, sheet_len, index, ROZHINAL_INDEX_BYTES(items), table, ROZHINAL_TABLE_BYTES(items)
+    sheet, sheet_len, idx, ROZHINAL_INDEX_BYTES(items), table, ROZHINAL_TABLE_BYTES(items)
 
 static void put(size_t byte)
 {
