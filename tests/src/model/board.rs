@@ -91,14 +91,14 @@ mod tests {
     use super::super::value::LIMIT;
     use super::*;
 
-    struct Book {
+    struct Ledger {
         index: Vec<u8>,
         table: Vec<u8>,
     }
 
     /// The example with 1,000 and 300 posted.
-    fn posted() -> Book {
-        let mut b = Book { index: vec![7; 20], table: vec![7; 55] };
+    fn posted() -> Ledger {
+        let mut b = Ledger { index: vec![7; 20], table: vec![7; 55] };
         assert_eq!(open(false, &EXAMPLE, &mut b.index, &mut b.table), ACCEPTED);
         for (item, number) in [(0, 1_000), (1, 300)] {
             let post = Call::Post { item, kind: 3, number };
@@ -111,7 +111,7 @@ mod tests {
         items.iter().flat_map(|i| i.to_le_bytes()).collect()
     }
 
-    impl Book {
+    impl Ledger {
         fn board(&mut self, items: &[u8], results: &mut [u8]) -> Reply {
             board(&EXAMPLE, &self.index, &mut self.table, items, results)
         }

@@ -170,18 +170,18 @@ mod tests {
     use super::super::value::LIMIT;
     use super::*;
 
-    struct Book {
+    struct Ledger {
         index: Vec<u8>,
         table: Vec<u8>,
     }
 
-    fn book(full: bool) -> Book {
-        let mut b = Book { index: vec![7; 20], table: vec![7; 55] };
+    fn ledger(full: bool) -> Ledger {
+        let mut b = Ledger { index: vec![7; 20], table: vec![7; 55] };
         assert_eq!(open(full, &EXAMPLE, &mut b.index, &mut b.table), ACCEPTED);
         b
     }
 
-    impl Book {
+    impl Ledger {
         fn give(&mut self, c: Call) -> Reply {
             call(&c, &EXAMPLE, &self.index, &mut self.table)
         }
@@ -208,9 +208,9 @@ mod tests {
 
     #[test]
     fn openings_write_index_and_table() {
-        let (bare, full) = (book(false), book(true));
+        let (bare, full) = (ledger(false), ledger(true));
         assert_eq!(bare.index, [7, 0, 0, 0, 11, 0, 0, 0, 15, 0, 0, 0, 19, 0, 0, 0, 31, 0, 0, 0]);
-        let bytes = |b: &Book, at: usize| b.table.chunks(11).map(|r| r[at]).collect::<Vec<u8>>();
+        let bytes = |b: &Ledger, at: usize| b.table.chunks(11).map(|r| r[at]).collect::<Vec<u8>>();
         assert_eq!(bytes(&bare, 0), [1, 1, 1, 0, 0]);
         assert_eq!(bytes(&full, 0), [1; 5]);
         for at in 1..10 {
@@ -235,7 +235,7 @@ mod tests {
 
     #[test]
     fn refusals_8_to_10_in_order() {
-        let b = book(false);
+        let b = ledger(false);
         let ask = Call::Ask { item: 99 };
         let number =
             |index: &[u8], table: &[u8]| call(&ask, &EXAMPLE, index, &mut table.to_vec()).number;
@@ -263,7 +263,7 @@ mod tests {
 
     #[test]
     fn refusals_11_to_14_in_order() {
-        let mut b = book(false);
+        let mut b = ledger(false);
         for item in [5, 6, 65_536, 1 << 32, u64::MAX] {
             assert_eq!(b.refusal(post(item, 2, 0)), 11);
             assert_eq!(b.refusal(Call::Keep { item }), 11);
@@ -291,7 +291,7 @@ mod tests {
 
     #[test]
     fn a_call_at_a_time() {
-        let mut b = book(false);
+        let mut b = ledger(false);
         b.give(post(0, 3, 5));
         assert_eq!(b.record(0), (3, 2, 5, 0));
         b.give(Call::Keep { item: 3 });

@@ -86,14 +86,14 @@ mod tests {
     use super::super::value::LIMIT;
     use super::*;
 
-    struct Book {
+    struct Ledger {
         index: Vec<u8>,
         table: Vec<u8>,
     }
 
     /// The example, with a number or NULL for each entry.
-    fn posted(entries: [Option<i64>; 3]) -> Book {
-        let mut b = Book { index: vec![7; 20], table: vec![7; 55] };
+    fn posted(entries: [Option<i64>; 3]) -> Ledger {
+        let mut b = Ledger { index: vec![7; 20], table: vec![7; 55] };
         assert_eq!(open(false, &EXAMPLE, &mut b.index, &mut b.table), ACCEPTED);
         for (item, entry) in (0..).zip(entries) {
             let (kind, number) = entry.map_or((1, 0), |number| (3, number));
@@ -102,7 +102,7 @@ mod tests {
         b
     }
 
-    impl Book {
+    impl Ledger {
         fn post(&mut self, item: u64, kind: u64, number: i64) {
             let post = Call::Post { item, kind, number };
             assert_eq!(call(&post, &EXAMPLE, &self.index, &mut self.table), ACCEPTED);
@@ -135,9 +135,9 @@ mod tests {
             ([Some(-LIMIT), Some(LIMIT), None], 1, 0, 2 * LIMIT, -LIMIT, LIMIT),
         ] {
             let (mut one, mut two) = (posted(entries), posted(entries));
-            for book in [&mut one, &mut two] {
+            for ledger in [&mut one, &mut two] {
                 let ask = Call::Ask { item: 4 };
-                assert_eq!(call(&ask, &EXAMPLE, &book.index, &mut book.table).number, 0);
+                assert_eq!(call(&ask, &EXAMPLE, &ledger.index, &mut ledger.table).number, 0);
             }
             assert_eq!(one.swap(giver, taker, quantity), ACCEPTED);
             two.post(giver, 3, given);
