@@ -9,6 +9,7 @@ the maker to end in the midst of it, that process first changes what the maker c
 """
 
 import os
+import signal
 import subprocess
 import sys
 from pathlib import Path
@@ -54,9 +55,10 @@ def permissions_hold():
 
 
 def run(*words, change=None, limit=None, mask=None, plainly=False):
-    """Runs the maker, and gives its status and what it said."""
+    """Runs the maker, and gives its status and what it said. An interrupt counts, whatever it does here."""
 
     def prepare():
+        signal.signal(signal.SIGINT, signal.SIG_DFL)
         if limit is not None:
             import resource
 
