@@ -1,7 +1,7 @@
 # The targets of this repository; those for C programs are in use.mk. `make help` shows all of them.
 #
 #: make run         run the day program, on the example day and on a season   30 seconds (*)
-#: make check       the gate: layout, proofs, must-fail edits, tests, speed   33 minutes
+#: make check       the gate: layout, proofs, must-fail edits, tests, speed   35 minutes
 #: make picture     draw the season as docs/season.svg; Graphviz is needed    2 seconds (*)
 .PHONY: run check picture
 
