@@ -1,4 +1,6 @@
 // What every call does first and last: the tests of what is lent (1 to 10) and of the item (11 and 12), and the answer.
+#![tactic(auto)]
+
 ghost use Rattle.std.specs.Prelude.{◌≡◌, ◌*◌, ◌≤◌, ◌<◌, length, false, ◌&&◌, [], ◌∷◌};
 ghost use Rattle.layout.specs.Room.{Room};
 ghost use Rattle.layout.specs.Opened.{sheet_of};
@@ -12,14 +14,14 @@ use sheet::Checked;
 
 // What a call gives: 0, or the number of the cause for which it is refused, and the offset of a sheet's fault.
 #[repr(C)]
-#[derive(Drop)]
+#[derive(Clone, Copy)]
 pub struct Answer {
     pub number: u64,
     pub offset: u64,
 }
 
 // How many items the sheet has, or the number and the offset of the first cause.
-#[derive(Drop)]
+#[derive(Clone, Copy)]
 pub enum Admitted {
     Items(usize),
     Refused { number: u64, offset: usize },

@@ -1,4 +1,6 @@
 // The call ask.
+#![tactic(auto)]
+
 ghost use Rattle.std.specs.Prelude.{◌≡◌, true, false, List, ℕ, ◌+◌, ◌*◌, ◌<◌, ◌≤◌, length, pos};
 ghost use Rattle.circuit.specs.Sheet.{size};
 ghost use Rattle.circuit.specs.Machine as machine;
@@ -18,7 +20,7 @@ use value::Value;
 
 // What an ask gives: an answer, and the kind and the number of the item's value.
 #[repr(C)]
-#[derive(Drop)]
+#[derive(Clone, Copy)]
 pub struct Reading {
     pub number: u64,
     pub offset: u64,

@@ -1,4 +1,6 @@
 // The call board: the values of up to 64 items, with one catching up and one memo for all of them.
+#![tactic(auto)]
+
 ghost use Rattle.std.specs.Prelude.{◌≡◌, true, false, List, ℕ, ◌+◌, ◌*◌, ◌/◌, ◌<◌, ◌≤◌, length, get_or};
 ghost use Rattle.circuit.specs.Value.{kind_of, number_of};
 ghost use Rattle.circuit.specs.Sheet.{Sheet, size};

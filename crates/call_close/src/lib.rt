@@ -1,5 +1,7 @@
 // The call close, which is the season-close run: one pass over the items, lowest first, in the lent table. A figure is worked out
 // from its parents' records, which the pass has already written: nothing is looked up, remembered or told.
+#![tactic(auto)]
+
 ghost use Rattle.std.specs.Prelude.{◌≡◌, true, List, ℕ, ◌+◌, ◌*◌, ◌<◌, ◌≤◌, length, set};
 ghost use Rattle.circuit.specs.Rules.{max_parents};
 ghost use Rattle.circuit.specs.Value.{kind_of, number_of};

@@ -1,4 +1,6 @@
 // The calls keep and drop.
+#![tactic(auto)]
+
 ghost use Rattle.std.specs.Prelude.{◌≡◌, true, false, List, ℕ, ◌<◌, ◌≤◌, length};
 ghost use Rattle.circuit.specs.Sheet.{size, item_at, is_figure};
 ghost use Rattle.circuit.specs.Table.{is_stored};

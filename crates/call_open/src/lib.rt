@@ -1,4 +1,6 @@
 // The openings: a sheet is tested, and its index and table are written.
+#![tactic(auto)]
+
 ghost use Rattle.std.specs.Prelude.{◌≡◌, false, ◌*◌, ◌<◌, ◌≤◌, length};
 ghost use Rattle.circuit.specs.Table.{opened};
 ghost use Rattle.layout.specs.Opened.{sheet_of};

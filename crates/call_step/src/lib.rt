@@ -1,4 +1,6 @@
 // The call step.
+#![tactic(auto)]
+
 ghost use Rattle.std.specs.Prelude.{◌≡◌, true, false, List, [], ◌∷◌, ℕ, ◌*◌, ◌<◌, ◌≤◌, length, leb};
 ghost use Rattle.circuit.specs.Sheet.{size};
 ghost use Rattle.circuit.specs.Machine as machine;

@@ -1,4 +1,6 @@
 // The call swap.
+#![tactic(auto)]
+
 ghost use Rattle.std.specs.Prelude.{◌≡◌, true, List, ℕ};
 ghost use Rattle.circuit.specs.Value.{well_formed};
 ghost use Rattle.circuit.specs.Swap as machine_swap;
@@ -17,7 +19,7 @@ use admission::{Admitted, Answer};
 use value::Value;
 
 // What the giver is left with and what the taker comes to, or that either is beyond the range (13).
-#[derive(Drop)]
+#[derive(Clone, Copy)]
 enum Results {
     Within { left: i64, come: i64 },
     Beyond,

@@ -1,5 +1,7 @@
 // The openings and the calls, each with the scratch arrays that its sheet asks for: for 128 items, 1,024 or 4,096, by the item count that
 // the first field says. A sheet that says more is refused with the largest.
+#![tactic(auto)]
+
 ghost use Rattle.std.specs.Prelude.{◌≡◌, ◌≤◌};
 ghost use Rattle.layout.specs.Room.{room_for};
 ghost use Rattle.circuit.specs.Call as machine_call;

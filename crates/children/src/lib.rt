@@ -1,6 +1,8 @@
 // The child lists of a sheet, in two arrays. Edge MAX_PARENTS * c + k stands for the parent that item c lists in place k. `heads` holds,
 // for each item, the edge of its lowest child, and `links`, for each edge, the edge of the next child of the same parent.
 // 0 ends a list: item 0 has no parents.
+#![tactic(auto)]
+
 ghost use Rattle.std.specs.Prelude.{◌≡◌, ℕ, ◌<◌, ◌≤◌, ◌+◌, ◌*◌, length, get_or};
 ghost use Rattle.circuit.specs.Rules.{max_parents};
 ghost use Rattle.circuit.specs.Sheet.{size, parents_of};

@@ -153,6 +153,9 @@ module _ (S : Sheet) (ordered : Ordered S) (es : List ℕ) (E : Entries) (m : �
           go (unk false) h (away f) =
               view_at S ordered T k h ∙ ap (λ r. seen r.value (r.flag || false)) (known f)
           go (held v unmarked) h there = view_at S ordered T k h
+          go (unk true) h impossible = elim impossible [ ]
+          go (held v refresh) h impossible = elim impossible [ ]
+          go (held v notice) h impossible = elim impossible [ ]
 
   fill_further : (T U : Table) → Confined T → Fill S T U → Further T U
   fill_further T U confined fill k low outside = go (T k) refl (confined k low outside) (fill k)

@@ -1,4 +1,6 @@
 // The day program on lent bytes.
+#![tactic(auto)]
+
 ghost use Rattle.std.specs.Prelude.{◌≡◌, suc, ◌≤◌, length};
 ghost use Rattle.printer.specs.Printing.{text_of};
 ghost use Rattle.value.specs.Meaning.{parts_of};

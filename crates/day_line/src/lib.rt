@@ -1,4 +1,6 @@
 // Text appended to the output bytes from a place on, as far as it fits. Each function gives the place after it.
+#![tactic(auto)]
+
 ghost use Rattle.std.specs.Prelude.{◌≡◌, ◌≤◌, min, length};
 ghost use Rattle.decimal.specs.Decimal.{digits};
 ghost use Rattle.printer.specs.Printing.{text_of};

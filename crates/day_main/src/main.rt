@@ -1,4 +1,6 @@
 // The day program: reads a sheet and a day log from the files sheet.bin and day.bin, and prints the day's lines.
+#![tactic(auto)]
+
 ghost use Rattle.std.specs.Prelude.{◌≡◌, length};
 ghost use Rattle.io.specs.Counts.{IsPrefixLen};
 ghost use Rattle.day_meaning.specs.Day.{file_limit, run_day};

@@ -1,4 +1,6 @@
 // The fields of a day log.
+#![tactic(auto)]
+
 ghost use Rattle.std.specs.Prelude.{◌≡◌};
 ghost use Rattle.day_meaning.specs.Orders.{order_of, post_in};
 ghost use Rattle.day_order.specs.Orders.{ordered_meaning};
@@ -27,7 +29,7 @@ const KIND_AT: usize = 2;
 const NUMBER_AT: usize = 3;
 
 // A call that a field orders.
-#[derive(Drop)]
+#[derive(Clone, Copy)]
 pub enum Order {
     Post { item: u64, kind: u64, number: i64 },
     Ask(u64),
@@ -37,7 +39,7 @@ pub enum Order {
 }
 
 // What a whole field is.
-#[derive(Drop)]
+#[derive(Clone, Copy)]
 pub enum Ordered {
     Sound(Order),
     Fault,

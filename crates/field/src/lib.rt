@@ -1,5 +1,7 @@
 // Cutting bytes into fields: a tag (1 byte), a length (2 bytes, little-endian) and that many content bytes.
 // The work is in `cut_at`, on a slice and an offset. `Reader` holds the two, and `field_at` is what callers use.
+#![tactic(auto)]
+
 ghost use Rattle.std.specs.Prelude.{◌≡◌, ◌+◌, ◌≤◌, ◌<◌, length};
 ghost use Rattle.field.specs.Field.{cut_at, le16_at};
 
@@ -7,7 +9,7 @@ ghost use Rattle.field.specs.Field.{cut_at, le16_at};
 pub const HEADER_LENGTH: usize = 3;
 
 // What stands at an offset.
-#[derive(Drop)]
+#[derive(Clone, Copy)]
 pub enum Cut {
     // A whole field: its content is the len bytes from start, and next is the offset past it.
     Field {
@@ -64,7 +66,7 @@ pub fn cut_at(s: &[u8], at: usize) -> Cut
 }
 
 // Bytes and an offset in them.
-#[derive(Drop)]
+#[derive(Clone, Copy)]
 pub struct Reader<'a> {
     pub src: &'a [u8],
     pub at: usize,

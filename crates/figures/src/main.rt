@@ -1,4 +1,6 @@
 // The figures to check, and shares at both ends of the range, worked out by the code of the rules: a line for each.
+#![tactic(auto)]
+
 ghost use Rattle.std.specs.Prelude.{◌≡◌, true, ◌≤◌};
 ghost use Rattle.value.specs.Meaning.{meaning};
 ghost use Rattle.rules.specs.Operations.{operation_meaning, refuses, allows, Applied};

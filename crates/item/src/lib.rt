@@ -1,6 +1,8 @@
 // The items of a sheet that opens, read from their fields, and the index.
 // A field is a tag, two length bytes and its content. A figure's content is rule, keep, spread and parent count, two bytes
 // a parent, and the name.
+#![tactic(auto)]
+
 ghost use Rattle.std.specs.Prelude.{◌≡◌, true, ◌<◌, ◌≤◌, ◌+◌, ◌*◌, length, get_or, take};
 ghost use Rattle.circuit.specs.Sheet as circuit;
 ghost use Rattle.circuit.specs.WellFormed.{all_well_formed};
@@ -14,7 +16,7 @@ use limits::{FIGURE_TAG, INDEX_WIDTH, PARENT_WIDTH};
 use value::{MAX_PARENTS, Value};
 
 // What a stored figure does when a parent's change is told.
-#[derive(Drop)]
+#[derive(Clone, Copy)]
 pub enum Spread {
     Defer,
     Renew,

@@ -1,4 +1,6 @@
 // The tags, places and limits of the layout, each once. The contracts hold the limits to those of the definitions.
+#![tactic(auto)]
+
 ghost use Rattle.std.specs.Prelude.{◌≡◌};
 ghost use Rattle.layout.specs.Layout.{edition_known, item_limit, count_allowed, keep_allowed, spread_limit, spread_allowed, name_byte};
 

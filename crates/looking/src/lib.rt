@@ -1,4 +1,6 @@
 // Looking up and working out. The two call each other up the circuit: parents have lower numbers.
+#![tactic(auto)]
+
 ghost use Rattle.std.specs.Prelude.{◌≡◌, true, false, ◌||◌, ℕ, ◌+◌, ◌*◌, ◌<◌, ◌≤◌, length, set};
 ghost use Rattle.std.proofs.Math.Option.{some};
 ghost use Rattle.circuit.specs.Rules.{max_parents};

@@ -1,5 +1,7 @@
 // What a pass of look-ups remembers, so that each unstored figure is worked out once in it. Two arrays lent by the call have,
 // for each item, a tag (the generation of the pass, and the value's kind and flag) and a number.
+#![tactic(auto)]
+
 ghost use Rattle.std.specs.Prelude.{◌≡◌, ◌<◌, length, set};
 ghost use Rattle.circuit.specs.Value.{number_of};
 ghost use Rattle.value.specs.Meaning.{meaning};
@@ -8,13 +10,13 @@ ghost use Rattle.memo.specs.Memo.{seen_meaning, recall_meaning, remembered, tag_
 use value::Value;
 
 // What looking up an item gives: its value, and whether it is flagged.
-#[derive(Drop)]
+#[derive(Clone, Copy)]
 pub struct Seen {
     pub value: Value,
     pub flag: bool,
 }
 
-#[derive(Drop)]
+#[derive(Clone, Copy)]
 pub enum Recall {
     Known(Seen),
     Unknown,

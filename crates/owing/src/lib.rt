@@ -1,6 +1,8 @@
 // The owed bytes of the work table. Which items are owed comes by one pass over the items and their parents, highest first, into a lent array
 // with a byte for each item; the bytes of a table are tested by such an array, and written from one. What the array holds before counts
 // for nothing, and what it holds afterwards is left free.
+#![tactic(auto)]
+
 ghost use Rattle.std.specs.Prelude.{◌≡◌, true, ℕ, ◌+◌, ◌*◌, ◌<◌, ◌≤◌, eqb, length, get_or};
 ghost use Rattle.circuit.specs.Sheet.{size, parents_of};
 ghost use Rattle.circuit.specs.Owed.{leaning};

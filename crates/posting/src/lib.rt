@@ -1,4 +1,6 @@
 // The storing of a posting in an entry, which the calls that post have in common.
+#![tactic(auto)]
+
 ghost use Rattle.std.specs.Prelude.{◌≡◌, ◌+◌, ◌*◌, ◌≤◌, length};
 ghost use Rattle.circuit.specs.Machine as machine;
 ghost use Rattle.value.specs.Meaning.{meaning};

@@ -1,4 +1,6 @@
 // Prints a fixed set of values, what turns the printer back, and the digits of numbers on both sides of each power of ten.
+#![tactic(auto)]
+
 ghost use Rattle.std.specs.Prelude.{◌≡◌, ◌≤◌, length};
 ghost use Rattle.printer.specs.Printing.{part_of};
 ghost use Rattle.field.specs.Bytes.{over};

@@ -1,4 +1,6 @@
 // Printing a value at the front of lent scratch bytes.
+#![tactic(auto)]
+
 ghost use Rattle.std.specs.Prelude.{◌≡◌, ◌≤◌, length, nat_abs};
 ghost use Rattle.value.specs.Meaning.{meaning};
 ghost use Rattle.decimal.specs.Decimal.{decimal};
@@ -8,7 +10,7 @@ ghost use Rattle.printer.specs.Contract.{Front, Prints, PrintsCode};
 use value::{Amount, Parts, Value};
 
 // The printer's answer: the length of the part that it has written, or the number of what turned it back.
-#[derive(Drop)]
+#[derive(Clone, Copy)]
 pub enum Printed {
     Length(usize),
     Refused(u64),

@@ -1,5 +1,7 @@
 // The functions that a C program calls: the openings, the eight calls and the printer, with numbers and byte slices. A slice is a
 // pointer and a length in C; include/rozhinal.h declares them. Each is one call of the function that does the work.
+#![tactic(auto)]
+
 ghost use Rattle.circuit.specs.Call as call;
 ghost use Rattle.circuit.specs.Call.{bare, full};
 ghost use Rattle.office.specs.Office.{open_on, call_on, keeping};

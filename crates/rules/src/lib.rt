@@ -1,4 +1,6 @@
 // The eight rules of the figures: the operation of a rule code, and its result on the parents' values in their listed order.
+#![tactic(auto)]
+
 ghost use Rattle.std.specs.Prelude.{◌≡◌, true, ◌&&◌, ◌||◌, [], ◌∷◌, ◌≤◌, ◌<◌, ◌+◌, ◌*◌, ◌/◌, pos, ◌-ℤ◌, ◌*ℤ◌};
 ghost use Rattle.std.specs.Int.Signed.{le_z};
 ghost use Rattle.circuit.specs.Value as circuit;
@@ -12,7 +14,7 @@ use value::{Amount, MAX_PARENTS, Value};
 // A share is counted in parts of this whole.
 const WHOLE: u64 = 10_000;
 
-#[derive(Drop)]
+#[derive(Clone, Copy)]
 pub enum Operation {
     Sum,
     Difference,

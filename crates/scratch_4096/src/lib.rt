@@ -4,6 +4,8 @@
 // Each calls itself if the sheet says another item count after the call than before it, which is proved never to be: a sheet is lent for
 // reading. LLVM does not know that, and does not inline a function that calls itself; so the arrays of a size are on the stack only while
 // a sheet of that size is worked on.
+#![tactic(auto)]
+
 ghost use Rattle.std.specs.Prelude.{◌≤◌};
 ghost use Rattle.circuit.specs.Call as machine_call;
 ghost use Rattle.layout.specs.Room.{room_for};

@@ -1,4 +1,6 @@
 // Sheets: the check of a sheet's bytes.
+#![tactic(auto)]
+
 ghost use Rattle.std.specs.Prelude.{◌≡◌, ◌&&◌, List, ◌+◌, ◌*◌, ◌≤◌, max, length};
 ghost use Rattle.circuit.specs.Calls.{first_cause};
 ghost use Rattle.layout.specs.Layout.{figure_tag, parent_width, rule_allowed, keep_allowed, spread_allowed, name_allowed};
@@ -17,14 +19,14 @@ use limits::{
 use rules::Operation;
 
 // What the check of a sheet gives: its edition and item count, or the number and the offset of its first fault.
-#[derive(Drop)]
+#[derive(Clone, Copy)]
 pub enum Checked {
     Opens { edition: usize, count: usize },
     Refused { number: u64, offset: usize },
 }
 
 // What the check of an item's field gives: the item's level, or the number of the lowest cause.
-#[derive(Drop)]
+#[derive(Clone, Copy)]
 pub enum Judged {
     Sound { level: u8 },
     Fault { number: u64 },

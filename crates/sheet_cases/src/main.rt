@@ -1,6 +1,8 @@
 // Checks the sheets of standard input, and writes a line for each: its edition, its item count and the places of its items
 // (offset/level; of more than eight items the first eight and the last), or the number and the offset of its fault.
 // A case is two fields: a label and a sheet.
+#![tactic(auto)]
+
 ghost use Rattle.std.specs.Prelude.{◌≡◌, ◌≤◌, ◌<◌, length};
 ghost use Rattle.layout.specs.Layout.{most_items};
 ghost use Rattle.sheet_cases.specs.Cases.{case_at, Checks, Runs};

@@ -1,4 +1,6 @@
 // Stepping an item, and stepping every marked item in one ascending pass, which is catching up. Telling goes by an array of what is owed.
+#![tactic(auto)]
+
 ghost use Rattle.std.specs.Prelude.{◌≡◌, true, false, ◌+◌, ◌*◌, ◌<◌, ◌≤◌, length};
 ghost use Rattle.circuit.specs.Sheet.{size};
 ghost use Rattle.circuit.specs.Machine.{clear_cell, clear_mark, step_item, catch_up};

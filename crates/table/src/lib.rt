@@ -1,4 +1,6 @@
 // The work table in bytes, a record for each item: kind, mark, number and owed. The form of the first three, and reading and storing one cell.
+#![tactic(auto)]
+
 ghost use Rattle.std.specs.Prelude.{◌≡◌, ◌+◌, ◌*◌, ◌≤◌, length};
 ghost use Rattle.std.proofs.lemmas.List.Edits.{sets};
 ghost use Rattle.circuit.specs.Table.{value_in, mark_of, is_marked, is_notice};
@@ -13,14 +15,14 @@ use value::Value;
 // How many bytes an item has.
 pub const WIDTH: usize = 11;
 
-#[derive(Drop)]
+#[derive(Clone, Copy)]
 pub enum Mark {
     Unmarked,
     Refresh,
     Notice,
 }
 
-#[derive(Drop)]
+#[derive(Clone, Copy)]
 pub enum Cell {
     // UNK: nothing stored; true if its mark is notice.
     Unk(bool),

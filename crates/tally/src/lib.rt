@@ -1,4 +1,6 @@
 // The rules for any number of parents: sum, smallest, largest and count. A tally takes the values in one after the other.
+#![tactic(auto)]
+
 ghost use Rattle.std.specs.Prelude.{◌≡◌, true, ◌≤◌, ◌+ℤ◌};
 ghost use Rattle.std.specs.Int.{w64};
 ghost use Rattle.std.proofs.Common.{SFits};
@@ -11,7 +13,7 @@ ghost use Rattle.tally.specs.Tally.{Room, empty, counted, taken, taken_all, rule
 use value::{Amount, MAX_PARENTS, Value};
 
 // What the rules for any number of parents take from their values.
-#[derive(Drop)]
+#[derive(Clone, Copy)]
 pub struct Tally {
     // whether any is OUT
     out: bool,

@@ -1,4 +1,6 @@
 // Telling the children of an item.
+#![tactic(auto)]
+
 ghost use Rattle.std.specs.Prelude.{◌≡◌, true, ◌<◌};
 ghost use Rattle.circuit.specs.Sheet.{size, item_at, is_figure};
 ghost use Rattle.circuit.specs.Machine.{work_out, renewed, refresh_cleared};
@@ -18,7 +20,7 @@ use table::{Cell, Mark};
 use value::{MAX_PARENTS, Value};
 
 // What a stored child does when it is told: it is to be refreshed, or is worked out anew.
-#[derive(Drop)]
+#[derive(Clone, Copy)]
 pub enum Told {
     Refreshes,
     Renews,

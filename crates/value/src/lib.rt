@@ -1,10 +1,12 @@
 // A value: NULL, OUT or a number within the range, and the kind and number that it is taken apart into.
+#![tactic(auto)]
+
 ghost use Rattle.std.specs.Prelude.{◌≡◌, ◌<◌};
 ghost use Rattle.circuit.specs.Rules.{max_parents};
 ghost use Rattle.circuit.specs.Value as circuit;
 ghost use Rattle.value.specs.Meaning.{meaning, parts_meaning, value_at};
 
-#[derive(Drop)]
+#[derive(Clone, Copy)]
 pub enum Amount {
     // NULL: nothing recorded
     Null,
@@ -14,7 +16,7 @@ pub enum Amount {
 }
 
 // UNK is none of these: a value is never missing.
-#[derive(Drop)]
+#[derive(Clone, Copy)]
 pub struct Value {
     pub amount: Amount,
 }
@@ -35,7 +37,7 @@ pub fn in_range(n: i64) -> bool
 pub const MAX_PARENTS: usize = 16;
 
 // What a kind and a number give: a value, or nothing where they are not in form.
-#[derive(Drop)]
+#[derive(Clone, Copy)]
 pub enum Parts {
     Formed(Value),
     Unformed,

@@ -1,0 +1,10 @@
+
+use Prim.Native.Nat.{◌-◌}
+use Rattle.call_close.proofs.Closing.{Closing}
+use Rattle.call_close.proofs.close_all.Given as goal
+
+abbrev pub invariant-loop-i : goal.invariant-loop-i
+invariant-loop-i l = Closing l.sheet l.offsets l.initial.table l.table l.i l.initial.i
+
+abbrev pub decreases-loop-i : goal.decreases-loop-i
+decreases-loop-i l = l.table - l.i

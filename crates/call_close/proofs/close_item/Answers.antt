@@ -1,0 +1,9 @@
+
+use Rattle.call_close.proofs.Closing.{closed_stored}
+use Rattle.call_close.proofs.close_item.Goals as goal
+
+pub returns : goal.returns
+returns c =
+    let s = c in
+    let e = c in
+    closed_stored e.requires.0 e.args.i e.requires.1 _ s.closed_value-value.ensures _ s.store_cell.ensures

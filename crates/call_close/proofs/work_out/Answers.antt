@@ -1,0 +1,52 @@
+
+use mathlib.Core.Path.{refl}
+use native.Mathlib.Omega.{arith}
+use Rattle.circuit.specs.Rules.{max_parents}
+use Rattle.item.proofs.Located.{located_field}
+use Rattle.looking.proofs.FigureAt.{figure_field_lem, figure_is, parent_there, parents_counted}
+use Rattle.call_close.proofs.Gathering.{gathering_start, gathering_fits, gathering_next, gathering_formed, gathering_done}
+use Rattle.call_close.proofs.work_out.Goals as goal
+
+pub parent_count-count-requires : goal.parent_count-count-requires
+parent_count-count-requires c =
+    let e = c in
+    located_field e.args.sheet.now e.args.offsets.now e.requires.0.located e.args.i e.requires.1.0
+
+pub loop-k-init : goal.loop-k-init
+unfolding max_parents
+loop-k-init c =
+    let q = c.requires in
+    gathering_start q.0 q.1.0 q.1.1 _ c.parent_count-count.ensures _ _ refl refl
+
+pub parent-p-requires : goal.parent-p-requires
+parent-p-requires c =
+    let field = c.loop-k.invariant.field in
+    (figure_field_lem field, parent_there field _ c.loop-k-test.true)
+
+pub gather-requires : goal.gather-requires
+gather-requires c =
+    let p = c in
+    let inv = p.loop-k.invariant in (
+      gathering_fits inv _ p.parent-p.ensures p.loop-k-test.true,
+      omega (arith, inv.field.count_most, p.loop-k-test.true),
+    )
+
+pub loop-k-smaller : goal.loop-k-smaller
+loop-k-smaller c =
+    omega (arith, c.loop-k-test.true)
+
+pub loop-k-preserved : goal.loop-k-preserved
+loop-k-preserved c =
+    let p = c in
+    gathering_next p.loop-k.invariant _ p.parent-p.ensures p.loop-k-test.true _ _ c.gather.ensures.0 c.gather.ensures.1
+
+pub evaluate-requires : goal.evaluate-requires
+evaluate-requires c =
+    let x = c in
+    let inv = x.loop-k.invariant in
+    (figure_field_lem inv.field, (figure_is inv.field, (parents_counted inv.field, gathering_formed inv x.loop-k-test.false)))
+
+pub returns : goal.returns
+returns c =
+    let x = c in
+    gathering_done x.loop-k.invariant x.loop-k-test.false _ c.evaluate.ensures

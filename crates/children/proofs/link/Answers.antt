@@ -1,0 +1,92 @@
+-- `children::link` meets its contract. The loop's invariant: the lists are those of the items from c on. Assumes nothing.
+use native.Mathlib.Omega.{arith}
+use Rattle.circuit.specs.Rules.{max_parents}
+use Rattle.layout.specs.Layout.{item_limit, most_items}
+use Rattle.item.proofs.Located.{size_most, size_limit}
+use Rattle.children.proofs.Building.{built_start, item_there, parents_low, built_next, built_lengths, built_done}
+use Rattle.children.proofs.link.Goals as goal
+
+pub loop-c-init : goal.loop-c-init
+loop-c-init c =
+    let a = c.args in
+    built_start a.s.now a.heads-1.now a.links-1.now a.n
+
+pub overflow_sub-c : goal.overflow_sub-c
+overflow_sub-c c =
+    omega arith
+
+pub offset_bounds-offsets-c : goal.offset_bounds-offsets-c
+offset_bounds-offsets-c c =
+    let a = c in
+    omega (arith, size_most a.args.s.now, a.requires.1.0, c.loop-c.invariant.within)
+
+pub bounds-offsets-c : goal.bounds-offsets-c
+bounds-offsets-c c =
+    let a = c in
+    omega (arith, a.requires.1.1.0, c.loop-c.invariant.within)
+
+pub overflow_mul-c : goal.overflow_mul-c
+overflow_mul-c c =
+    let a = c in
+    omega (arith, size_most a.args.s.now, a.requires.1.0, c.loop-c.invariant.within)
+
+pub link_places-requires : goal.link_places-requires
+unfolding max_parents
+link_places-requires c =
+    let a = c in
+    let l = c.loop-c in
+    let more = c.loop-c-test.true in
+    let kept = built_lengths l.invariant in (
+      item_there a.args.s.now a.args.offsets.now a.requires.0 a.requires.1.0 l.invariant.within more,
+      (
+        parents_low a.args.s.now a.args.offsets.now a.requires.0 a.requires.1.0 l.invariant.within more l.heads-1 (omega (arith, a.requires.1.1.1.0, kept.0)),
+        omega
+            (arith, a.requires.1.1.1.1, kept.1, l.invariant.within),
+      ),
+    )
+
+pub overflow_mul-c-in-loop-c : goal.overflow_mul-c-in-loop-c
+overflow_mul-c-in-loop-c c =
+    let a = c in
+    omega (arith, size_most a.args.s.now, a.requires.1.0, c.loop-c.invariant.within)
+
+pub head_places-requires : goal.head_places-requires
+unfolding max_parents most_items item_limit
+head_places-requires c =
+    let a = c in
+    let l = c.loop-c in
+    let more = c.loop-c-test.true in
+    let kept = built_lengths l.invariant in (
+      item_there a.args.s.now a.args.offsets.now a.requires.0 a.requires.1.0 l.invariant.within more,
+      (
+        parents_low a.args.s.now a.args.offsets.now a.requires.0 a.requires.1.0 l.invariant.within more l.heads-1 (omega (arith, a.requires.1.1.1.0, kept.0)),
+        omega
+            (arith, size_limit a.args.s.now, a.requires.1.0, l.invariant.within),
+      ),
+    )
+
+pub loop-c-smaller : goal.loop-c-smaller
+loop-c-smaller c =
+    omega (arith, c.loop-c-test.true)
+
+pub loop-c-preserved : goal.loop-c-preserved
+unfolding max_parents
+loop-c-preserved c =
+    let a = c in
+    let l = c.loop-c in
+    built_next a.args.s.now a.args.offsets.now a.requires.0 a.requires.1.0 l.invariant.within
+    c.loop-c-test.true a.args.heads.now a.args.links.now l.heads-1
+    l.links-1 _ _ l.invariant c.link_places.ensures c.head_places.ensures
+
+pub shape_of-heads : goal.shape_of-heads
+shape_of-heads c =
+    (built_lengths c.loop-c.invariant).0
+
+pub shape_of-links : goal.shape_of-links
+shape_of-links c =
+    (built_lengths c.loop-c.invariant).1
+
+pub returns : goal.returns
+returns c =
+    let a = c in
+    built_done c.loop-c.invariant a.requires.1.0 (omega (arith, c.loop-c-test.false))

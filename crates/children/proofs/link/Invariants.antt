@@ -1,0 +1,9 @@
+-- `children::link` meets its contract. The loop's invariant: the lists are those of the items from c on. Assumes nothing.
+use Rattle.children.proofs.Building.{Built}
+use Rattle.children.proofs.link.Given as goal
+
+abbrev pub invariant-loop-c : goal.invariant-loop-c
+invariant-loop-c l = Built l.s l.initial.heads l.heads l.n l.c l.links l.initial.c
+
+abbrev pub decreases-loop-c : goal.decreases-loop-c
+decreases-loop-c l = l.c

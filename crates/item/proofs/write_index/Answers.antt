@@ -1,0 +1,53 @@
+-- `item::write_index` meets its contract. The loop's invariant: the entries written are those of the first k offsets. Assumes nothing.
+use native.Mathlib.Omega.{arith}
+use mathlib.Core.Path.{refl, ap, ◌∙◌}
+use Prim.Native.Nat.{◌+◌, ◌*◌}
+use lib.ListN.{length, take, get_or}
+use Rattle.layout.specs.Layout.{index_width}
+use Rattle.item.specs.Offsets.{offset_bytes}
+use Rattle.item.proofs.Offsets.{put_length, write_next, write_done}
+use Rattle.item.proofs.write_index.Goals as goal
+
+pub loop-written-init : goal.loop-written-init
+unfolding offset_bytes
+loop-written-init c =
+    (omega arith, omega arith, refl)
+
+pub overflow_mul-written : goal.overflow_mul-written
+overflow_mul-written c = omega arith
+
+pub offset_bounds-offsets-written : goal.offset_bounds-offsets-written
+offset_bounds-offsets-written c = omega arith
+
+pub bounds-offsets-written : goal.bounds-offsets-written
+bounds-offsets-written c = omega arith
+
+pub put_offset-requires : goal.put_offset-requires
+put_offset-requires c = omega arith
+
+pub overflow_add-written : goal.overflow_add-written
+overflow_add-written c = omega arith
+
+pub loop-written-smaller : goal.loop-written-smaller
+loop-written-smaller c = omega arith
+
+pub loop-written-preserved : goal.loop-written-preserved
+loop-written-preserved c =
+    let a = c in
+    let l = c.loop-written in
+    let offsets = a.args.offsets.now in
+    let e = c.put_offset.ensures in (
+      omega arith,
+      ap length e ∙ put_length l.index-1 (index_width * l.written) (get_or offsets l.written 0) ∙ l.invariant.1,
+      ap (take (index_width * (l.written + 1))) e ∙ write_next offsets l.index-1 l.written (omega arith) (omega arith) l.invariant.2,
+    )
+
+pub shape_of-index : goal.shape_of-index
+shape_of-index c =
+    omega arith
+
+pub returns : goal.returns
+returns c =
+    let a = c in
+    let l = c.loop-written in
+    write_done a.args.offsets.now l.index-1 l.written a.args.n (omega arith) l.invariant.1 l.invariant.2

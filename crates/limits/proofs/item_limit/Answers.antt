@@ -1,0 +1,12 @@
+-- `limits::item_limit` meets its contract. Assumes nothing.
+use borrow.Author.Tests.{eq-eqb, ne_eqb}
+use Rattle.layout.specs.Layout.{item_limit}
+use Rattle.limits.proofs.item_limit.Goals as goal
+
+pub returns-then-edition-eq1 : goal.returns-then-edition-eq1
+unfolding item_limit
+returns-then-edition-eq1 c = rw (eq-eqb _ 1 c.if-edition-eq1.true)
+
+pub returns-else-edition-eq1 : goal.returns-else-edition-eq1
+unfolding item_limit
+returns-else-edition-eq1 c = rw (ne_eqb _ 1 c.if-edition-eq1.false)

@@ -1,0 +1,32 @@
+-- `owing::blank` meets its contract. The loop's invariant: the bytes of the first i items are blank. Assumes nothing.
+use native.Mathlib.Omega.{arith}
+use mathlib.Core.Path.{refl}
+use lib.ListN.{length}
+use Rattle.owing.proofs.Writing.{blanked_next}
+use Rattle.owing.proofs.blank.Goals as goal
+
+pub loop-i-init : goal.loop-i-init
+loop-i-init c = record { within = omega arith; kept = refl; zeros = λ j h. absurd (omega arith) }
+
+pub bounds-owed-i : goal.bounds-owed-i
+bounds-owed-i c = omega (arith, c.loop-i.invariant.kept)
+
+pub overflow_add-i : goal.overflow_add-i
+overflow_add-i c = omega arith
+
+pub loop-i-smaller : goal.loop-i-smaller
+loop-i-smaller c = omega arith
+
+pub loop-i-preserved : goal.loop-i-preserved
+loop-i-preserved c =
+    let s = c in
+    let l = c.loop-i in
+    blanked_next s.args.n (length s.args.owed.now) l.i l.owed s.requires c.loop-i-test.true l.invariant
+
+pub shape_of-owed : goal.shape_of-owed
+shape_of-owed c = c.loop-i.invariant.kept
+
+pub returns : goal.returns
+returns c =
+    let l = c.loop-i.invariant in
+    record { room = omega (arith, l.kept, c.requires); none = λ i h. l.zeros i (omega (arith, c.loop-i-test.false)) }

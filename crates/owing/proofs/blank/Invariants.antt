@@ -1,0 +1,11 @@
+-- `owing::blank` meets its contract. The loop's invariant: the bytes of the first i items are blank. Assumes nothing.
+use Prim.Native.Nat.{◌-◌}
+use lib.ListN.{length}
+use Rattle.owing.proofs.Writing.{Blanked}
+use Rattle.owing.proofs.blank.Given as goal
+
+abbrev pub invariant-loop-i : goal.invariant-loop-i
+invariant-loop-i l = Blanked l.owed (length l.initial.owed) l.i l.initial.i
+
+abbrev pub decreases-loop-i : goal.decreases-loop-i
+decreases-loop-i l = l.owed - l.i

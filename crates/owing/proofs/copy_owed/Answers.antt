@@ -1,0 +1,39 @@
+-- `owing::copy_owed` meets its contract. The loop's invariant: the owed bytes of the first i items are copied. Assumes nothing.
+use native.Mathlib.Omega.{arith}
+use mathlib.Core.Path.{refl}
+use lib.ListN.{length}
+use Rattle.owing.proofs.Writing.{copied_next}
+use Rattle.owing.proofs.copy_owed.Goals as goal
+
+pub loop-i-init : goal.loop-i-init
+loop-i-init c = record { within = omega arith; kept = refl; copies = λ j h. absurd (omega arith) }
+
+pub overflow_mul-owed : goal.overflow_mul-owed
+overflow_mul-owed c = omega arith
+
+pub overflow_add-owed : goal.overflow_add-owed
+overflow_add-owed c = omega arith
+
+pub bounds-table-i : goal.bounds-table-i
+bounds-table-i c = omega arith
+
+pub bounds-owed-i : goal.bounds-owed-i
+bounds-owed-i c = omega (arith, c.loop-i.invariant.kept)
+
+pub overflow_add-i : goal.overflow_add-i
+overflow_add-i c = omega arith
+
+pub loop-i-smaller : goal.loop-i-smaller
+loop-i-smaller c = omega arith
+
+pub loop-i-preserved : goal.loop-i-preserved
+loop-i-preserved c =
+    let s = c in
+    let l = c.loop-i in
+    copied_next s.args.table.now s.args.n (length s.args.owed.now) l.i l.owed s.requires.1 c.loop-i-test.true l.invariant
+
+pub shape_of-owed : goal.shape_of-owed
+shape_of-owed c = c.loop-i.invariant.kept
+
+pub returns : goal.returns
+returns c = λ i h. c.loop-i.invariant.copies i (omega (arith, c.loop-i-test.false))

@@ -1,0 +1,11 @@
+-- `owing::settle` meets its contract. Assumes nothing.
+use Rattle.layout.specs.Opened.{sheet_of}
+use Rattle.owing.proofs.Writing.{settled}
+use Rattle.owing.proofs.settle.Goals as goal
+
+pub returns : goal.returns
+returns c =
+    let o = c in
+    let a = o in
+    settled (sheet_of a.args.s.now) a.args.table.now _ a.args.n a.requires.1.0 a.requires.1.1.1.0 a.requires.1.1.1.1
+    o.owe.ensures _ (λ j. (c.type_inv.table j).fits) c.write_owed.ensures

@@ -1,0 +1,21 @@
+-- `sheet::check_items` meets its contract. The loop's invariant: the scan of the items passed goes on, and the arrays hold their offsets and levels.
+-- Assumes nothing.
+use mathlib.Core.Path.{◌≡◌}
+use Prim.Native.Nat.{◌-◌, ◌≤◌}
+use lib.ListN.{length}
+use Rattle.layout.specs.Read.{going, scan}
+use Rattle.layout.specs.Opened.{offsets_of, levels_of}
+use Rattle.field.specs.Bytes.{over}
+use Rattle.sheet.specs.Check.{sound_items}
+use Rattle.sheet.proofs.check_items.Given as goal
+
+abbrev pub invariant-loop-i : goal.invariant-loop-i
+invariant-loop-i l = (l.i ≤ l.count)
+    × (scan l.s l.edition l.i ≡ going l.initial.i (sound_items l.s l.edition l.i))
+    × (l.initial.at ≡ over (offsets_of (sound_items l.s l.edition l.i)) l.initial.offsets)
+    × (l.at ≡ over (levels_of (sound_items l.s l.edition l.i)) l.offsets)
+    × (length l.initial.at ≡ length l.initial.offsets)
+    × (length l.at ≡ length l.offsets)
+
+abbrev pub decreases-loop-i : goal.decreases-loop-i
+decreases-loop-i l = l.count - l.i

@@ -1,0 +1,12 @@
+-- `table::mark_coded` meets its contract. Assumes nothing.
+use Rattle.table.proofs.Cases.{mark_refresh, mark_notice, mark_other}
+use Rattle.table.proofs.mark_coded.Goals as goal
+
+pub returns-in-1 : goal.returns-in-1
+returns-in-1 c = mark_refresh _ c.in_default.keys1
+
+pub returns-in-2 : goal.returns-in-2
+returns-in-2 c = mark_notice _ c.in_default.keys2
+
+pub returns-in_default : goal.returns-in_default
+returns-in_default c = mark_other _ c.in_default.rest.0.1 c.in_default.rest.1
