@@ -164,6 +164,9 @@ module _ (S : Sheet) (ordered : Ordered S) (es : List ℕ) (E : Entries) (m : �
       go c h calm (stays q) = subst (λ x. Onward (m k) c x) (sym (q ∙ h)) same
       go (held v unmarked) h there (fills f r u q) = let bad : ◌≡◌ {A = ℕ} 0 1 = cc in absurd (omega arith)
       go (unk false) h (away r) (fills f r' u q) = rw (q, view_outside T confined k low outside) filled
+      go (unk true) h calm (fills f r' u q) = elim calm [ ]
+      go (held v refresh) h calm (fills f r u q) = elim calm [ ]
+      go (held v notice) h calm (fills f r u q) = elim calm [ ]
 
   -- stores at items that are not outside
   further_closed : (T : Table) → Confined T → Closed S (λ i. Outside S es i → ⊥) (Further T)
