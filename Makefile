@@ -6,7 +6,7 @@
 .PHONY: run check picture
 
 run:
-	rt check day_main
+	tools/build day
 	cd crates/day_main/data && ../../../target/bin/day_main
 	mkdir -p target/season
 	python3 examples/maker.py sheet examples/season.txt target/season/sheet.bin

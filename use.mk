@@ -39,14 +39,14 @@ EXAMPLE_FLAGS := -std=c11 -D_POSIX_C_SOURCE=200809L -Wall -Wextra -Iinclude
 help:
 	@sed -n 's/^#: \{0,1\}//p' $(MAKEFILE_LIST)
 
-# Only target/ in this folder. A link of that name goes, and what it leads to stays.
+# Only target/ and the crates' out/ in this folder. A link of that name goes, and what it leads to stays.
 clean:
-	rm -rf target
+	rm -rf target crates/*/out
 
 # ---- The archives ----
 
 define PROVE_LIBRARY
-rt staticlib rozhinal
+tools/build library
 endef
 
 lib: $(HELPERS_ARCHIVE)
