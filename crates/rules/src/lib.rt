@@ -28,6 +28,7 @@ pub enum Operation {
 }
 
 // The operation of a rule code with a number of parents. The only place of the code that has the codes, and the counts of each rule.
+#[tactic(auto, unfolding(circuit::specs::Rules::coded, circuit::specs::Rules::count_allowed, circuit::specs::Rules::one_or_more, circuit::specs::Rules::max_parents, circuit::specs::Rules::operation_of))]
 pub fn operation_of(code: u8, count: usize) -> Operation
     ensures { operation_meaning result ≡ rules.operation_of code count }
 {
@@ -87,16 +88,16 @@ fn both_null(a: Value, b: Value) -> bool
 }
 
 fn minus(x: i64, y: i64) -> i64
-    requires fact_1 { circuit.in_range x ≡ true }
-    requires fact_2 { circuit.in_range y ≡ true }
+    requires x_in_range { circuit.in_range x ≡ true }
+    requires y_in_range { circuit.in_range y ≡ true }
     ensures { result ≡ x -ℤ y }
 {
     x - y
 }
 
 fn difference(a: Value, b: Value) -> Value
-    requires fact_1 { circuit.well_formed (meaning a) ≡ true }
-    requires fact_2 { circuit.well_formed (meaning b) ≡ true }
+    requires a_formed { circuit.well_formed (meaning a) ≡ true }
+    requires b_formed { circuit.well_formed (meaning b) ≡ true }
     ensures { meaning result ≡ rules.apply rules.difference (meaning a ∷ meaning b ∷ []) }
 {
     if either_out(a, b) {
@@ -109,20 +110,22 @@ fn difference(a: Value, b: Value) -> Value
 }
 
 // (m * parts + more) / WHOLE, by products of which none is larger than m or WHOLE * WHOLE.
+#[tactic(auto, using(crate::proofs::Shares::two_parts), unfolding(circuit::specs::Rules::whole))]
 fn scaled(m: u64, parts: u64, more: u64) -> u64
-    requires fact_1 { m ≤ circuit.limit }
-    requires fact_2 { parts ≤ rules.whole }
-    requires fact_3 { more < rules.whole }
+    requires amount { m ≤ circuit.limit }
+    requires parts { parts ≤ rules.whole }
+    requires more { more < rules.whole }
     ensures { result ≡ (m * parts + more) / rules.whole }
 {
     m / WHOLE * parts + (m % WHOLE * parts + more) / WHOLE
 }
 
 // The share of x, rounded down: what lies below 0 is rounded away from it.
+#[tactic(auto, unfolding(circuit::specs::Rules::whole))]
 fn part_of(x: i64, parts: i64) -> i64
-    requires fact_1 { circuit.in_range x ≡ true }
-    requires fact_2 { le_z (pos 0) parts ≡ true }
-    requires fact_3 { le_z parts (pos rules.whole) ≡ true }
+    requires in_range { circuit.in_range x ≡ true }
+    requires low { le_z (pos 0) parts ≡ true }
+    requires high { le_z parts (pos rules.whole) ≡ true }
     ensures { result ≡ rules.floor_div (x *ℤ parts) rules.whole }
 {
     if x < 0 {
@@ -132,6 +135,7 @@ fn part_of(x: i64, parts: i64) -> i64
     scaled(x as u64, parts as u64, 0) as i64
 }
 
+#[tactic(auto, unfolding(circuit::specs::Rules::whole))]
 fn share_of(x: i64, parts: i64) -> Value
     requires { circuit.in_range x ≡ true }
     ensures { meaning result ≡ rules.share_of x parts }
@@ -187,6 +191,7 @@ fn at_least(a: Value, b: Value) -> Value
 }
 
 // A rule's result on the first n values, in order. Elements from n on are not looked at.
+#[tactic(auto, unfolding(circuit::specs::Rules::max_parents))]
 pub fn apply(
     op: Operation,
     kinds: &[u8; MAX_PARENTS],

@@ -44,9 +44,10 @@ fn plus(x: i64, y: i64) -> i64
 }
 
 // One more number.
+#[tactic(auto, unfolding(circuit::specs::Rules::max_parents))]
 fn count_in(t: Tally, n: i64) -> Tally
-    requires fact_1 { Room t }
-    requires fact_2 { circuit.in_range n ≡ true }
+    requires room { Room t }
+    requires in_range { circuit.in_range n ≡ true }
     ensures { result ≡ counted t n }
 {
     let out = t.out;
@@ -77,8 +78,8 @@ fn count_in(t: Tally, n: i64) -> Tally
 
 // One more value: NULL leaves the tally as it is, OUT is noted.
 fn take_in(t: Tally, v: Value) -> Tally
-    requires fact_1 { Room t }
-    requires fact_2 { circuit.well_formed (meaning v) ≡ true }
+    requires room { Room t }
+    requires formed { circuit.well_formed (meaning v) ≡ true }
     ensures { result ≡ taken t (meaning v) }
 {
     let a = v.amount;
@@ -97,8 +98,8 @@ fn take_in(t: Tally, v: Value) -> Tally
 
 // The tally of the first n values.
 fn tally_of(kinds: &[u8; MAX_PARENTS], numbers: &[i64; MAX_PARENTS], n: usize) -> Tally
-    requires fact_1 { n ≤ rules.max_parents }
-    requires fact_2 { all_well_formed (first_values kinds.now numbers.now n) ≡ true }
+    requires few { n ≤ rules.max_parents }
+    requires formed { all_well_formed (first_values kinds.now numbers.now n) ≡ true }
     ensures { result ≡ taken_all empty (first_values kinds.now numbers.now n) }
 {
     let mut t = Tally {
@@ -131,8 +132,8 @@ fn ruled(t: Tally, n: i64) -> Value
 }
 
 pub fn sum(kinds: &[u8; MAX_PARENTS], numbers: &[i64; MAX_PARENTS], n: usize) -> Value
-    requires fact_1 { n ≤ rules.max_parents }
-    requires fact_2 { all_well_formed (first_values kinds.now numbers.now n) ≡ true }
+    requires few { n ≤ rules.max_parents }
+    requires formed { all_well_formed (first_values kinds.now numbers.now n) ≡ true }
     ensures { meaning result ≡ rules.apply rules.sum (first_values kinds.now numbers.now n) }
 {
     let t = tally_of(kinds, numbers, n);
@@ -140,8 +141,8 @@ pub fn sum(kinds: &[u8; MAX_PARENTS], numbers: &[i64; MAX_PARENTS], n: usize) ->
 }
 
 pub fn smallest(kinds: &[u8; MAX_PARENTS], numbers: &[i64; MAX_PARENTS], n: usize) -> Value
-    requires fact_1 { n ≤ rules.max_parents }
-    requires fact_2 { all_well_formed (first_values kinds.now numbers.now n) ≡ true }
+    requires few { n ≤ rules.max_parents }
+    requires formed { all_well_formed (first_values kinds.now numbers.now n) ≡ true }
     ensures { meaning result ≡ rules.apply rules.smallest (first_values kinds.now numbers.now n) }
 {
     let t = tally_of(kinds, numbers, n);
@@ -149,8 +150,8 @@ pub fn smallest(kinds: &[u8; MAX_PARENTS], numbers: &[i64; MAX_PARENTS], n: usiz
 }
 
 pub fn largest(kinds: &[u8; MAX_PARENTS], numbers: &[i64; MAX_PARENTS], n: usize) -> Value
-    requires fact_1 { n ≤ rules.max_parents }
-    requires fact_2 { all_well_formed (first_values kinds.now numbers.now n) ≡ true }
+    requires few { n ≤ rules.max_parents }
+    requires formed { all_well_formed (first_values kinds.now numbers.now n) ≡ true }
     ensures { meaning result ≡ rules.apply rules.largest (first_values kinds.now numbers.now n) }
 {
     let t = tally_of(kinds, numbers, n);
@@ -158,8 +159,8 @@ pub fn largest(kinds: &[u8; MAX_PARENTS], numbers: &[i64; MAX_PARENTS], n: usize
 }
 
 pub fn count(kinds: &[u8; MAX_PARENTS], numbers: &[i64; MAX_PARENTS], n: usize) -> Value
-    requires fact_1 { n ≤ rules.max_parents }
-    requires fact_2 { all_well_formed (first_values kinds.now numbers.now n) ≡ true }
+    requires few { n ≤ rules.max_parents }
+    requires formed { all_well_formed (first_values kinds.now numbers.now n) ≡ true }
     ensures { meaning result ≡ rules.apply rules.count (first_values kinds.now numbers.now n) }
 {
     let t = tally_of(kinds, numbers, n);

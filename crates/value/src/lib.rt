@@ -129,6 +129,7 @@ impl Value {
     }
 
     // A value from its kind and its number, if they are in form.
+    #[tactic(auto, unfolding(circuit::specs::Value::parts_of))]
     pub fn from_parts(kind: u64, number: i64) -> Parts
         ensures { parts_meaning result ≡ circuit.parts_of kind number }
     {
@@ -179,6 +180,7 @@ impl Value {
 }
 
 // The k-th of the parents' values, of which two arrays have the kinds and the numbers.
+#[tactic(auto, unfolding(circuit::specs::Rules::max_parents))]
 pub fn value_at(kinds: &[u8; MAX_PARENTS], numbers: &[i64; MAX_PARENTS], k: usize) -> Value
     requires { k < max_parents }
     ensures { meaning result ≡ value_at kinds.now numbers.now k }

@@ -10,10 +10,7 @@ pub loop-left-init : goal.loop-left-init
 loop-left-init c = omega arith
 
 pub overflow_add-count : goal.overflow_add-count
-overflow_add-count c =
-    let at-loop = c in
-    let at-start = at-loop in
-    omega (arith, at-loop.loop-left.invariant, length_pos at-loop.loop-left.left, length_word at-start.args.m at-start.ranges.m.fits)
+overflow_add-count c = omega (arith, c.loop-left.invariant, length_pos c.loop-left.left, length_word c.args.m c.ranges.m.fits)
 
 pub loop-left-smaller : goal.loop-left-smaller
 loop-left-smaller c = omega (arith, c.loop-left-test.true)

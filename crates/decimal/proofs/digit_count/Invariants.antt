@@ -7,7 +7,7 @@ use Rattle.decimal.specs.Decimal.{digits}
 use Rattle.decimal.proofs.digit_count.Given as goal
 
 abbrev pub invariant-loop-left : goal.invariant-loop-left
-invariant-loop-left l = l.count + length (digits l.initial.count) ≡ length (digits l.m) + 1
+invariant-loop-left l = l.count + length (digits l.left) ≡ length (digits l.m) + 1
 
 abbrev pub decreases-loop-left : goal.decreases-loop-left
-decreases-loop-left l = l.initial.count
+decreases-loop-left l = l.left

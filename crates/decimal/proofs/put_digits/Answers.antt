@@ -33,6 +33,4 @@ pub shape_of-bytes : goal.shape_of-bytes
 shape_of-bytes c = length-set c.loop-rest.bytes c.loop-rest.place _ ∙ c.loop-rest.invariant.size
 
 pub returns : goal.returns
-returns c =
-    let at-start = c in
-    finish c.loop-rest.invariant (ap (λ k. at-start.args.at + k) c.digit_count.ensures) c.loop-rest-test.false
+returns c = finish c.loop-rest.invariant (ap (λ k. c.args.at + k) c.digit_count.ensures) c.loop-rest-test.false

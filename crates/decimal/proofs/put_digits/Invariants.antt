@@ -4,7 +4,7 @@ use Rattle.decimal.proofs.Writing.{Writing}
 use Rattle.decimal.proofs.put_digits.Given as goal
 
 abbrev pub invariant-loop-rest : goal.invariant-loop-rest
-invariant-loop-rest l = Writing l.m l.at l.bytes l.initial.bytes l.rest l.initial.place l.place
+invariant-loop-rest l = Writing l.m l.at l.next l.fn.bytes l.bytes l.rest l.place
 
 abbrev pub decreases-loop-rest : goal.decreases-loop-rest
 decreases-loop-rest l = l.place

@@ -6,24 +6,19 @@ use Rattle.printer.proofs.print_into.Goals as goal
 
 pub returns-then-scratch-lt-LEAST_SCRATCH : goal.returns-then-scratch-lt-LEAST_SCRATCH
 returns-then-scratch-lt-LEAST_SCRATCH c =
-    let at-start = c in
-    let read = to_z-of_z w64 at-start.args.number at-start.ranges.number in
-    let value = formed at-start.args.kind read c.from_parts.ensures c.v-1.given.1 in
-    refused_scratch at-start.args.kind at-start.args.number _ value at-start.args.scratch.now c.if-scratch-lt-LEAST_SCRATCH.true
+    let read = to_z-of_z w64 c.args.number c.ranges.number in
+    let value = formed c.args.kind read c.from_parts.ensures c.in-Formed.is in
+    refused_scratch c.args.kind c.args.number _ value c.args.scratch.now c.if-scratch-lt-LEAST_SCRATCH.true
 
 pub returns-in-Unformed : goal.returns-in-Unformed
 returns-in-Unformed c =
-    let at-start = c in
-    let read = to_z-of_z w64 at-start.args.number at-start.ranges.number in
-    refused_value at-start.args.kind at-start.args.number at-start.args.scratch.now
-    (unformed at-start.args.kind read c.from_parts.ensures c.enum_told-1.given.1)
+    let read = to_z-of_z w64 c.args.number c.ranges.number in
+    refused_value c.args.kind c.args.number c.args.scratch.now (unformed c.args.kind read c.from_parts.ensures c.in-Unformed.is)
 
 pub returns-else-scratch-lt-LEAST_SCRATCH : goal.returns-else-scratch-lt-LEAST_SCRATCH
 returns-else-scratch-lt-LEAST_SCRATCH c =
-    let at-start = c in
-    let read = to_z-of_z w64 at-start.args.number at-start.ranges.number in
-    let value = formed at-start.args.kind read c.from_parts.ensures
-    c.v-1.given.1 in
-    accepted at-start.args.kind at-start.args.number _ value at-start.args.scratch.now _ _
+    let read = to_z-of_z w64 c.args.number c.ranges.number in
+    let value = formed c.args.kind read c.from_parts.ensures c.in-Formed.is in
+    accepted c.args.kind c.args.number _ value c.args.scratch.now _ _
     c.if-scratch-lt-LEAST_SCRATCH.false
     c.put_value.ensures

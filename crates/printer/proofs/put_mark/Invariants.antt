@@ -6,7 +6,7 @@ use Rattle.printer.proofs.Copying.{Copying}
 use Rattle.printer.proofs.put_mark.Given as goal
 
 abbrev pub invariant-loop-k : goal.invariant-loop-k
-invariant-loop-k l = Copying l.mark l.initial.scratch l.initial.k l.k
+invariant-loop-k l = Copying l.mark l.fn.scratch l.scratch l.k
 
 abbrev pub decreases-loop-k : goal.decreases-loop-k
 decreases-loop-k l = length l.mark - l.k

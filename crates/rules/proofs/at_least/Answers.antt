@@ -1,5 +1,5 @@
 -- `rules::at_least` meets its contract. Assumes nothing.
-use borrow.Author.Rules.{rules}
+use Rattle.std.proofs.Common.{rules}
 use Rattle.circuit.specs.Rules as rules
 use Rattle.circuit.proofs.View.{never}
 use Rattle.value.proofs.Signed.{read}
@@ -11,24 +11,19 @@ returns-then-either_out c = two_out _ _ _ c.either_out.ensures rules.at_least (Î
 
 pub returns-then-either_null : goal.returns-then-either_null
 unfolding rules.apply
-returns-then-either_null c = let out = c in either_null _ _ _ out.either_out.ensures out.if-either_out.false rules.at_least_of _ c.either_null.ensures c.if-either_null.true
+returns-then-either_null c =
+    either_null _ _ _ c.either_out.ensures c.if-either_out.false rules.at_least_of _ c.either_null.ensures c.if-either_null.true
 
 pub returns-then-number_or_zero : goal.returns-then-number_or_zero
 unfolding rules.apply
 returns-then-number_or_zero c =
-    let first = c in
-    let null = first in
-    let out = null in
-    both_is _ _ _ out.either_out.ensures out.if-either_out.false _ _ first.number_or_zero.ensures c.number_or_zero-2.ensures
-    (search rules) (search rules) rules.at_least_of _ null.either_null.ensures null.if-either_null.false _
-    (at_least_by (read first.number_or_zero.result) (read c.number_or_zero-2.result) _ c.if-number_or_zero.true _ c.exact.ensures)
+    both_is _ _ _ c.either_out.ensures c.if-either_out.false _ _ c.number_or_zero.ensures c.number_or_zero-2.ensures
+    (search rules) (search rules) rules.at_least_of _ c.either_null.ensures c.if-either_null.false _
+    (at_least_by (read c.number_or_zero.result) (read c.number_or_zero-2.result) _ c.if-number_or_zero.true _ c.exact.ensures)
 
 pub returns-else-number_or_zero : goal.returns-else-number_or_zero
 unfolding rules.apply
 returns-else-number_or_zero c =
-    let first = c in
-    let null = first in
-    let out = null in
-    both_is _ _ _ out.either_out.ensures out.if-either_out.false _ _ first.number_or_zero.ensures c.number_or_zero-2.ensures
-    (search rules) (search rules) rules.at_least_of _ null.either_null.ensures null.if-either_null.false _
-    (at_least_by (read first.number_or_zero.result) (read c.number_or_zero-2.result) _ c.if-number_or_zero.false _ c.exact-else-number_or_zero.ensures)
+    both_is _ _ _ c.either_out.ensures c.if-either_out.false _ _ c.number_or_zero.ensures c.number_or_zero-2.ensures
+    (search rules) (search rules) rules.at_least_of _ c.either_null.ensures c.if-either_null.false _
+    (at_least_by (read c.number_or_zero.result) (read c.number_or_zero-2.result) _ c.if-number_or_zero.false _ c.exact-else-number_or_zero.ensures)

@@ -1,5 +1,5 @@
 -- `rules::difference` meets its contract. Assumes nothing.
-use borrow.Author.Rules.{rules}
+use Rattle.std.proofs.Common.{rules}
 use Rattle.circuit.specs.Rules as rules
 use Rattle.circuit.proofs.View.{never}
 use Rattle.value.specs.Meaning.{meaning}
@@ -11,20 +11,15 @@ returns-then-either_out c = two_out _ _ _ c.either_out.ensures rules.difference 
 
 pub returns-then-both_null : goal.returns-then-both_null
 returns-then-both_null c =
-    let out = c in
-    difference_null _ _ _ out.either_out.ensures out.if-either_out.false _ c.both_null.ensures c.if-both_null.true
+    difference_null _ _ _ c.either_out.ensures c.if-either_out.false _ c.both_null.ensures c.if-both_null.true
 
-pub minus-requires : goal.minus-requires
-minus-requires c =
-    let s = c in (
-      number_fits (meaning s.args.a) _ (search rules) c.number_or_zero.ensures s.requires.0,
-      number_fits (meaning s.args.b) _ (search rules) c.number_or_zero-2.ensures s.requires.1,
-    )
+pub minus-requires-clause-x_in_range : goal.minus-requires-clause-x_in_range
+minus-requires-clause-x_in_range c = number_fits (meaning c.args.a) _ (search rules) c.number_or_zero.ensures c.requires.a_formed
+
+pub minus-requires-clause-y_in_range : goal.minus-requires-clause-y_in_range
+minus-requires-clause-y_in_range c = number_fits (meaning c.args.b) _ (search rules) c.number_or_zero-2.ensures c.requires.b_formed
 
 pub returns : goal.returns
 returns c =
-    let first = c in
-    let null = first in
-    let out = null in
-    difference_is _ _ _ out.either_out.ensures out.if-either_out.false _ _ first.number_or_zero.ensures c.number_or_zero-2.ensures
-    (search rules) (search rules) _ null.both_null.ensures null.if-both_null.false _ _ (search rules) c.minus.ensures c.exact.ensures
+    difference_is _ _ _ c.either_out.ensures c.if-either_out.false _ _ c.number_or_zero.ensures c.number_or_zero-2.ensures
+    (search rules) (search rules) _ c.both_null.ensures c.if-both_null.false _ _ (search rules) c.minus.ensures c.exact.ensures

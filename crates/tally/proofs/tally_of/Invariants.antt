@@ -6,7 +6,7 @@ use Rattle.tally.specs.Tally.{empty, taken_all}
 use Rattle.tally.proofs.tally_of.Given as goal
 
 abbrev pub invariant-loop-i : goal.invariant-loop-i
-invariant-loop-i l = (l.i ≤ l.n) × (l.initial.i ≡ taken_all empty (first_values l.kinds l.numbers l.i))
+invariant-loop-i l = (l.i ≤ l.n) × (l.t ≡ taken_all empty (first_values l.kinds l.numbers l.i))
 
 abbrev pub decreases-loop-i : goal.decreases-loop-i
 decreases-loop-i l = l.n - l.i
