@@ -38,8 +38,8 @@ loop-written-preserved c =
     let offsets = a.args.offsets.now in
     let e = c.put_offset.ensures in (
       omega arith,
-      ap length e ∙ put_length l.index-1 (index_width * l.written) (get_or offsets l.written 0) ∙ l.invariant.1,
-      ap (take (index_width * (l.written + 1))) e ∙ write_next offsets l.index-1 l.written (omega arith) (omega arith) l.invariant.2,
+      ap length e ∙ put_length l.index (index_width * l.written) (get_or offsets l.written 0) ∙ l.invariant.1,
+      ap (take (index_width * (l.written + 1))) e ∙ write_next offsets l.index l.written (omega arith) (omega arith) l.invariant.2,
     )
 
 pub shape_of-index : goal.shape_of-index
@@ -50,4 +50,4 @@ pub returns : goal.returns
 returns c =
     let a = c in
     let l = c.loop-written in
-    write_done a.args.offsets.now l.index-1 l.written a.args.n (omega arith) l.invariant.1 l.invariant.2
+    write_done a.args.offsets.now l.index l.written a.args.n (omega arith) l.invariant.1 l.invariant.2
