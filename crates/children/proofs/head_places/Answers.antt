@@ -18,7 +18,7 @@ loop-k-init c =
 pub offset_bounds-heads-p : goal.offset_bounds-heads-p
 offset_bounds-heads-p c =
     let a = c in
-    let low = place_low (parents_of (field_item a.args.s.now a.args.at)) a.requires.1.0 c.loop-k.k _ _ c.parent-p.ensures
+    let low = place_low (parents_of (field_item a.args.s.now a.args.at)) a.requires.fact_2 c.loop-k.k _ _ c.parent-p.ensures
     c.parent_count-count.ensures.count_is c.loop-k-test.true in
     search (rules, low)
 
@@ -27,7 +27,7 @@ bounds-heads-p c =
     let a = c in
     let ps = parents_of (field_item a.args.s.now a.args.at) in
     let k = c.loop-k.k in
-    let low = place_low ps a.requires.1.0 k _ _ c.parent-p.ensures c.parent_count-count.ensures.count_is c.loop-k-test.true in
+    let low = place_low ps a.requires.fact_2 k _ _ c.parent-p.ensures c.parent_count-count.ensures.count_is c.loop-k-test.true in
     let kept = ap length c.loop-k.invariant.1 ∙ heads_length a.args.heads.now a.args.first ps k in
     omega (arith, low, kept)
 
