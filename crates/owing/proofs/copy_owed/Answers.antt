@@ -30,7 +30,7 @@ pub loop-i-preserved : goal.loop-i-preserved
 loop-i-preserved c =
     let s = c in
     let l = c.loop-i in
-    copied_next s.args.table.now s.args.n (length s.args.owed.now) l.i l.owed s.requires.1 c.loop-i-test.true l.invariant
+    copied_next s.args.table.now s.args.n (length s.args.owed.now) l.i l.owed s.requires.fact_2 c.loop-i-test.true l.invariant
 
 pub shape_of-owed : goal.shape_of-owed
 shape_of-owed c = c.loop-i.invariant.kept

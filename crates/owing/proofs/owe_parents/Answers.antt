@@ -18,7 +18,7 @@ bounds-owed-parent c =
     let a = c in
     let ps = parents_of (field_item a.args.s.now a.args.at) in
     let k = c.loop-k.k in
-    let low = place_low ps a.requires.1 k _ _ c.parent.ensures c.parent_count-count.ensures.count_is c.loop-k-test.true in
+    let low = place_low ps a.requires.fact_2 k _ _ c.parent.ensures c.parent_count-count.ensures.count_is c.loop-k-test.true in
     let kept = ap length c.loop-k.invariant.1 ∙ each_length a.args.owed.now ps k in
     omega (arith, low, kept)
 

@@ -8,4 +8,4 @@ pub returns : goal.returns
 returns c =
     let o = c in
     let a = o in
-    c.owed_matches.ensures ∙ matches_true (sheet_of a.args.s.now) a.args.table.now _ a.args.n a.requires.1.0 o.owe.ensures
+    c.owed_matches.ensures ∙ matches_true (sheet_of a.args.s.now) a.args.table.now _ a.args.n a.requires.fact_2 o.owe.ensures

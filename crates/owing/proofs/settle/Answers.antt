@@ -7,5 +7,5 @@ pub returns : goal.returns
 returns c =
     let o = c in
     let a = o in
-    settled (sheet_of a.args.s.now) a.args.table.now _ a.args.n a.requires.1.0 a.requires.1.1.1.0 a.requires.1.1.1.1
+    settled (sheet_of a.args.s.now) a.args.table.now _ a.args.n a.requires.fact_2 a.requires.fact_4 a.requires.fact_5
     o.owe.ensures _ (λ j. (c.type_inv.table j).fits) c.write_owed.ensures
