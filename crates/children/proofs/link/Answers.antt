@@ -17,48 +17,42 @@ overflow_sub-c c =
 
 pub offset_bounds-offsets-c : goal.offset_bounds-offsets-c
 offset_bounds-offsets-c c =
-    let a = c in
-    omega (arith, size_most a.args.s.now, a.requires.fact_2, c.loop-c.invariant.within)
+    omega (arith, size_most c.args.s.now, c.requires.fact_2, c.loop-c.invariant.within)
 
 pub bounds-offsets-c : goal.bounds-offsets-c
 bounds-offsets-c c =
-    let a = c in
-    omega (arith, a.requires.fact_3, c.loop-c.invariant.within)
+    omega (arith, c.requires.fact_3, c.loop-c.invariant.within)
 
 pub overflow_mul-c : goal.overflow_mul-c
 overflow_mul-c c =
-    let a = c in
-    omega (arith, size_most a.args.s.now, a.requires.fact_2, c.loop-c.invariant.within)
+    omega (arith, size_most c.args.s.now, c.requires.fact_2, c.loop-c.invariant.within)
 
 pub link_places-requires : goal.link_places-requires
 unfolding max_parents
 link_places-requires c =
-    let a = c in
     let l = c.loop-c in
     let more = c.loop-c-test.true in
     let kept = built_lengths l.invariant in
     record {
-      fact_1 = item_there a.args.s.now a.args.offsets.now a.requires.fact_1 a.requires.fact_2 l.invariant.within more;
-      fact_2 = parents_low a.args.s.now a.args.offsets.now a.requires.fact_1 a.requires.fact_2 l.invariant.within more l.heads (omega (arith, a.requires.fact_4, kept.0));
-      fact_3 = omega (arith, a.requires.fact_5, kept.1, l.invariant.within);
+      fact_1 = item_there c.args.s.now c.args.offsets.now c.requires.fact_1 c.requires.fact_2 l.invariant.within more;
+      fact_2 = parents_low c.args.s.now c.args.offsets.now c.requires.fact_1 c.requires.fact_2 l.invariant.within more l.heads (omega (arith, c.requires.fact_4, kept.0));
+      fact_3 = omega (arith, c.requires.fact_5, kept.1, l.invariant.within);
     }
 
 pub overflow_mul-c-in-loop-c : goal.overflow_mul-c-in-loop-c
 overflow_mul-c-in-loop-c c =
-    let a = c in
-    omega (arith, size_most a.args.s.now, a.requires.fact_2, c.loop-c.invariant.within)
+    omega (arith, size_most c.args.s.now, c.requires.fact_2, c.loop-c.invariant.within)
 
 pub head_places-requires : goal.head_places-requires
 unfolding max_parents most_items item_limit
 head_places-requires c =
-    let a = c in
     let l = c.loop-c in
     let more = c.loop-c-test.true in
     let kept = built_lengths l.invariant in
     record {
-      fact_1 = item_there a.args.s.now a.args.offsets.now a.requires.fact_1 a.requires.fact_2 l.invariant.within more;
-      fact_2 = parents_low a.args.s.now a.args.offsets.now a.requires.fact_1 a.requires.fact_2 l.invariant.within more l.heads (omega (arith, a.requires.fact_4, kept.0));
-      fact_3 = omega (arith, size_limit a.args.s.now, a.requires.fact_2, l.invariant.within);
+      fact_1 = item_there c.args.s.now c.args.offsets.now c.requires.fact_1 c.requires.fact_2 l.invariant.within more;
+      fact_2 = parents_low c.args.s.now c.args.offsets.now c.requires.fact_1 c.requires.fact_2 l.invariant.within more l.heads (omega (arith, c.requires.fact_4, kept.0));
+      fact_3 = omega (arith, size_limit c.args.s.now, c.requires.fact_2, l.invariant.within);
     }
 
 pub loop-c-smaller : goal.loop-c-smaller
@@ -68,10 +62,9 @@ loop-c-smaller c =
 pub loop-c-preserved : goal.loop-c-preserved
 unfolding max_parents
 loop-c-preserved c =
-    let a = c in
     let l = c.loop-c in
-    built_next a.args.s.now a.args.offsets.now a.requires.fact_1 a.requires.fact_2 l.invariant.within
-    c.loop-c-test.true a.args.heads.now a.args.links.now l.heads
+    built_next c.args.s.now c.args.offsets.now c.requires.fact_1 c.requires.fact_2 l.invariant.within
+    c.loop-c-test.true c.args.heads.now c.args.links.now l.heads
     l.links _ _ l.invariant c.link_places.ensures c.head_places.ensures
 
 pub shape_of-heads : goal.shape_of-heads
@@ -84,6 +77,5 @@ shape_of-links c =
 
 pub returns : goal.returns
 returns c =
-    let a = c in
-    let done = built_done c.loop-c.invariant a.requires.fact_2 (omega (arith, c.loop-c-test.false)) in
+    let done = built_done c.loop-c.invariant c.requires.fact_2 (omega (arith, c.loop-c-test.false)) in
     record { headed = done.0; linked = done.1 }
