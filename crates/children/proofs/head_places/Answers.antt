@@ -17,18 +17,16 @@ loop-k-init c =
 
 pub offset_bounds-heads-p : goal.offset_bounds-heads-p
 offset_bounds-heads-p c =
-    let a = c in
-    let low = place_low (parents_of (field_item a.args.s.now a.args.at)) a.requires.1.0 c.loop-k.k _ _ c.parent-p.ensures
+    let low = place_low (parents_of (field_item c.args.s.now c.args.at)) c.requires.fact_2 c.loop-k.k _ _ c.parent-p.ensures
     c.parent_count-count.ensures.count_is c.loop-k-test.true in
     search (rules, low)
 
 pub bounds-heads-p : goal.bounds-heads-p
 bounds-heads-p c =
-    let a = c in
-    let ps = parents_of (field_item a.args.s.now a.args.at) in
+    let ps = parents_of (field_item c.args.s.now c.args.at) in
     let k = c.loop-k.k in
-    let low = place_low ps a.requires.1.0 k _ _ c.parent-p.ensures c.parent_count-count.ensures.count_is c.loop-k-test.true in
-    let kept = ap length c.loop-k.invariant.1 ∙ heads_length a.args.heads.now a.args.first ps k in
+    let low = place_low ps c.requires.fact_2 k _ _ c.parent-p.ensures c.parent_count-count.ensures.count_is c.loop-k-test.true in
+    let kept = ap length c.loop-k.invariant.1 ∙ heads_length c.args.heads.now c.args.first ps k in
     omega (arith, low, kept)
 
 pub overflow_add-k : goal.overflow_add-k

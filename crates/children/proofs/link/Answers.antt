@@ -9,7 +9,7 @@ use Rattle.children.proofs.link.Goals as goal
 pub loop-c-init : goal.loop-c-init
 loop-c-init c =
     let a = c.args in
-    built_start a.s.now a.heads-1.now a.links-1.now a.n
+    built_start a.s.now a.heads.now a.links.now a.n
 
 pub overflow_sub-c : goal.overflow_sub-c
 overflow_sub-c c =
@@ -17,53 +17,43 @@ overflow_sub-c c =
 
 pub offset_bounds-offsets-c : goal.offset_bounds-offsets-c
 offset_bounds-offsets-c c =
-    let a = c in
-    omega (arith, size_most a.args.s.now, a.requires.1.0, c.loop-c.invariant.within)
+    omega (arith, size_most c.args.s.now, c.requires.fact_2, c.loop-c.invariant.within)
 
 pub bounds-offsets-c : goal.bounds-offsets-c
 bounds-offsets-c c =
-    let a = c in
-    omega (arith, a.requires.1.1.0, c.loop-c.invariant.within)
+    omega (arith, c.requires.fact_3, c.loop-c.invariant.within)
 
 pub overflow_mul-c : goal.overflow_mul-c
 overflow_mul-c c =
-    let a = c in
-    omega (arith, size_most a.args.s.now, a.requires.1.0, c.loop-c.invariant.within)
+    omega (arith, size_most c.args.s.now, c.requires.fact_2, c.loop-c.invariant.within)
 
 pub link_places-requires : goal.link_places-requires
 unfolding max_parents
 link_places-requires c =
-    let a = c in
     let l = c.loop-c in
     let more = c.loop-c-test.true in
-    let kept = built_lengths l.invariant in (
-      item_there a.args.s.now a.args.offsets.now a.requires.0 a.requires.1.0 l.invariant.within more,
-      (
-        parents_low a.args.s.now a.args.offsets.now a.requires.0 a.requires.1.0 l.invariant.within more l.heads-1 (omega (arith, a.requires.1.1.1.0, kept.0)),
-        omega
-            (arith, a.requires.1.1.1.1, kept.1, l.invariant.within),
-      ),
-    )
+    let kept = built_lengths l.invariant in
+    record {
+      fact_1 = item_there c.args.s.now c.args.offsets.now c.requires.fact_1 c.requires.fact_2 l.invariant.within more;
+      fact_2 = parents_low c.args.s.now c.args.offsets.now c.requires.fact_1 c.requires.fact_2 l.invariant.within more l.heads (omega (arith, c.requires.fact_4, kept.0));
+      fact_3 = omega (arith, c.requires.fact_5, kept.1, l.invariant.within);
+    }
 
 pub overflow_mul-c-in-loop-c : goal.overflow_mul-c-in-loop-c
 overflow_mul-c-in-loop-c c =
-    let a = c in
-    omega (arith, size_most a.args.s.now, a.requires.1.0, c.loop-c.invariant.within)
+    omega (arith, size_most c.args.s.now, c.requires.fact_2, c.loop-c.invariant.within)
 
 pub head_places-requires : goal.head_places-requires
 unfolding max_parents most_items item_limit
 head_places-requires c =
-    let a = c in
     let l = c.loop-c in
     let more = c.loop-c-test.true in
-    let kept = built_lengths l.invariant in (
-      item_there a.args.s.now a.args.offsets.now a.requires.0 a.requires.1.0 l.invariant.within more,
-      (
-        parents_low a.args.s.now a.args.offsets.now a.requires.0 a.requires.1.0 l.invariant.within more l.heads-1 (omega (arith, a.requires.1.1.1.0, kept.0)),
-        omega
-            (arith, size_limit a.args.s.now, a.requires.1.0, l.invariant.within),
-      ),
-    )
+    let kept = built_lengths l.invariant in
+    record {
+      fact_1 = item_there c.args.s.now c.args.offsets.now c.requires.fact_1 c.requires.fact_2 l.invariant.within more;
+      fact_2 = parents_low c.args.s.now c.args.offsets.now c.requires.fact_1 c.requires.fact_2 l.invariant.within more l.heads (omega (arith, c.requires.fact_4, kept.0));
+      fact_3 = omega (arith, size_limit c.args.s.now, c.requires.fact_2, l.invariant.within);
+    }
 
 pub loop-c-smaller : goal.loop-c-smaller
 loop-c-smaller c =
@@ -72,11 +62,10 @@ loop-c-smaller c =
 pub loop-c-preserved : goal.loop-c-preserved
 unfolding max_parents
 loop-c-preserved c =
-    let a = c in
     let l = c.loop-c in
-    built_next a.args.s.now a.args.offsets.now a.requires.0 a.requires.1.0 l.invariant.within
-    c.loop-c-test.true a.args.heads.now a.args.links.now l.heads-1
-    l.links-1 _ _ l.invariant c.link_places.ensures c.head_places.ensures
+    built_next c.args.s.now c.args.offsets.now c.requires.fact_1 c.requires.fact_2 l.invariant.within
+    c.loop-c-test.true c.args.heads.now c.args.links.now l.heads
+    l.links _ _ l.invariant c.link_places.ensures c.head_places.ensures
 
 pub shape_of-heads : goal.shape_of-heads
 shape_of-heads c =
@@ -88,5 +77,5 @@ shape_of-links c =
 
 pub returns : goal.returns
 returns c =
-    let a = c in
-    built_done c.loop-c.invariant a.requires.1.0 (omega (arith, c.loop-c-test.false))
+    let done = built_done c.loop-c.invariant c.requires.fact_2 (omega (arith, c.loop-c-test.false)) in
+    record { headed = done.0; linked = done.1 }

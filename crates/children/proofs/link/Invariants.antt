@@ -3,7 +3,7 @@ use Rattle.children.proofs.Building.{Built}
 use Rattle.children.proofs.link.Given as goal
 
 abbrev pub invariant-loop-c : goal.invariant-loop-c
-invariant-loop-c l = Built l.s l.initial.heads l.heads l.n l.c l.links l.initial.c
+invariant-loop-c l = Built l.s l.initial.heads l.initial.links l.n l.c l.heads l.links
 
 abbrev pub decreases-loop-c : goal.decreases-loop-c
 decreases-loop-c l = l.c

@@ -17,29 +17,25 @@ loop-k-init c =
 
 pub parent-p-requires : goal.parent-p-requires
 parent-p-requires c =
-    let a = c in
-    (a.requires.0, omega (arith, c.parent_count-count.ensures.count_is))
+    record { fact_1 = c.requires.fact_1; fact_2 = omega (arith, c.parent_count-count.ensures.count_is) }
 
 pub offset_bounds-heads-p : goal.offset_bounds-heads-p
 offset_bounds-heads-p c =
-    let a = c in
-    let low = place_low (parents_of (field_item a.args.s.now a.args.at)) a.requires.1.0 c.loop-k.k _ _ c.parent-p.ensures
+    let low = place_low (parents_of (field_item c.args.s.now c.args.at)) c.requires.fact_2 c.loop-k.k _ _ c.parent-p.ensures
     c.parent_count-count.ensures.count_is c.loop-k-test.true in
     search (rules, low)
 
 pub bounds-heads-p : goal.bounds-heads-p
 bounds-heads-p c =
-    let a = c in
-    let low = place_low (parents_of (field_item a.args.s.now a.args.at)) a.requires.1.0 c.loop-k.k _ _ c.parent-p.ensures
+    let low = place_low (parents_of (field_item c.args.s.now c.args.at)) c.requires.fact_2 c.loop-k.k _ _ c.parent-p.ensures
     c.parent_count-count.ensures.count_is c.loop-k-test.true in
     search (rules, low)
 
 pub bounds-links-first : goal.bounds-links-first
 bounds-links-first c =
-    let a = c in
     let l = c.loop-k in
-    let kept = ap length l.invariant.1 ∙ links_length a.args.links.now a.args.heads.now a.args.first (parents_of (field_item a.args.s.now a.args.at)) l.k in
-    omega (arith, kept, a.requires.1.1, c.parent_count-count.ensures.at_most, c.loop-k-test.true)
+    let kept = ap length l.invariant.1 ∙ links_length c.args.links.now c.args.heads.now c.args.first (parents_of (field_item c.args.s.now c.args.at)) l.k in
+    omega (arith, kept, c.requires.fact_3, c.parent_count-count.ensures.at_most, c.loop-k-test.true)
 
 pub overflow_add-k : goal.overflow_add-k
 overflow_add-k c = omega arith
@@ -50,7 +46,6 @@ loop-k-smaller c = omega arith
 pub loop-k-preserved : goal.loop-k-preserved
 unfolding link_places
 loop-k-preserved c =
-    let a = c in
     let l = c.loop-k in
     (omega arith, rw (add-one l.k, c.parent-p.ensures, l.invariant.1))
 

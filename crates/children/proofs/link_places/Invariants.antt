@@ -7,7 +7,7 @@ use Rattle.children.specs.Children.{link_places}
 use Rattle.children.proofs.link_places.Given as goal
 
 abbrev pub invariant-loop-k : goal.invariant-loop-k
-invariant-loop-k l = (l.k ≤ l.first) × (l.initial.k ≡ link_places l.initial.links l.heads l.links (parents_of (field_item l.s l.at)) l.k)
+invariant-loop-k l = (l.k ≤ l.count) × (l.links ≡ link_places l.initial.links l.heads l.first (parents_of (field_item l.s l.at)) l.k)
 
 abbrev pub decreases-loop-k : goal.decreases-loop-k
-decreases-loop-k l = l.first - l.k
+decreases-loop-k l = l.count - l.k

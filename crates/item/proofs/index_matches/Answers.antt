@@ -1,7 +1,6 @@
 -- `item::index_matches` meets its contract. The loop's invariant: the entries that are left decide. Assumes nothing.
 use native.Mathlib.Omega.{arith}
 use mathlib.Core.Path.{refl, sym, ◌∙◌}
-use borrow.Author.Tests.{not-true, not-false}
 use Rattle.item.proofs.Offsets.{compared_next, compared_other, compared_done}
 use Rattle.item.proofs.index_matches.Goals as goal
 
@@ -23,10 +22,9 @@ is_offset-requires c = omega arith
 
 pub returns-then-not-is_offset : goal.returns-then-not-is_offset
 returns-then-not-is_offset c =
-    let a = c in
     let l = c.loop-matched in
-    compared_other a.args.index.now a.args.offsets.now a.args.n l.matched (omega arith) (omega arith) (omega arith) l.invariant.1
-    (sym (not-true _ c.if-not-is_offset.true-raw) ∙ c.is_offset.ensures)
+    compared_other c.args.index.now c.args.offsets.now c.args.n l.matched (omega arith) (omega arith) (omega arith) l.invariant.1
+    (sym c.if-not-is_offset.true ∙ c.is_offset.ensures)
 
 pub overflow_add-matched : goal.overflow_add-matched
 overflow_add-matched c = omega arith
@@ -36,15 +34,13 @@ loop-matched-smaller c = omega arith
 
 pub loop-matched-preserved : goal.loop-matched-preserved
 loop-matched-preserved c =
-    let a = c in
     let l = c.loop-matched in (
       omega arith,
-      compared_next a.args.index.now a.args.offsets.now a.args.n l.matched (omega arith) (omega arith) (omega arith) l.invariant.1
-          (sym (not-false _ c.if-not-is_offset.false-raw) ∙ c.is_offset.ensures),
+      compared_next c.args.index.now c.args.offsets.now c.args.n l.matched (omega arith) (omega arith) (omega arith) l.invariant.1
+          (sym c.if-not-is_offset.false ∙ c.is_offset.ensures),
     )
 
 pub returns : goal.returns
 returns c =
-    let a = c in
     let l = c.loop-matched in
-    compared_done a.args.index.now a.args.offsets.now a.args.n l.matched (omega arith) (omega arith) (omega arith) l.invariant.1
+    compared_done c.args.index.now c.args.offsets.now c.args.n l.matched (omega arith) (omega arith) (omega arith) l.invariant.1

@@ -5,5 +5,4 @@ use Rattle.item.proofs.is_figure.Goals as goal
 
 pub returns : goal.returns
 returns c =
-    let a = c in
-    sym (tag_figure a.args.s.now a.args.at)
+    sym (tag_figure c.args.s.now c.args.at)

@@ -5,15 +5,12 @@ use Rattle.item.proofs.is_kept.Goals as goal
 
 pub bounds-s-at-then-s-at-eq-FIGURE_TAG : goal.bounds-s-at-then-s-at-eq-FIGURE_TAG
 bounds-s-at-then-s-at-eq-FIGURE_TAG c =
-    let a = c in
-    omega (arith, figure_within a.args.s.now a.args.at a.requires c.if-s-at-eq-FIGURE_TAG.true)
+    omega (arith, figure_within c.args.s.now c.args.at c.requires c.if-s-at-eq-FIGURE_TAG.true)
 
 pub returns-then-s-at-eq-FIGURE_TAG : goal.returns-then-s-at-eq-FIGURE_TAG
 returns-then-s-at-eq-FIGURE_TAG c =
-    let a = c in
-    kept_read a.args.s.now a.args.at a.requires c.if-s-at-eq-FIGURE_TAG.true
+    kept_read c.args.s.now c.args.at c.requires c.if-s-at-eq-FIGURE_TAG.true
 
 pub returns-else-s-at-eq-FIGURE_TAG : goal.returns-else-s-at-eq-FIGURE_TAG
 returns-else-s-at-eq-FIGURE_TAG c =
-    let a = c in
-    kept_not a.args.s.now a.args.at a.requires c.if-s-at-eq-FIGURE_TAG.false
+    kept_not c.args.s.now c.args.at c.requires c.if-s-at-eq-FIGURE_TAG.false

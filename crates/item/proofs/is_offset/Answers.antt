@@ -8,13 +8,12 @@ use Rattle.item.proofs.is_offset.Goals as goal
 
 pub returns : goal.returns
 returns c =
-    let a = c in
-    let l = a.args.index.now in
-    let at = a.args.at in
+    let l = c.args.index.now in
+    let at = c.args.at in
     let g = c.type_inv.index in
     let e₁ = c.u16_at-low.ensures.0 in
     let e₂ = c.u16_at-high.ensures.0 in
     let low : c.u16_at-low.result ≡ get_or l at 0 + 256 * get_or l (at + 1) 0 = e₁ in
     let high : c.u16_at-high.result ≡ get_or l (at + 2) 0 + 256 * get_or l (at + 3) 0 = e₂ ∙ ap (λ j. get_or l (at + 2) 0 + 256 * get_or l j 0) (omega arith) in
     rw (low, high)
-    (number_compared (get_or l at 0) (get_or l (at + 1) 0) (get_or l (at + 2) 0) (get_or l (at + 3) 0) a.args.offset (g at).fits (g (at + 1)).fits (g (at + 2)).fits (g (at + 3)).fits)
+    (number_compared (get_or l at 0) (get_or l (at + 1) 0) (get_or l (at + 2) 0) (get_or l (at + 3) 0) c.args.offset (g at).fits (g (at + 1)).fits (g (at + 2)).fits (g (at + 3)).fits)

@@ -8,16 +8,13 @@ use Rattle.item.proofs.operation.Goals as goal
 
 pub bounds-s-at : goal.bounds-s-at
 bounds-s-at c =
-    let a = c in
-    omega (arith, figure_within a.args.s.now a.args.at a.requires.0 (figure_tag_lem a.args.s.now a.args.at a.requires.1))
+    omega (arith, figure_within c.args.s.now c.args.at c.requires.fact_1 (figure_tag_lem c.args.s.now c.args.at c.requires.fact_2))
 
 pub bounds-s-at-2 : goal.bounds-s-at-2
 bounds-s-at-2 c =
-    let a = c in
-    omega (arith, figure_within a.args.s.now a.args.at a.requires.0 (figure_tag_lem a.args.s.now a.args.at a.requires.1))
+    omega (arith, figure_within c.args.s.now c.args.at c.requires.fact_1 (figure_tag_lem c.args.s.now c.args.at c.requires.fact_2))
 
 pub returns : goal.returns
 returns c =
-    let a = c in
-    operation_read a.args.s.now a.args.at a.requires.0 (figure_tag_lem a.args.s.now a.args.at a.requires.1) c.operation_of.result
-    (c.operation_of.ensures ∙ ap (operation_of (rule_byte a.args.s.now a.args.at)) c.wide.ensures.0)
+    operation_read c.args.s.now c.args.at c.requires.fact_1 (figure_tag_lem c.args.s.now c.args.at c.requires.fact_2) c.operation_of.result
+    (c.operation_of.ensures ∙ ap (operation_of (rule_byte c.args.s.now c.args.at)) c.wide.ensures.0)

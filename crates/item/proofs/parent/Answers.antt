@@ -6,30 +6,26 @@ use Rattle.item.proofs.parent.Goals as goal
 
 pub overflow_mul-k : goal.overflow_mul-k
 overflow_mul-k c =
-    let a = c in
-    let f = a.requires.0 in
-    let h = a.requires.1 in
-    omega (arith, figure_within a.args.s.now a.args.at f (parent_tag a.args.s.now a.args.at f a.args.k h), parent_counted a.args.s.now a.args.at f a.args.k h)
+    let f = c.requires.fact_1 in
+    let h = c.requires.fact_2 in
+    omega (arith, figure_within c.args.s.now c.args.at f (parent_tag c.args.s.now c.args.at f c.args.k h), parent_counted c.args.s.now c.args.at f c.args.k h)
 
 pub overflow_add-at-2 : goal.overflow_add-at-2
 overflow_add-at-2 c =
-    let a = c in
-    let f = a.requires.0 in
-    let h = a.requires.1 in
-    omega (arith, figure_within a.args.s.now a.args.at f (parent_tag a.args.s.now a.args.at f a.args.k h), parent_counted a.args.s.now a.args.at f a.args.k h)
+    let f = c.requires.fact_1 in
+    let h = c.requires.fact_2 in
+    omega (arith, figure_within c.args.s.now c.args.at f (parent_tag c.args.s.now c.args.at f c.args.k h), parent_counted c.args.s.now c.args.at f c.args.k h)
 
 pub u16_at-requires : goal.u16_at-requires
 u16_at-requires c =
-    let a = c in
-    let f = a.requires.0 in
-    let h = a.requires.1 in
-    omega (arith, figure_within a.args.s.now a.args.at f (parent_tag a.args.s.now a.args.at f a.args.k h), parent_counted a.args.s.now a.args.at f a.args.k h)
+    let f = c.requires.fact_1 in
+    let h = c.requires.fact_2 in
+    omega (arith, figure_within c.args.s.now c.args.at f (parent_tag c.args.s.now c.args.at f c.args.k h), parent_counted c.args.s.now c.args.at f c.args.k h)
 
 pub returns : goal.returns
 returns c =
-    let a = c in
-    let f = a.requires.0 in
-    let h = a.requires.1 in
+    let f = c.requires.fact_1 in
+    let h = c.requires.fact_2 in
     c.u16_at.ensures.0
-    ∙ parent_read a.args.s.now a.args.at f (parent_tag a.args.s.now a.args.at f a.args.k h) a.args.k
-    (parent_counted a.args.s.now a.args.at f a.args.k h)
+    ∙ parent_read c.args.s.now c.args.at f (parent_tag c.args.s.now c.args.at f c.args.k h) c.args.k
+    (parent_counted c.args.s.now c.args.at f c.args.k h)

@@ -5,16 +5,13 @@ use Rattle.item.proofs.parent_count.Goals as goal
 
 pub bounds-s-at-then-s-at-eq-FIGURE_TAG : goal.bounds-s-at-then-s-at-eq-FIGURE_TAG
 bounds-s-at-then-s-at-eq-FIGURE_TAG c =
-    let a = c in
-    omega (arith, figure_within a.args.s.now a.args.at a.requires c.if-s-at-eq-FIGURE_TAG.true)
+    omega (arith, figure_within c.args.s.now c.args.at c.requires c.if-s-at-eq-FIGURE_TAG.true)
 
 pub returns-then-s-at-eq-FIGURE_TAG : goal.returns-then-s-at-eq-FIGURE_TAG
 returns-then-s-at-eq-FIGURE_TAG c =
-    let a = c in
     let t = c.if-s-at-eq-FIGURE_TAG.true in
-    rw c.wide.ensures.0 (count_read a.args.s.now a.args.at a.requires t)
+    rw c.wide.ensures.0 (count_read c.args.s.now c.args.at c.requires t)
 
 pub returns-else-s-at-eq-FIGURE_TAG : goal.returns-else-s-at-eq-FIGURE_TAG
 returns-else-s-at-eq-FIGURE_TAG c =
-    let a = c in
-    count_not a.args.s.now a.args.at a.requires c.if-s-at-eq-FIGURE_TAG.false
+    count_not c.args.s.now c.args.at c.requires c.if-s-at-eq-FIGURE_TAG.false

@@ -7,20 +7,16 @@ use Rattle.item.proofs.spread_of.Goals as goal
 
 pub bounds-s-at-then-s-at-eq-FIGURE_TAG : goal.bounds-s-at-then-s-at-eq-FIGURE_TAG
 bounds-s-at-then-s-at-eq-FIGURE_TAG c =
-    let a = c in
-    omega (arith, figure_within a.args.s.now a.args.at a.requires c.if-s-at-eq-FIGURE_TAG.true)
+    omega (arith, figure_within c.args.s.now c.args.at c.requires c.if-s-at-eq-FIGURE_TAG.true)
 
 pub returns-in-1 : goal.returns-in-1
 returns-in-1 c =
-    let a = c in
-    meant_renew (spread_byte a.args.s.now a.args.at) c.in_default.keys1 ∙ spread_read a.args.s.now a.args.at a.requires c.if-s-at-eq-FIGURE_TAG.true
+    meant_renew (spread_byte c.args.s.now c.args.at) c.in-1.is ∙ spread_read c.args.s.now c.args.at c.requires c.if-s-at-eq-FIGURE_TAG.true
 
 pub returns-in_default : goal.returns-in_default
 returns-in_default c =
-    let a = c in
-    meant_defer (spread_byte a.args.s.now a.args.at) c.in_default.rest.1 ∙ spread_read a.args.s.now a.args.at a.requires c.if-s-at-eq-FIGURE_TAG.true
+    meant_defer (spread_byte c.args.s.now c.args.at) (λ h. omega arith) ∙ spread_read c.args.s.now c.args.at c.requires c.if-s-at-eq-FIGURE_TAG.true
 
 pub returns-else-s-at-eq-FIGURE_TAG : goal.returns-else-s-at-eq-FIGURE_TAG
 returns-else-s-at-eq-FIGURE_TAG c =
-    let a = c in
-    spread_not a.args.s.now a.args.at a.requires c.if-s-at-eq-FIGURE_TAG.false
+    spread_not c.args.s.now c.args.at c.requires c.if-s-at-eq-FIGURE_TAG.false

@@ -33,13 +33,12 @@ loop-written-smaller c = omega arith
 
 pub loop-written-preserved : goal.loop-written-preserved
 loop-written-preserved c =
-    let a = c in
     let l = c.loop-written in
-    let offsets = a.args.offsets.now in
+    let offsets = c.args.offsets.now in
     let e = c.put_offset.ensures in (
       omega arith,
-      ap length e ∙ put_length l.index-1 (index_width * l.written) (get_or offsets l.written 0) ∙ l.invariant.1,
-      ap (take (index_width * (l.written + 1))) e ∙ write_next offsets l.index-1 l.written (omega arith) (omega arith) l.invariant.2,
+      ap length e ∙ put_length l.index (index_width * l.written) (get_or offsets l.written 0) ∙ l.invariant.1,
+      ap (take (index_width * (l.written + 1))) e ∙ write_next offsets l.index l.written (omega arith) (omega arith) l.invariant.2,
     )
 
 pub shape_of-index : goal.shape_of-index
@@ -48,6 +47,5 @@ shape_of-index c =
 
 pub returns : goal.returns
 returns c =
-    let a = c in
     let l = c.loop-written in
-    write_done a.args.offsets.now l.index-1 l.written a.args.n (omega arith) l.invariant.1 l.invariant.2
+    write_done c.args.offsets.now l.index l.written c.args.n (omega arith) l.invariant.1 l.invariant.2

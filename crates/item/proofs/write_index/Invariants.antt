@@ -7,7 +7,7 @@ use Rattle.item.specs.Offsets.{offset_bytes}
 use Rattle.item.proofs.write_index.Given as goal
 
 abbrev pub invariant-loop-written : goal.invariant-loop-written
-invariant-loop-written l = (l.written ≤ l.n) × (length l.initial.written ≡ index_width * l.n) × (take (index_width * l.written) l.initial.written ≡ offset_bytes (take l.written l.offsets))
+invariant-loop-written l = (l.written ≤ l.n) × (length l.index ≡ index_width * l.n) × (take (index_width * l.written) l.index ≡ offset_bytes (take l.written l.offsets))
 
 abbrev pub decreases-loop-written : goal.decreases-loop-written
 decreases-loop-written l = l.n - l.written

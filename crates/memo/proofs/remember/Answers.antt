@@ -8,4 +8,7 @@ use Rattle.memo.proofs.remember.Goals as goal
 pub returns : goal.returns
 returns c =
     let a = c.args in
-    (ap (λ x. set a.tags.now a.i x) c.tag_of.ensures, ap (λ z. set a.numbers.now a.i z) (back _ (search rules) ∙ c.number_or_zero.ensures))
+    record {
+      tagged = ap (λ x. set a.tags.now a.i x) c.tag_of.ensures;
+      numbered = ap (λ z. set a.numbers.now a.i z) (back _ (search rules) ∙ c.number_or_zero.ensures);
+    }

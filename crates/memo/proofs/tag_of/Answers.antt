@@ -6,9 +6,9 @@ use Rattle.memo.proofs.tag_of.Goals as goal
 pub returns-then-seen : goal.returns-then-seen
 returns-then-seen c =
     let a = c.args in
-    tagged a.generation _ _ (meaning a.seen.value-1) a.seen.flag c.if-seen.true c.wide.ensures.0 c.kind.ensures
+    tagged a.generation _ _ (meaning a.seen.value) a.seen.flag c.if-seen.true c.wide.ensures.0 c.kind.ensures
 
 pub returns-else-seen : goal.returns-else-seen
 returns-else-seen c =
     let a = c.args in
-    untagged a.generation _ _ (meaning a.seen.value-1) a.seen.flag c.if-seen.false c.wide.ensures.0 c.kind.ensures
+    untagged a.generation _ _ (meaning a.seen.value) a.seen.flag c.if-seen.false c.wide.ensures.0 c.kind.ensures

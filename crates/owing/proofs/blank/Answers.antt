@@ -19,9 +19,8 @@ loop-i-smaller c = omega arith
 
 pub loop-i-preserved : goal.loop-i-preserved
 loop-i-preserved c =
-    let s = c in
     let l = c.loop-i in
-    blanked_next s.args.n (length s.args.owed.now) l.i l.owed s.requires c.loop-i-test.true l.invariant
+    blanked_next c.args.n (length c.args.owed.now) l.i l.owed c.requires c.loop-i-test.true l.invariant
 
 pub shape_of-owed : goal.shape_of-owed
 shape_of-owed c = c.loop-i.invariant.kept

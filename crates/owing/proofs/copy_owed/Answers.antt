@@ -28,9 +28,8 @@ loop-i-smaller c = omega arith
 
 pub loop-i-preserved : goal.loop-i-preserved
 loop-i-preserved c =
-    let s = c in
     let l = c.loop-i in
-    copied_next s.args.table.now s.args.n (length s.args.owed.now) l.i l.owed s.requires.1 c.loop-i-test.true l.invariant
+    copied_next c.args.table.now c.args.n (length c.args.owed.now) l.i l.owed c.requires.fact_2 c.loop-i-test.true l.invariant
 
 pub shape_of-owed : goal.shape_of-owed
 shape_of-owed c = c.loop-i.invariant.kept

@@ -5,7 +5,7 @@ use Rattle.owing.proofs.Writing.{Copied}
 use Rattle.owing.proofs.copy_owed.Given as goal
 
 abbrev pub invariant-loop-i : goal.invariant-loop-i
-invariant-loop-i l = Copied l.table l.n (length l.initial.owed) l.i l.initial.i
+invariant-loop-i l = Copied l.table l.n (length l.initial.owed) l.i l.owed
 
 abbrev pub decreases-loop-i : goal.decreases-loop-i
 decreases-loop-i l = l.n - l.i

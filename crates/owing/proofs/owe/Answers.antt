@@ -12,68 +12,65 @@ use Rattle.owing.proofs.owe.Goals as goal
 
 pub loop-c-init : goal.loop-c-init
 loop-c-init c =
-    let a = c in
-    passed_start (sheet_of a.args.s.now) (sheet_ordered a.args.s.now) (decode_table a.args.table.now) (length a.args.owed.now) a.args.n
-    a.args.owed.now a.requires.1.0 refl a.requires.1.1.1.1
+    passed_start (sheet_of c.args.s.now) (sheet_ordered c.args.s.now) (decode_table c.args.table.now) (length c.args.owed.now) c.args.n
+    c.args.owed.now c.requires.fact_2 refl c.requires.fact_5
 
 pub overflow_sub-c : goal.overflow_sub-c
 overflow_sub-c c = omega arith
 
 pub leans-requires : goal.leans-requires
 leans-requires c =
-    let a = c in
     let l = c.loop-c in
     let more = c.loop-c-test.true in
-    (omega (arith, a.requires.1.0, a.requires.1.1.1.0, l.invariant.within, more), omega (arith, l.invariant.within, l.invariant.fits, l.invariant.kept, more))
+    record {
+      fact_1 = omega (arith, c.requires.fact_2, c.requires.fact_4, l.invariant.within, more);
+      fact_2 = omega (arith, l.invariant.within, l.invariant.fits, l.invariant.kept, more);
+    }
 
 pub offset_bounds-offsets-c : goal.offset_bounds-offsets-c
 offset_bounds-offsets-c c = omega (arith, size_most c.args.s.now, c.loop-c.invariant.within)
 
 pub bounds-offsets-c : goal.bounds-offsets-c
 bounds-offsets-c c =
-    let a = c in
-    omega (arith, a.requires.1.0, a.requires.1.1.0, c.loop-c.invariant.within, c.loop-c-test.true)
+    omega (arith, c.requires.fact_2, c.requires.fact_3, c.loop-c.invariant.within, c.loop-c-test.true)
 
 pub owe_parents-requires : goal.owe_parents-requires
 owe_parents-requires c =
-    let a = c in
     let l = c.loop-c in
-    let low : l.c - 1 < size (sheet_of a.args.s.now) = omega (arith, l.invariant.within, c.loop-c-test.true) in (
-      located_field a.args.s.now a.args.offsets.now a.requires.0 (l.c - 1) low,
-      parents_low a.args.s.now a.args.offsets.now a.requires.0 (l.c - 1) low l.owed-1 (omega (arith, l.invariant.fits, l.invariant.kept)),
-    )
+    let low : l.c - 1 < size (sheet_of c.args.s.now) = omega (arith, l.invariant.within, c.loop-c-test.true) in
+    record {
+      fact_1 = located_field c.args.s.now c.args.offsets.now c.requires.fact_1 (l.c - 1) low;
+      fact_2 = parents_low c.args.s.now c.args.offsets.now c.requires.fact_1 (l.c - 1) low l.owed (omega (arith, l.invariant.fits, l.invariant.kept));
+    }
 
 pub loop-c-smaller-then-leans : goal.loop-c-smaller-then-leans
 loop-c-smaller-then-leans c = omega (arith, c.loop-c-test.true)
 
 pub loop-c-preserved-then-leans : goal.loop-c-preserved-then-leans
 loop-c-preserved-then-leans c =
-    let a = c in
     let l = c.loop-c in
     let more = c.loop-c-test.true in
     let r = c.leans in
-    let low : l.c - 1 < size (sheet_of a.args.s.now) = omega (arith, l.invariant.within, more) in
-    passed_field a.args.s.now a.args.offsets.now a.requires.0 (l.c - 1) low (decode_table a.args.table.now) (length a.args.owed.now) l.owed-1 _
+    let low : l.c - 1 < size (sheet_of c.args.s.now) = omega (arith, l.invariant.within, more) in
+    passed_field c.args.s.now c.args.offsets.now c.requires.fact_1 (l.c - 1) low (decode_table c.args.table.now) (length c.args.owed.now) l.owed _
     c.owe_parents.ensures
-    (passed_on (sheet_of a.args.s.now) (sheet_ordered a.args.s.now) (decode_table a.args.table.now) (length a.args.owed.now) l.c (l.c - 1)
-    (omega (arith, more)) l.owed-1 l.invariant r.result r.ensures c.if-leans.true)
+    (passed_on (sheet_of c.args.s.now) (sheet_ordered c.args.s.now) (decode_table c.args.table.now) (length c.args.owed.now) l.c (l.c - 1)
+    (omega (arith, more)) l.owed l.invariant r.result r.ensures c.if-leans.true)
 
 pub loop-c-smaller : goal.loop-c-smaller
 loop-c-smaller c = omega (arith, c.loop-c-test.true)
 
 pub loop-c-preserved : goal.loop-c-preserved
 loop-c-preserved c =
-    let a = c in
     let l = c.loop-c in
     let r = c.leans in
-    passed_over (sheet_of a.args.s.now) (sheet_ordered a.args.s.now) (decode_table a.args.table.now) (length a.args.owed.now) l.c (l.c - 1)
-    (omega (arith, c.loop-c-test.true)) l.owed-1 l.invariant r.result r.ensures c.if-leans.false
+    passed_over (sheet_of c.args.s.now) (sheet_ordered c.args.s.now) (decode_table c.args.table.now) (length c.args.owed.now) l.c (l.c - 1)
+    (omega (arith, c.loop-c-test.true)) l.owed l.invariant r.result r.ensures c.if-leans.false
 
 pub shape_of-owed : goal.shape_of-owed
 shape_of-owed c = c.loop-c.invariant.kept
 
 pub returns : goal.returns
 returns c =
-    let a = c in
-    passed_done (sheet_of a.args.s.now) (sheet_ordered a.args.s.now) (decode_table a.args.table.now) (length a.args.owed.now)
-    c.loop-c.c c.loop-c.owed-1 c.loop-c.invariant (omega (arith, c.loop-c-test.false))
+    passed_done (sheet_of c.args.s.now) (sheet_ordered c.args.s.now) (decode_table c.args.table.now) (length c.args.owed.now)
+    c.loop-c.c c.loop-c.owed c.loop-c.invariant (omega (arith, c.loop-c-test.false))

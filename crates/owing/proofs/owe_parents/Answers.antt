@@ -15,11 +15,10 @@ loop-k-init c = (omega arith, refl)
 
 pub bounds-owed-parent : goal.bounds-owed-parent
 bounds-owed-parent c =
-    let a = c in
-    let ps = parents_of (field_item a.args.s.now a.args.at) in
+    let ps = parents_of (field_item c.args.s.now c.args.at) in
     let k = c.loop-k.k in
-    let low = place_low ps a.requires.1 k _ _ c.parent.ensures c.parent_count-count.ensures.count_is c.loop-k-test.true in
-    let kept = ap length c.loop-k.invariant.1 ∙ each_length a.args.owed.now ps k in
+    let low = place_low ps c.requires.fact_2 k _ _ c.parent.ensures c.parent_count-count.ensures.count_is c.loop-k-test.true in
+    let kept = ap length c.loop-k.invariant.1 ∙ each_length c.args.owed.now ps k in
     omega (arith, low, kept)
 
 pub overflow_add-k : goal.overflow_add-k

@@ -7,7 +7,7 @@ use Rattle.owing.specs.Owing.{owe_each}
 use Rattle.owing.proofs.owe_parents.Given as goal
 
 abbrev pub invariant-loop-k : goal.invariant-loop-k
-invariant-loop-k l = (l.k ≤ l.owed) × (l.initial.k ≡ owe_each l.initial.owed (parents_of (field_item l.s l.at)) l.k)
+invariant-loop-k l = (l.k ≤ l.count) × (l.owed ≡ owe_each l.initial.owed (parents_of (field_item l.s l.at)) l.k)
 
 abbrev pub decreases-loop-k : goal.decreases-loop-k
-decreases-loop-k l = l.owed - l.k
+decreases-loop-k l = l.count - l.k

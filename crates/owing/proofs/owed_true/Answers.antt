@@ -6,6 +6,4 @@ use Rattle.owing.proofs.owed_true.Goals as goal
 
 pub returns : goal.returns
 returns c =
-    let o = c in
-    let a = o in
-    c.owed_matches.ensures ∙ matches_true (sheet_of a.args.s.now) a.args.table.now _ a.args.n a.requires.1.0 o.owe.ensures
+    c.owed_matches.ensures ∙ matches_true (sheet_of c.args.s.now) c.args.table.now _ c.args.n c.requires.fact_2 c.owe.ensures

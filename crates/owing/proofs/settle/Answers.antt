@@ -5,7 +5,5 @@ use Rattle.owing.proofs.settle.Goals as goal
 
 pub returns : goal.returns
 returns c =
-    let o = c in
-    let a = o in
-    settled (sheet_of a.args.s.now) a.args.table.now _ a.args.n a.requires.1.0 a.requires.1.1.1.0 a.requires.1.1.1.1
-    o.owe.ensures _ (λ j. (c.type_inv.table j).fits) c.write_owed.ensures
+    settled (sheet_of c.args.s.now) c.args.table.now _ c.args.n c.requires.fact_2 c.requires.fact_4 c.requires.fact_5
+    c.owe.ensures _ (λ j. (c.type_inv.table j).fits) c.write_owed.ensures

@@ -24,9 +24,8 @@ overflow_add-table c = omega arith
 
 pub bounds-table-i : goal.bounds-table-i
 bounds-table-i c =
-    let s = c in
     let l = c.loop-i in
-    omega (arith, ap length l.invariant.1 ∙ rows_length s.args.table.now s.args.owed.now l.i)
+    omega (arith, ap length l.invariant.1 ∙ rows_length c.args.table.now c.args.owed.now l.i)
 
 pub overflow_add-i : goal.overflow_add-i
 overflow_add-i c = omega arith

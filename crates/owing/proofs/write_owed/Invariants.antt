@@ -5,7 +5,7 @@ use Rattle.owing.specs.Owing.{owe_rows}
 use Rattle.owing.proofs.write_owed.Given as goal
 
 abbrev pub invariant-loop-i : goal.invariant-loop-i
-invariant-loop-i l = (l.i ≤ l.table) × (l.initial.i ≡ owe_rows l.initial.table l.n l.i)
+invariant-loop-i l = (l.i ≤ l.n) × (l.table ≡ owe_rows l.initial.table l.owed l.i)
 
 abbrev pub decreases-loop-i : goal.decreases-loop-i
-decreases-loop-i l = l.table - l.i
+decreases-loop-i l = l.n - l.i

@@ -1,4 +1,5 @@
 -- `table::codes_formed` meets its contract: each way out is a case of the form. Assumes nothing.
+use native.Mathlib.Omega.{arith}
 use Rattle.table.proofs.Cases.{kind_over, mark_over, figure_unk, figure_stored, entry_never, entry_stored}
 use Rattle.table.proofs.codes_formed.Goals as goal
 
@@ -20,8 +21,8 @@ returns-else-kind-ne0 c =
 
 pub returns-in-0 : goal.returns-in-0
 returns-in-0 c =
-    entry_never _ _ _ c.if-kind-gt3.false c.if-mark-gt2.false c.if-figure.false c.in_default.keys1
+    entry_never _ _ _ c.if-kind-gt3.false c.if-mark-gt2.false c.if-figure.false c.in-0.is
 
 pub returns-in_default : goal.returns-in_default
 returns-in_default c =
-    entry_stored _ _ _ c.if-kind-gt3.false c.if-mark-gt2.false c.if-figure.false c.in_default.rest.1
+    entry_stored c.args.figure c.args.kind c.args.mark c.if-kind-gt3.false c.if-mark-gt2.false c.if-figure.false (λ h. omega arith)

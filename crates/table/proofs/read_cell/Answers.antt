@@ -6,4 +6,4 @@ use Rattle.table.proofs.read_cell.Goals as goal
 pub returns : goal.returns
 returns c =
     read_decoded c.args.table.now c.args.i c.read_i64.result
-    (record { sfits = c.read_i64.type-inv }) c.read_i64.ensures (cell_meaning c.cell_coded.result) c.cell_coded.ensures
+    (record { sfits = c.read_i64.type_inv }) c.read_i64.ensures (cell_meaning c.cell_coded.result) c.cell_coded.ensures

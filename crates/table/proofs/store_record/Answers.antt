@@ -12,11 +12,11 @@ pub write_i64-requires : goal.write_i64-requires
 write_i64-requires c = simp length-set (omega arith)
 
 pub shape_of-table : goal.shape_of-table
-shape_of-table c = c.write_i64.auto.0 ∙ simp length-set
+shape_of-table c = c.write_i64.auto.s ∙ simp length-set
 
 pub returns : goal.returns
 returns c =
     record_stored c.args.table.now c.args.at
     c.args.kind c.args.mark
-    c.args.number c.write_i64.new.0 c.ranges.number
+    c.args.number c.write_i64.new.s c.ranges.number
     c.write_i64.ensures
