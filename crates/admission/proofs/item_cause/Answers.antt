@@ -1,6 +1,7 @@
-
+-- `admission::item_cause` meets its contract. Assumes nothing.
 use Rattle.admission.proofs.Admitting.{cause_beyond, cause_within}
 use Rattle.item.proofs.Located.{located_field, located_item}
+use Rattle.circuit.specs.Sheet.{is_figure}
 use Rattle.layout.specs.Opened.{sheet_of}
 use mathlib.Core.Bool.{true, false}
 use mathlib.Core.Path.{ap, ◌∙◌}
@@ -23,7 +24,7 @@ returns-then-figure c =
     let i = c.is_figure-figure in
     let low = c.if-item-n.false in
     cause_within (sheet_of a.sheet.now) a.n a.item a.figures p.count_is i.result true true low
-    (i.ensures ∙ ap Rattle.circuit.specs.Sheet.is_figure-figure (located_item a.sheet.now a.offsets.now p.located a.item (omega (arith, p.count_is, low))))
+    (i.ensures ∙ ap is_figure (located_item a.sheet.now a.offsets.now p.located a.item (omega (arith, p.count_is, low))))
     c.if-figures.true c.if-figure.true
 
 pub returns-else-figure : goal.returns-else-figure
@@ -33,7 +34,7 @@ returns-else-figure c =
     let i = c.is_figure-figure in
     let low = c.if-item-n.false in
     cause_within (sheet_of a.sheet.now) a.n a.item a.figures p.count_is i.result true false low
-    (i.ensures ∙ ap Rattle.circuit.specs.Sheet.is_figure-figure (located_item a.sheet.now a.offsets.now p.located a.item (omega (arith, p.count_is, low))))
+    (i.ensures ∙ ap is_figure (located_item a.sheet.now a.offsets.now p.located a.item (omega (arith, p.count_is, low))))
     c.if-figures.true c.if-figure.false
 
 pub returns-then-figure-2 : goal.returns-then-figure-2
@@ -43,7 +44,7 @@ returns-then-figure-2 c =
     let i = c.is_figure-figure in
     let low = c.if-item-n.false in
     cause_within (sheet_of a.sheet.now) a.n a.item a.figures p.count_is i.result false true low
-    (i.ensures ∙ ap Rattle.circuit.specs.Sheet.is_figure-figure (located_item a.sheet.now a.offsets.now p.located a.item (omega (arith, p.count_is, low))))
+    (i.ensures ∙ ap is_figure (located_item a.sheet.now a.offsets.now p.located a.item (omega (arith, p.count_is, low))))
     c.if-figures.false c.if-figure-2.true
 
 pub returns-else-figure-2 : goal.returns-else-figure-2
@@ -53,5 +54,5 @@ returns-else-figure-2 c =
     let i = c.is_figure-figure in
     let low = c.if-item-n.false in
     cause_within (sheet_of a.sheet.now) a.n a.item a.figures p.count_is i.result false false low
-    (i.ensures ∙ ap Rattle.circuit.specs.Sheet.is_figure-figure (located_item a.sheet.now a.offsets.now p.located a.item (omega (arith, p.count_is, low))))
+    (i.ensures ∙ ap is_figure (located_item a.sheet.now a.offsets.now p.located a.item (omega (arith, p.count_is, low))))
     c.if-figures.false c.if-figure-2.false

@@ -8,58 +8,58 @@ use Rattle.admission.proofs.measure.Goals as goal
 pub overflow_mul-count : goal.overflow_mul-count
 overflow_mul-count c =
     let a = c.args in
-    let g = c.count-1.given in
+    let g = c.in-Opens in
     let k = c.check in
-    let e = sym g.1 ∙ k.ensures.0 in
-    omega (arith, count_small a.sheet.now a.index-len a.table-len g.0.0 g.0.1.0 e)
+    let e = sym g.is ∙ k.ensures.answer in
+    omega (arith, count_small a.sheet.now a.index_len a.table_len g.edition g.count e)
 
 pub returns-then-index_len-count : goal.returns-then-index_len-count
 returns-then-index_len-count c =
     let a = c.args in
-    let g = c.count-1.given in
+    let g = c.in-Opens in
     let k = c.check in
-    let e = sym g.1 ∙ k.ensures.0 in (
-      measured_index a.sheet.now a.index-len a.table-len g.0.0 g.0.1.0 e
-          c.if-index_len-count.true,
-      record { found = record { offsets_are = k.ensures.1.0; located = located a.sheet.now _ _ k.ensures.1.0 }; levels_are = k.ensures.1.1 },
-    )
+    let e = sym g.is ∙ k.ensures.answer in
+    record {
+      answer = measured_index a.sheet.now a.index_len a.table_len g.edition g.count e c.if-index_len-count.true;
+      found = record { found = record { offsets_are = k.ensures.found; located = located a.sheet.now _ _ k.ensures.found }; levels_are = k.ensures.leveled };
+    }
 
 pub overflow_mul-count-in-Opens : goal.overflow_mul-count-in-Opens
 overflow_mul-count-in-Opens c =
     let a = c.args in
-    let g = c.count-1.given in
+    let g = c.in-Opens in
     let k = c.check in
-    let e = sym g.1 ∙ k.ensures.0 in
-    omega (arith, count_small a.sheet.now a.index-len a.table-len g.0.0 g.0.1.0 e)
+    let e = sym g.is ∙ k.ensures.answer in
+    omega (arith, count_small a.sheet.now a.index_len a.table_len g.edition g.count e)
 
 pub returns-then-table_len-count : goal.returns-then-table_len-count
 returns-then-table_len-count c =
     let a = c.args in
-    let g = c.count-1.given in
+    let g = c.in-Opens in
     let k = c.check in
-    let e = sym g.1 ∙ k.ensures.0 in (
-      measured_table a.sheet.now a.index-len a.table-len g.0.0 g.0.1.0 e c.if-index_len-count.false
-          c.if-table_len-count.true,
-      record { found = record { offsets_are = k.ensures.1.0; located = located a.sheet.now _ _ k.ensures.1.0 }; levels_are = k.ensures.1.1 },
-    )
+    let e = sym g.is ∙ k.ensures.answer in
+    record {
+      answer = measured_table a.sheet.now a.index_len a.table_len g.edition g.count e c.if-index_len-count.false c.if-table_len-count.true;
+      found = record { found = record { offsets_are = k.ensures.found; located = located a.sheet.now _ _ k.ensures.found }; levels_are = k.ensures.leveled };
+    }
 
 pub returns-in-Refused : goal.returns-in-Refused
 returns-in-Refused c =
     let a = c.args in
-    let g = c.number-1.given in
-    let k = c.check in (
-      measured_refused a.sheet.now a.index-len a.table-len g.0.0 g.0.1.0
-          (sym g.1 ∙ k.ensures.0),
-      record { found = record { offsets_are = k.ensures.1.0; located = located a.sheet.now _ _ k.ensures.1.0 }; levels_are = k.ensures.1.1 },
-    )
+    let r = c.in-Refused in
+    let k = c.check in
+    record {
+      answer = measured_refused a.sheet.now a.index_len a.table_len r.number r.offset (sym r.is ∙ k.ensures.answer);
+      found = record { found = record { offsets_are = k.ensures.found; located = located a.sheet.now _ _ k.ensures.found }; levels_are = k.ensures.leveled };
+    }
 
 pub returns-else-table_len-count : goal.returns-else-table_len-count
 returns-else-table_len-count c =
     let a = c.args in
-    let g = c.count-1.given in
+    let g = c.in-Opens in
     let k = c.check in
-    let e = sym g.1 ∙ k.ensures.0 in (
-      measured_items a.sheet.now a.index-len a.table-len g.0.0 g.0.1.0 e c.if-index_len-count.false
-          c.if-table_len-count.false,
-      record { found = record { offsets_are = k.ensures.1.0; located = located a.sheet.now _ _ k.ensures.1.0 }; levels_are = k.ensures.1.1 },
-    )
+    let e = sym g.is ∙ k.ensures.answer in
+    record {
+      answer = measured_items a.sheet.now a.index_len a.table_len g.edition g.count e c.if-index_len-count.false c.if-table_len-count.false;
+      found = record { found = record { offsets_are = k.ensures.found; located = located a.sheet.now _ _ k.ensures.found }; levels_are = k.ensures.leveled };
+    }

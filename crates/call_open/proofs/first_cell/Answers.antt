@@ -1,4 +1,4 @@
-
+-- `call_open::first_cell` meets its contract. Assumes nothing.
 use Rattle.call_open.proofs.first_cell.Goals as goal
 
 pub returns-then-filled : goal.returns-then-filled

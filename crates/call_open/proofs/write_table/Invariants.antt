@@ -7,7 +7,7 @@ use mathlib.Core.Path.{◌≡◌}
 use Rattle.call_open.proofs.write_table.Given as goal
 
 abbrev pub invariant-loop-k : goal.invariant-loop-k
-invariant-loop-k l = (l.k ≤ l.n) × (length l.initial.k ≡ width * l.n) × Written l.table l.sheet l.initial.k l.k
+invariant-loop-k l = (l.k ≤ l.n) × (length l.table ≡ width * l.n) × Written l.filled l.sheet l.table l.k
 
 abbrev pub decreases-loop-k : goal.decreases-loop-k
 decreases-loop-k l = l.n - l.k

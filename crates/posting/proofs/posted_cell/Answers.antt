@@ -1,4 +1,4 @@
-
+-- `posting::posted_cell` meets its contract. Assumes nothing.
 use Rattle.table.specs.Meaning.{cell_meaning}
 use Rattle.value.specs.Meaning.{meaning}
 use Rattle.circuit.specs.Machine.{post_cell}
@@ -6,16 +6,16 @@ use mathlib.Core.Path.{sym, ap, ◌∙◌}
 use Rattle.posting.proofs.posted_cell.Goals as goal
 
 pub returns-in-Unk : goal.returns-in-Unk
-returns-in-Unk c = let a = c.args in sym (ap (λ q. post_cell (cell_meaning q) (meaning a.value)) c.enum_told-1.given.1)
+returns-in-Unk c = let a = c.args in sym (ap (λ q. post_cell (cell_meaning q) (meaning a.value)) c.in-Unk.is)
 
 pub returns-then-same : goal.returns-then-same
 returns-then-same c =
     let a = c.args in
-    let e = c.cell-1.given in
-    sym (ap (λ q. post_cell (cell_meaning q) (meaning a.value)) e.1 ∙ rw (sym c.same.ensures ∙ c.if-same.true))
+    let e = c.in-Held in
+    sym (ap (λ q. post_cell (cell_meaning q) (meaning a.value)) e.is ∙ rw (sym c.same.ensures ∙ c.if-same.true))
 
 pub returns-else-same : goal.returns-else-same
 returns-else-same c =
     let a = c.args in
-    let e = c.cell-1.given in
-    sym (ap (λ q. post_cell (cell_meaning q) (meaning a.value)) e.1 ∙ rw (sym c.same.ensures ∙ c.if-same.false))
+    let e = c.in-Held in
+    sym (ap (λ q. post_cell (cell_meaning q) (meaning a.value)) e.is ∙ rw (sym c.same.ensures ∙ c.if-same.false))

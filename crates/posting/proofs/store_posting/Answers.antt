@@ -10,5 +10,5 @@ pub returns : goal.returns
 returns c =
     let a = c.args in
     c.store_cell.ensures
-    ∙ ap (λ d. set_row width a.table-1.now a.i (encode_cell d))
+    ∙ ap (λ d. set_row width a.table.now a.i (encode_cell d))
     (c.posted_cell-cell.ensures ∙ ap (λ d. post_cell d (meaning a.value)) c.read_cell.ensures)
