@@ -1,7 +1,4 @@
--- `stepping::link_once` meets its contract. Assumes nothing.
-use Prim.Native.Nat.{ℕ}
-use native.Mathlib.Omega.{arith}
-use mathlib.Core.Path.{◌≡◌, refl, subst}
+use Rattle.std.proofs.Common.{ℕ, ◌≡◌, refl, subst, arith}
 use Rattle.circuit.specs.Rules.{max_parents}
 use Rattle.layout.specs.Opened.{sheet_of}
 use Rattle.stepping.specs.Stepping.{Lists}
@@ -11,29 +8,40 @@ use Rattle.stepping.proofs.link_once.Goals as goal
 pub returns-then-built : goal.returns-then-built
 returns-then-built c =
     let a = c.args in
-    let p = c.requires in
-    (subst (λ x. Lists (sheet_of a.sheet.now) x a.heads-1.now a.links-1.now) c.if-built.true p.1.1.1, λ e. refl)
+    record {
+      lists = subst (λ x. Lists (sheet_of a.sheet.now) x a.heads.now a.links.now) c.if-built.true c.requires.fact_4;
+      there = λ e. refl;
+    }
 
 pub link-requires : goal.link-requires
 unfolding max_parents
 link-requires c =
     let p = c.requires in
-    let is = p.1.1.1 in
-    (p.0, (p.1.0, (p.1.1.0, (omega (arith, is.head_room, p.1.0), omega (arith, is.link_room, p.1.0)))))
+    let is = p.fact_4 in
+    record {
+      fact_1 = p.fact_1;
+      fact_2 = p.fact_2;
+      fact_3 = p.fact_3;
+      fact_4 = omega (arith, is.head_room, p.fact_2);
+      fact_5 = omega (arith, is.link_room, p.fact_2);
+    }
 
 pub returns-then-needed : goal.returns-then-needed
 returns-then-needed c =
-    let l = c in
-    let e = l in
-    let is = subst (λ x. Lists (sheet_of e.args.sheet.now) x e.args.heads.now e.args.links.now) l.if-built.false e.requires.1.1.1 in (
-      lists_built e.args.sheet.now e.args.offsets.now e.args.heads.now e.args.links.now _ _ e.requires.0 is l.link.ensures.0 l.link.ensures.1
-          l.link.auto.1.1.1.0 l.link.auto.1.1.1.1.0,
-      λ n. refl,
-    )
+    let a = c.args in
+    let l = c.link in
+    let is = subst (λ x. Lists (sheet_of a.sheet.now) x a.heads.now a.links.now) c.if-built.false c.requires.fact_4 in
+    record {
+      lists =
+          lists_built a.sheet.now a.offsets.now a.heads.now a.links.now _ _ c.requires.fact_1 is l.ensures.headed l.ensures.linked
+          l.auto.heads l.auto.links;
+      there = λ n. refl;
+    }
 
 pub returns : goal.returns
 returns c =
-    let e = c in (
-      subst (λ x. Lists (sheet_of e.args.sheet.now) x e.args.heads.now e.args.links.now) c.if-built.false e.requires.1.1.1,
-      λ n. let bad : ◌≡◌ {A = ℕ} 0 1 = cc (n, c.if-needed.false) in absurd (omega (arith, bad)),
-    )
+    let a = c.args in
+    record {
+      lists = subst (λ x. Lists (sheet_of a.sheet.now) x a.heads.now a.links.now) c.if-built.false c.requires.fact_4;
+      there = λ n. let bad : ◌≡◌ {A = ℕ} 0 1 = cc (n, c.if-needed.false) in absurd (omega (arith, bad));
+    }

@@ -1,17 +1,12 @@
--- `stepping::step_marked` meets its contract. Assumes nothing.
 use Rattle.stepping.proofs.Ascending.{marked_steps, unmarked_stays}
 use Rattle.owing.specs.Owing.{says_owed}
 use Rattle.stepping.proofs.step_marked.Goals as goal
 
 pub returns-then-is_marked : goal.returns-then-is_marked
 returns-then-is_marked c =
-    let q = c.requires in
-    let a = c.args in
-    marked_steps (says_owed a.owed.now) q.0 a.i _ c.is_marked.ensures
-    c.if-is_marked.true c.step_item.ensures
+    marked_steps (says_owed c.args.owed.now) c.requires.fact_1 c.args.i _ c.is_marked.ensures c.if-is_marked.true c.step_item.ensures
 
 pub returns-else-is_marked : goal.returns-else-is_marked
 returns-else-is_marked c =
     let q = c.requires in
-    let a = c.args in
-    unmarked_stays (says_owed a.owed.now) q.0 a.i _ c.is_marked.ensures c.if-is_marked.false q.1.0.older
+    unmarked_stays (says_owed c.args.owed.now) q.fact_1 c.args.i _ c.is_marked.ensures c.if-is_marked.false q.fact_2.older
