@@ -8,19 +8,14 @@ use Rattle.call_keep.proofs.keep_cell.Goals as goal
 pub keep_new-requires : goal.keep_new-requires
 keep_new-requires c =
     let p = c.requires in
-    let unstored = ap is_stored (sym c.read_cell.ensures ∙ ap cell_meaning c.enum_told-in-Unk-1.given.1) in
-    (p.0, (p.1.0, (p.1.1.0, (p.1.1.1, unstored))))
+    let unstored = ap is_stored (sym c.read_cell.ensures ∙ ap cell_meaning c.in-Unk.is) in
+    record { fact_1 = p.fact_1; fact_2 = p.fact_2; fact_3 = p.fact_3; fact_4 = p.fact_4; fact_5 = unstored }
 
 pub returns-in-Held : goal.returns-in-Held
 returns-in-Held c =
-    let r = c in
-    let e = r in
-    kept_held e.requires.0 e.args.i e.requires.1.1.0 _ _ (sym r.read_cell.ensures ∙ ap cell_meaning c.enum_told-1.given.1)
+    kept_held c.requires.fact_1 c.args.i c.requires.fact_3 _ _ (sym c.read_cell.ensures ∙ ap cell_meaning c.in-Held.is)
 
 pub returns-in-Unk : goal.returns-in-Unk
 returns-in-Unk c =
-    let u = c in
-    let r = u in
-    let e = r in
-    let unk-is = sym r.read_cell.ensures ∙ ap cell_meaning u.enum_told-in-Unk-1.given.1 in
-    kept_unk e.requires.0 e.args.i e.requires.1.1.0 _ _ unk-is c.keep_new.ensures
+    let unk-is = sym c.read_cell.ensures ∙ ap cell_meaning c.in-Unk.is in
+    kept_unk c.requires.fact_1 c.args.i c.requires.fact_3 _ _ unk-is c.keep_new.ensures

@@ -7,32 +7,25 @@ use Rattle.call_keep.proofs.keep_lent.Goals as goal
 pub returns-then-cause-ne0 : goal.returns-then-cause-ne0
 returns-then-cause-ne0 c =
     λ x.
-    let e = c in
     let i = c.item_cause-cause in
-    keep_item e.requires.1.0 x e.args.item i.result i.ensures c.give.result c.give.ensures.1 c.if-cause-ne0.true c.give.ensures.0
+    keep_item c.requires.fact_2 x c.args.item i.result i.ensures c.give.result c.give.ensures.1 c.if-cause-ne0.true c.give.ensures.0
 
 pub keep_cell-requires : goal.keep_cell-requires
 keep_cell-requires c =
-    let e = c in
-    let p = e.requires in
+    let p = c.requires in
     let i = c.item_cause-cause in
-    let q = cause_figure (sheet_of e.args.sheet.now) e.args.item i.result i.ensures c.if-cause-ne0.false in
-    (p.1.0, (p.1.1.1, (q.0, q.1)))
+    let q = cause_figure (sheet_of c.args.sheet.now) c.args.item i.result i.ensures c.if-cause-ne0.false in
+    record { fact_1 = p.fact_2; fact_2 = p.fact_4; fact_3 = q.0; fact_4 = q.1 }
 
 pub settle-requires : goal.settle-requires
 settle-requires c =
     let p = c.requires in
     let d = c.keep_cell in
-    settle_needs p.0 p.1.0 p.1.1.0 _ d.auto.1.1.0 d.ensures.formed
+    settle_needs p.fact_1 p.fact_2 p.fact_3 _ d.auto.table d.ensures.formed
 
 pub returns : goal.returns
 returns c =
     λ x.
-    let c5 = c in
-    let c13 = c5 in
-    let o = c13 in
-    let c18 = o in
-    let e = c18 in
-    let i = c18.item_cause-cause in
-    keep_done e.requires.1.0 x e.args.item i.result i.ensures c.give-2.result c.give-2.ensures.1 o.if-cause-ne0.false _ c13.keep_cell.ensures _
-    c5.settle.ensures c.give-2.ensures.0
+    let i = c.item_cause-cause in
+    keep_done c.requires.fact_2 x c.args.item i.result i.ensures c.give-2.result c.give-2.ensures.1 c.if-cause-ne0.false _ c.keep_cell.ensures _
+    c.settle.ensures c.give-2.ensures.0

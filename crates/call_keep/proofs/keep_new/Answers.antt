@@ -10,15 +10,12 @@ use Rattle.call_keep.proofs.keep_new.Goals as goal
 
 pub look_unstored-seen-requires : goal.look_unstored-seen-requires
 look_unstored-seen-requires c =
-    let e = c in
-    let p = e.requires in
-    (p.0, (ready_memo p.1.0 (decode_table e.args.table.now), (p.1.1.0, p.1.1.1.1)))
+    let p = c.requires in
+    record { fact_1 = p.fact_1; fact_2 = ready_memo p.fact_2 (decode_table c.args.table.now); fact_3 = p.fact_3; fact_4 = p.fact_5 }
 
 pub returns : goal.returns
 returns c =
     let n = c.notice_if in
-    let l = c in
-    let e = l in
-    let looks = l.look_unstored-seen in
-    kept_stored e.requires.0 e.args.i e.requires.1.1.0 e.requires.1.1.1.0 (seen_meaning looks.result) _ _
-    (looks.ensures (e.args.i + 1) (omega arith)) looks.auto.1.1.0 (mark_meaning n.result) n.ensures c.store_cell.ensures
+    let looks = c.look_unstored-seen in
+    kept_stored c.requires.fact_1 c.args.i c.requires.fact_3 c.requires.fact_4 (seen_meaning looks.result) _ _
+    (looks.ensures (c.args.i + 1) (omega arith)) looks.auto.table (mark_meaning n.result) n.ensures c.store_cell.ensures

@@ -1,4 +1,4 @@
-
+use Rattle.std.proofs.Common.{rules}
 use Rattle.circuit.specs.Calls.{posted_value}
 use Rattle.value.proofs.Signed.{back}
 use Rattle.admission.proofs.Admitting.{cause_fits}
@@ -15,15 +15,15 @@ returns-then-cause-ne0 c =
     let a = c.args in
     let p = c.requires in
     let i = c.item_cause-cause in
-    let b = slice_bytes a.table-1.now c.type_inv.table in
-    post_item p.1.0 b p.1.1 x a.item a.kind a.number i.result i.ensures c.give.result c.give.ensures.1 c.if-cause-ne0.true c.give.ensures.0
+    let b = slice_bytes a.table.now c.type_inv.table in
+    post_item p.fact_2 b p.fact_3 x a.item a.kind a.number i.result i.ensures c.give.result c.give.ensures.1 c.if-cause-ne0.true c.give.ensures.0
 
 pub store_posting-requires : goal.store_posting-requires
 store_posting-requires c =
     let a = c.args in
     let p = c.requires in
     let i = c.item_cause-cause in
-    cause_fits a.sheet.now a.table-1.now a.item i.result false p.1.0.length_is i.ensures c.if-cause-ne0.false
+    cause_fits a.sheet.now a.table.now a.item i.result false p.fact_2.length_is i.ensures c.if-cause-ne0.false
 
 pub returns-in-Unformed : goal.returns-in-Unformed
 returns-in-Unformed c =
@@ -31,22 +31,21 @@ returns-in-Unformed c =
     let a = c.args in
     let p = c.requires in
     let i = c.item_cause-cause in
-    let b = slice_bytes a.table-1.now c.type_inv.table in
-    post_value p.1.0 b p.1.1 x a.item a.kind a.number i.result i.ensures c.give-in-Unformed.result c.give-in-Unformed.ensures.1
+    let b = slice_bytes a.table.now c.type_inv.table in
+    post_value p.fact_2 b p.fact_3 x a.item a.kind a.number i.result i.ensures c.give-in-Unformed.result c.give-in-Unformed.ensures.1
     c.if-cause-ne0.false
-    (sym (ap parts_meaning c.enum_told-1.given.1) ∙ c.posted.ensures ∙ ap (posted_value a.kind)
+    (sym (ap parts_meaning c.in-Unformed.is) ∙ c.posted.ensures ∙ ap (posted_value a.kind)
     (back a.number c.ranges.number))
     c.give-in-Unformed.ensures.0
 
 pub returns-in-Formed : goal.returns-in-Formed
 returns-in-Formed c =
     λ x.
-    let m = c in
-    let i = m.item_cause-cause in
-    let a = m.args in
-    let p = m.requires in
-    let b = slice_bytes a.table-1.now m.type_inv.table in
-    post_stored p.1.0 b p.1.1 x a.item a.kind a.number i.result i.ensures c.give-in-Formed.result c.give-in-Formed.ensures.1 m.if-cause-ne0.false _
-    (sym (ap parts_meaning c.value-1.given.1) ∙ m.posted.ensures
-    ∙ ap (posted_value a.kind) (back a.number m.ranges.number))
+    let i = c.item_cause-cause in
+    let a = c.args in
+    let p = c.requires in
+    let b = slice_bytes a.table.now (search rules) in
+    post_stored p.fact_2 b p.fact_3 x a.item a.kind a.number i.result i.ensures c.give-in-Formed.result c.give-in-Formed.ensures.1 c.if-cause-ne0.false _
+    (sym (ap parts_meaning c.in-Formed.is) ∙ c.posted.ensures
+    ∙ ap (posted_value a.kind) (back a.number c.ranges.number))
     _ c.store_posting.ensures c.give-in-Formed.ensures.0

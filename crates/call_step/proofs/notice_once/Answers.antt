@@ -7,26 +7,24 @@ use Rattle.call_step.proofs.notice_once.Goals as goal
 pub link_once-requires : goal.link_once-requires
 link_once-requires c =
     let p = c.requires in
-    (p.0.located, (p.1.0.0, (omega (arith, p.0.room, p.1.0.0), p.1.1.1.1.1)))
+    record { fact_1 = p.fact_1.located; fact_2 = p.fact_2.0; fact_3 = omega (arith, p.fact_1.room, p.fact_2.0); fact_4 = p.fact_5.1 }
 
 pub tell_and_clear-requires : goal.tell_and_clear-requires
 tell_and_clear-requires c =
-    let c10 = c in
-    let c16 = c10 in
-    let c26 = c16 in
-    let o = c16.copy_owed in
-    let p = c26.requires in
-    let l = c10.link_once in
-    (p.0, (p.1.1.1.1.0, record { low = omega (arith, p.1.0.0, p.1.1.0); room = omega (arith, p.1.0, o.auto.1.1.0); linked = λ q. l.ensures.0.linked (l.ensures.1 q) }))
+    let o = c.copy_owed in
+    let p = c.requires in
+    let l = c.link_once in
+    record {
+      fact_1 = p.fact_1;
+      fact_2 = p.fact_5.0;
+      fact_3 = record { low = omega (arith, p.fact_2.0, p.fact_3); room = omega (arith, p.fact_2, o.auto.owed); linked = λ q. l.ensures.0.linked (l.ensures.1 q) };
+    }
 
 pub returns : goal.returns
 returns c =
-    let c5 = c in
-    let c22 = c5 in
-    let e = c22 in
-    let o = c22.copy_owed in
-    let p = e.requires in
-    let n_is = p.1.0.0 in
-    let owed = copied_owed e.args.sheet.now e.args.table.now o.new.1.1.0 e.args.n p.1.1.1.0 n_is (omega (arith, p.1.0.1, o.auto.1.1.0)) o.ensures in
-    let steps = c5.tell_and_clear.ensures in
-    (left_told e.args.sheet.now e.args.table.now o.new.1.1.0 e.args.i (omega (arith, n_is, p.1.1.0)) owed steps, steps.owed_kept)
+    let o = c.copy_owed in
+    let p = c.requires in
+    let n_is = p.fact_2.0 in
+    let owed = copied_owed c.args.sheet.now c.args.table.now o.new.owed c.args.n p.fact_4 n_is (omega (arith, p.fact_2.1, o.auto.owed)) o.ensures in
+    let steps = c.tell_and_clear.ensures in
+    record { fact_1 = left_told c.args.sheet.now c.args.table.now o.new.owed c.args.i (omega (arith, n_is, p.fact_3)) owed steps; fact_2 = steps.owed_kept }

@@ -6,28 +6,21 @@ use Rattle.call_step.proofs.step_lent.Goals as goal
 pub returns-then-cause-ne0 : goal.returns-then-cause-ne0
 returns-then-cause-ne0 c =
     λ x.
-    let e = c in
     let m = c.mark_cause-cause in
-    step_refused e.requires.1.0 x e.args.n e.args.item m.result e.requires.0.count_is m.ensures c.give.result c.give.ensures.1 c.if-cause-ne0.true
+    step_refused c.requires.fact_2 x c.args.n c.args.item m.result c.requires.fact_1.count_is m.ensures c.give.result c.give.ensures.1 c.if-cause-ne0.true
     c.give.ensures.0
 
 pub step_once-requires : goal.step_once-requires
 step_once-requires c =
-    let e = c in
-    let p = e.requires in
+    let p = c.requires in
     let m = c.mark_cause-cause in
-    let low = mark_low (decode_table e.args.table.now) e.args.n e.args.item m.result m.ensures c.if-cause-ne0.false in
-    (p.1.0, ((p.0.count_is, p.1.1.1.0), (low, (p.1.1.0, p.1.1.1.1))))
+    let low = mark_low (decode_table c.args.table.now) c.args.n c.args.item m.result m.ensures c.if-cause-ne0.false in
+    record { fact_1 = p.fact_2; fact_2 = (p.fact_1.count_is, p.fact_4); fact_3 = low; fact_4 = p.fact_3; fact_5 = p.fact_5 }
 
 pub returns : goal.returns
 returns c =
     λ x.
-    let c10 = c in
-    let c12 = c10 in
-    let o = c12 in
-    let c20 = o in
-    let e = c20 in
-    let m = c20.mark_cause-cause in
-    let d = c12.step_once in
-    step_done e.requires.1.0 x e.args.n e.args.item m.result e.requires.0.count_is m.ensures c.give-2.result c.give-2.ensures.1 o.if-cause-ne0.false
-    e.requires.1.1.0 _ d.ensures.0 d.ensures.1 (λ j. (c10.type_inv.table j).fits) d.auto.1.1.0 c.give-2.ensures.0
+    let m = c.mark_cause-cause in
+    let d = c.step_once in
+    step_done c.requires.fact_2 x c.args.n c.args.item m.result c.requires.fact_1.count_is m.ensures c.give-2.result c.give-2.ensures.1 c.if-cause-ne0.false
+    c.requires.fact_3 _ d.ensures.fact_1 d.ensures.fact_2 (λ j. (c.type_inv.table j).fits) d.auto.table c.give-2.ensures.0

@@ -8,45 +8,39 @@ use Rattle.call_swap.proofs.swap_results.Goals as goal
 pub returns-then-quantity-lt-LEAST : goal.returns-then-quantity-lt-LEAST
 unfolding limit
 returns-then-quantity-lt-LEAST c =
-    let s = c in
-    results_low (meaning s.args.giver) (meaning s.args.taker) s.args.quantity s.ranges.quantity s.requires.0 c.if-quantity-lt-LEAST.true
+    results_low (meaning c.args.giver) (meaning c.args.taker) c.args.quantity c.ranges.quantity c.requires.fact_1 c.if-quantity-lt-LEAST.true
 
 pub returns-then-quantity-gt-MOST : goal.returns-then-quantity-gt-MOST
 unfolding limit
 returns-then-quantity-gt-MOST c =
-    let s = c in
-    results_high (meaning s.args.giver) (meaning s.args.taker) s.args.quantity s.ranges.quantity s.requires.0 c.if-quantity-gt-MOST.true
+    results_high (meaning c.args.giver) (meaning c.args.taker) c.args.quantity c.ranges.quantity c.requires.fact_1 c.if-quantity-gt-MOST.true
 
 pub overflow_sub-left : goal.overflow_sub-left
 unfolding limit
 overflow_sub-left c =
-    let s = c in
-    left_fits (meaning s.args.giver) (meaning s.args.taker) _ s.args.quantity
-    (search rules) s.ranges.quantity c.number_or_zero.ensures s.requires.0 s.requires.1
+    left_fits (meaning c.args.giver) (meaning c.args.taker) _ c.args.quantity
+    (search rules) c.ranges.quantity c.number_or_zero.ensures c.requires.fact_1 c.requires.fact_2
     c.if-quantity-lt-LEAST.false c.if-quantity-gt-MOST.false
 
 pub overflow_add-come : goal.overflow_add-come
 unfolding limit
 overflow_add-come c =
-    let s = c in
-    come_fits (meaning s.args.giver) (meaning s.args.taker) _ s.args.quantity
-    (search rules) s.ranges.quantity c.number_or_zero.ensures s.requires.0 s.requires.1
+    come_fits (meaning c.args.giver) (meaning c.args.taker) _ c.args.quantity
+    (search rules) c.ranges.quantity c.number_or_zero.ensures c.requires.fact_1 c.requires.fact_2
     c.if-quantity-lt-LEAST.false c.if-quantity-gt-MOST.false _ (search rules) c.number_or_zero-2.ensures
 
 pub returns-then-not-in_range : goal.returns-then-not-in_range
 unfolding limit
 returns-then-not-in_range c =
-    let s = c in
-    left_beyond (meaning s.args.giver) (meaning s.args.taker) _ s.args.quantity
-    (search rules) s.ranges.quantity c.number_or_zero.ensures s.requires.0 s.requires.1
+    left_beyond (meaning c.args.giver) (meaning c.args.taker) _ c.args.quantity
+    (search rules) c.ranges.quantity c.number_or_zero.ensures c.requires.fact_1 c.requires.fact_2
     c.if-quantity-lt-LEAST.false c.if-quantity-gt-MOST.false _ c.in_range.ensures c.if-not-in_range.true-raw
 
 pub returns-then-not-in_range-2 : goal.returns-then-not-in_range-2
 unfolding limit
 returns-then-not-in_range-2 c =
-    let s = c in
-    come_beyond (meaning s.args.giver) (meaning s.args.taker) _ s.args.quantity
-    (search rules) s.ranges.quantity c.number_or_zero.ensures s.requires.0 s.requires.1
+    come_beyond (meaning c.args.giver) (meaning c.args.taker) _ c.args.quantity
+    (search rules) c.ranges.quantity c.number_or_zero.ensures c.requires.fact_1 c.requires.fact_2
     c.if-quantity-lt-LEAST.false c.if-quantity-gt-MOST.false
     _ (search rules) c.number_or_zero-2.ensures _
     c.in_range.ensures c.if-not-in_range.false-raw _ c.in_range-2.ensures c.if-not-in_range-2.true-raw
@@ -54,9 +48,8 @@ returns-then-not-in_range-2 c =
 pub returns : goal.returns
 unfolding limit
 returns c =
-    let s = c in
-    both_within (meaning s.args.giver) (meaning s.args.taker) _ s.args.quantity
-    (search rules) s.ranges.quantity c.number_or_zero.ensures s.requires.0 s.requires.1
+    both_within (meaning c.args.giver) (meaning c.args.taker) _ c.args.quantity
+    (search rules) c.ranges.quantity c.number_or_zero.ensures c.requires.fact_1 c.requires.fact_2
     c.if-quantity-lt-LEAST.false c.if-quantity-gt-MOST.false
     _ (search rules) c.number_or_zero-2.ensures _
     c.in_range.ensures c.if-not-in_range.false-raw _ c.in_range-2.ensures c.if-not-in_range-2.false-raw
