@@ -1,14 +1,15 @@
 // The day program: reads a sheet and a day log from the files sheet.bin and day.bin, and prints the day's lines.
 #![tactic(auto)]
 
-ghost use Rattle.std.specs.Prelude.{◌≡◌, length};
-ghost use Rattle.io.specs.Counts.{IsPrefixLen};
+ghost use Rattle.std.specs.Prelude.{◌≡◌, ◌≤◌, length};
+ghost use Rattle.day_main.specs.Files.{IsPrefixLen};
 ghost use Rattle.day_meaning.specs.Day.{file_limit, run_day};
 ghost use Rattle.day_meaning.specs.Room.{sheet_room, DayLent, Shown};
 
 use day::FILE_LIMIT;
-use libc::STDOUT_FILENO;
 use limits::{INDEX_WIDTH, ITEM_LIMIT};
+use std::fs::File;
+use std::io::{Read, Write};
 
 // What is taken of the sheet's file: a byte more than the limit, to know that it is over it.
 const SHEET_ROOM: usize = FILE_LIMIT + 1;
@@ -25,48 +26,86 @@ const TEXT_BESIDES: usize = 13;
 
 const OUTPUT_ROOM: usize = TEXT_PER_BYTE * FILE_LIMIT + TEXT_BESIDES;
 
-// The first bytes of a file, as many as there is room for. A file that does not open counts as empty.
-fn load(path: &[u8], bytes: &mut [u8]) -> usize
+// The next bytes of a file, into the front of the room for them. A read that fails gives none, as at the end.
+fn read_some(file: &mut File, bytes: &mut [u8]) -> usize
+    ensures { result ≤ length bytes.new }
+{
+    file.read(bytes).unwrap_or(0)
+}
+
+// Reads until there is no more room, or until the file ends or a read fails.
+fn fill(file: &mut File, bytes: &mut [u8]) -> usize
     ensures { IsPrefixLen result bytes.new }
 {
-    let file = os::open_read(path);
-    if file < 0 {
-        return 0;
+    let mut done = 0;
+    while done < bytes.len() {
+        let more = read_some(file, &mut bytes[done..]);
+        if more == 0 {
+            break;
+        }
+        done += more;
     }
-    let n = io::read_full(file, bytes);
-    libc::close(file);
-    n
+    done
+}
+
+// The first bytes of a file, as many as there is room for. A file that does not open counts as empty.
+fn load(rt: &HostRuntime, path: &str, bytes: &mut [u8]) -> usize
+    ensures { IsPrefixLen result bytes.new }
+{
+    match File::open(rt, path) {
+        Ok(mut file) => fill(&mut file, bytes),
+        Err(_) => 0,
+    }
 }
 
 // What is taken of the two files: the room for each is the definitions', so that a sheet over the limit is known and a log is cut there.
-fn load_sheet(bytes: &mut [u8; SHEET_ROOM]) -> usize
+fn load_sheet(rt: &HostRuntime, bytes: &mut [u8; SHEET_ROOM]) -> usize
     ensures { IsPrefixLen result bytes.new × (length bytes.new ≡ sheet_room) }
 {
-    load(b"sheet.bin", bytes)
+    load(rt, "sheet.bin", bytes)
 }
 
-fn load_log(bytes: &mut [u8; FILE_LIMIT]) -> usize
+fn load_log(rt: &HostRuntime, bytes: &mut [u8; FILE_LIMIT]) -> usize
     ensures { IsPrefixLen result bytes.new × (length bytes.new ≡ file_limit) }
 {
-    load(b"day.bin", bytes)
+    load(rt, "day.bin", bytes)
+}
+
+// Writes the bytes to standard output, all of them, or as many as it takes.
+fn put(rt: &HostRuntime, bytes: &[u8]) {
+    let _ = rt.stdout().write_all(bytes);
 }
 
 // Runs the day with lent bytes, which are enough for its whole text, and writes its lines to standard output.
-fn show_day(sheet: &[u8], log: &[u8], index: &mut [u8], table: &mut [u8], out: &mut [u8])
+fn show_day(
+    rt: &HostRuntime,
+    sheet: &[u8],
+    log: &[u8],
+    index: &mut [u8],
+    table: &mut [u8],
+    out: &mut [u8],
+)
     requires { DayLent sheet.now log.now index.old table.old out.old }
     ensures { Shown (run_day sheet.now log.now index.old table.old) out.old index.new table.new out.new }
 {
     let n = day::run_day(sheet, log, index, table, out);
-    io::write_all(STDOUT_FILENO, &out[..n]);
+    put(rt, &out[..n]);
 }
 
-fn main() {
+fn main(rt: HostRuntime) {
     let mut sheet = [0u8; SHEET_ROOM];
     let mut log = [0u8; FILE_LIMIT];
     let mut index = [0u8; INDEX_ROOM];
     let mut table = [0u8; TABLE_ROOM];
     let mut out = [0u8; OUTPUT_ROOM];
-    let s = load_sheet(&mut sheet);
-    let d = load_log(&mut log);
-    show_day(&sheet[..s], &log[..d], &mut index, &mut table, &mut out);
+    let s = load_sheet(&rt, &mut sheet);
+    let d = load_log(&rt, &mut log);
+    show_day(
+        &rt,
+        &sheet[..s],
+        &log[..d],
+        &mut index,
+        &mut table,
+        &mut out,
+    );
 }
