@@ -4,15 +4,12 @@ use Rattle.calls.proofs.post.Goals as goal
 
 pub returns-then-room-le-ROOM : goal.returns-then-room-le-ROOM
 returns-then-room-le-ROOM c =
-    let e = c in
-    rw (back e.args.number e.ranges.number) at c.post.ensures
+    rw (back c.args.number c.ranges.number) at c.post.ensures
 
 pub returns-then-room-le-ROOM-2 : goal.returns-then-room-le-ROOM-2
 returns-then-room-le-ROOM-2 c =
-    let e = c in
-    rw (back e.args.number e.ranges.number) at c.post-then-room-le-ROOM-2.ensures
+    rw (back c.args.number c.ranges.number) at c.post-then-room-le-ROOM-2.ensures
 
 pub returns : goal.returns
 returns c =
-    let e = c in
-    rw (back e.args.number e.ranges.number) at c.post-2.ensures
+    rw (back c.args.number c.ranges.number) at c.post-2.ensures

@@ -4,15 +4,12 @@ use Rattle.calls.proofs.swap.Goals as goal
 
 pub returns-then-room-le-ROOM : goal.returns-then-room-le-ROOM
 returns-then-room-le-ROOM c =
-    let e = c in
-    rw (back e.args.quantity e.ranges.quantity) at c.swap.ensures
+    rw (back c.args.quantity c.ranges.quantity) at c.swap.ensures
 
 pub returns-then-room-le-ROOM-2 : goal.returns-then-room-le-ROOM-2
 returns-then-room-le-ROOM-2 c =
-    let e = c in
-    rw (back e.args.quantity e.ranges.quantity) at c.swap-then-room-le-ROOM-2.ensures
+    rw (back c.args.quantity c.ranges.quantity) at c.swap-then-room-le-ROOM-2.ensures
 
 pub returns : goal.returns
 returns c =
-    let e = c in
-    rw (back e.args.quantity e.ranges.quantity) at c.swap-2.ensures
+    rw (back c.args.quantity c.ranges.quantity) at c.swap-2.ensures

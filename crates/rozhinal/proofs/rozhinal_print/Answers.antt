@@ -9,4 +9,4 @@ pub returns : goal.returns
 returns c =
     let a = c.args in
     let p = c.print_code in
-    subst₂ (λ z r. PrintsCode a.kind z a.scratch-1.now r p.new.1.1.0) (back a.number (search rules)) (sym (back p.result (search rules))) p.ensures
+    subst₂ (λ z r. PrintsCode a.kind z a.scratch.now r p.new.scratch) (back a.number (search rules)) (sym (back p.result (search rules))) p.ensures
