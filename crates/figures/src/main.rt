@@ -6,33 +6,33 @@ ghost use Rattle.value.specs.Meaning.{meaning};
 ghost use Rattle.rules.specs.Operations.{operation_meaning, refuses, allows, Applied};
 ghost use Rattle.figures.specs.Figures.{tested, first_of};
 
-use libc::STDOUT_FILENO;
 use rules::Operation;
+use std::io;
 use value::{Amount, LIMIT, MAX_PARENTS, Value};
 
-fn write(text: &[u8]) {
-    io::write_all(STDOUT_FILENO, text);
+fn write(rt: &impl Print, text: &[u8]) -> io::Result<()> {
+    rt.write_all(text)
 }
 
 // A value as the printer writes it, but NULL by its name.
-fn write_value(v: Value) {
+fn write_value(rt: &impl Print, v: Value) -> io::Result<()> {
     if v.is_null() {
-        write(b"NULL");
-        return;
+        return write(rt, b"NULL");
     }
     let mut scratch = [0u8; printer::LEAST_SCRATCH];
     let part = printer::print(v.kind() as u64, v.number_or_zero(), &mut scratch);
-    write(part);
+    write(rt, part)
 }
 
-fn write_parents(n: usize, a: Value, b: Value, c: Value) {
-    write_value(a);
-    write(b", ");
-    write_value(b);
+fn write_parents(rt: &impl Print, n: usize, a: Value, b: Value, c: Value) -> io::Result<()> {
+    write_value(rt, a)?;
+    write(rt, b", ")?;
+    write_value(rt, b)?;
     if n == 3 {
-        write(b", ");
-        write_value(c);
+        write(rt, b", ")?;
+        write_value(rt, c)?;
     }
+    Ok(())
 }
 
 // Whether the rule or its count of parents was refused.
@@ -66,8 +66,8 @@ fn in_form(v: Value) -> Value
 
 // What the rule gives on the first n of three values.
 fn worked(op: Operation, n: usize, a: Value, b: Value, c: Value) -> Value
-    requires fact_1 { n ≤ 3 }
-    requires fact_2 { allows (operation_meaning op) n ≡ true }
+    requires few { n ≤ 3 }
+    requires takes { allows (operation_meaning op) n ≡ true }
     ensures { Applied op (first_of n (meaning a) (meaning b) (meaning c)) result }
 {
     let first = in_form(a);
@@ -85,68 +85,75 @@ fn worked(op: Operation, n: usize, a: Value, b: Value, c: Value) -> Value
 }
 
 // A line: the rule's name, the first n of three values, and what the rule gives on them.
-fn figure(name: &[u8], code: u8, n: usize, a: Value, b: Value, c: Value)
+fn figure(
+    rt: &impl Print,
+    name: &[u8],
+    code: u8,
+    n: usize,
+    a: Value,
+    b: Value,
+    c: Value,
+) -> io::Result<()>
     requires { n ≤ 3 }
 {
-    write(name);
-    write(b"(");
-    write_parents(n, a, b, c);
-    write(b") = ");
+    write(rt, name)?;
+    write(rt, b"(")?;
+    write_parents(rt, n, a, b, c)?;
+    write(rt, b") = ")?;
     let op = rules::operation_of(code, n);
     if is_refused(op) {
-        write(b"refused\n");
-        return;
+        return write(rt, b"refused\n");
     }
-    write_value(worked(op, n, a, b, c));
-    write(b"\n");
+    write_value(rt, worked(op, n, a, b, c))?;
+    write(rt, b"\n")
 }
 
 // Shares of a number: by 0, 1, 9,999 and 10,000 parts of the whole.
-fn shares(n: i64) {
+fn shares(rt: &impl Print, n: i64) -> io::Result<()> {
     let x = Value::number(n);
-    figure(b"share", 5, 2, x, Value::number(0), Value::NULL);
-    figure(b"share", 5, 2, x, Value::number(1), Value::NULL);
-    figure(b"share", 5, 2, x, Value::number(9999), Value::NULL);
-    figure(b"share", 5, 2, x, Value::number(10000), Value::NULL);
+    figure(rt, b"share", 5, 2, x, Value::number(0), Value::NULL)?;
+    figure(rt, b"share", 5, 2, x, Value::number(1), Value::NULL)?;
+    figure(rt, b"share", 5, 2, x, Value::number(9999), Value::NULL)?;
+    figure(rt, b"share", 5, 2, x, Value::number(10000), Value::NULL)
 }
 
 // Choices by their first parent: OUT, NULL, above 0 and not; what is not picked counts for nothing.
-fn choices() {
+fn choices(rt: &impl Print) -> io::Result<()> {
     let none = Value::NULL;
     let out = Value::OUT;
     let one = Value::number(1);
     let two = Value::number(2);
     let seven = Value::number(7);
     let nine = Value::number(9);
-    figure(b"choice", 6, 3, Value::number(0), seven, nine);
-    figure(b"choice", 6, 3, out, one, two);
-    figure(b"choice", 6, 3, none, out, out);
-    figure(b"choice", 6, 3, one, seven, out);
-    figure(b"choice", 6, 3, Value::number(0), out, nine);
-    figure(b"choice", 6, 3, one, out, nine);
-    figure(b"choice", 6, 3, two, none, nine);
-    figure(b"choice", 6, 3, Value::number(-1), Value::number(4), none);
+    figure(rt, b"choice", 6, 3, Value::number(0), seven, nine)?;
+    figure(rt, b"choice", 6, 3, out, one, two)?;
+    figure(rt, b"choice", 6, 3, none, out, out)?;
+    figure(rt, b"choice", 6, 3, one, seven, out)?;
+    figure(rt, b"choice", 6, 3, Value::number(0), out, nine)?;
+    figure(rt, b"choice", 6, 3, one, out, nine)?;
+    figure(rt, b"choice", 6, 3, two, none, nine)?;
+    figure(rt, b"choice", 6, 3, Value::number(-1), Value::number(4), none)
 }
 
-fn main() {
+fn main(rt: HostRuntime) -> io::Result<()> {
     let none = Value::NULL;
     let top = Value::number(LIMIT);
     let one = Value::number(1);
     let three = Value::number(3);
     let minus_one = Value::number(-1);
-    figure(b"sum", 1, 2, none, none, none);
-    figure(b"sum", 1, 2, Value::number(5), none, none);
-    figure(b"sum", 1, 2, top, one, none);
-    figure(b"sum", 1, 3, top, one, minus_one);
-    figure(b"difference", 2, 2, none, three, none);
-    figure(b"share", 5, 2, minus_one, Value::number(5000), none);
-    figure(b"share", 5, 2, Value::number(7), Value::number(10001), none);
-    choices();
-    figure(b"count", 7, 2, none, Value::number(4), none);
-    figure(b"at least", 8, 2, three, three, none);
-    figure(b"smallest", 3, 2, none, Value::number(-2), none);
-    shares(LIMIT);
-    shares(LIMIT - 1);
-    shares(1 - LIMIT);
-    shares(-LIMIT);
+    figure(&rt, b"sum", 1, 2, none, none, none)?;
+    figure(&rt, b"sum", 1, 2, Value::number(5), none, none)?;
+    figure(&rt, b"sum", 1, 2, top, one, none)?;
+    figure(&rt, b"sum", 1, 3, top, one, minus_one)?;
+    figure(&rt, b"difference", 2, 2, none, three, none)?;
+    figure(&rt, b"share", 5, 2, minus_one, Value::number(5000), none)?;
+    figure(&rt, b"share", 5, 2, Value::number(7), Value::number(10001), none)?;
+    choices(&rt)?;
+    figure(&rt, b"count", 7, 2, none, Value::number(4), none)?;
+    figure(&rt, b"at least", 8, 2, three, three, none)?;
+    figure(&rt, b"smallest", 3, 2, none, Value::number(-2), none)?;
+    shares(&rt, LIMIT)?;
+    shares(&rt, LIMIT - 1)?;
+    shares(&rt, 1 - LIMIT)?;
+    shares(&rt, -LIMIT)
 }

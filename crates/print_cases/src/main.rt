@@ -5,127 +5,121 @@ ghost use Rattle.std.specs.Prelude.{◌≡◌, ◌≤◌, length};
 ghost use Rattle.printer.specs.Printing.{part_of};
 ghost use Rattle.field.specs.Bytes.{over};
 
-use libc::STDOUT_FILENO;
 use printer::Printed;
+use std::io;
 use value::LIMIT;
 
-fn line(text: &[u8])
+fn line(rt: &impl Print, text: &[u8]) -> io::Result<()>
     ensures { text.now ≡ text.now }
 {
-    io::write_all(STDOUT_FILENO, text);
-    io::write_all(STDOUT_FILENO, b"\n");
+    rt.write_all(text)?;
+    rt.write_all(b"\n")
 }
 
 // The part that the printer hands back.
-fn show(kind: u64, number: i64) {
+fn show(rt: &impl Print, kind: u64, number: i64) -> io::Result<()> {
     let mut scratch = [b'.'; printer::LEAST_SCRATCH];
     let part = printer::print(kind, number, &mut scratch);
-    line(part);
+    line(rt, part)
 }
 
 // The worker's answer, and then all the scratch bytes.
-fn show_all(kind: u64, number: i64, scratch: &mut [u8])
+fn show_all(rt: &impl Print, kind: u64, number: i64, scratch: &mut [u8]) -> io::Result<()>
     ensures { scratch.new ≡ over (part_of kind number (length scratch.old)) scratch.old }
 {
     match printer::print_into(kind, number, scratch) {
-        Printed::Length(n) => {
-            io::write_all(STDOUT_FILENO, b"length ");
-            io::print_decimal(STDOUT_FILENO, n as u64);
-        }
-        Printed::Refused(cause) => {
-            io::write_all(STDOUT_FILENO, b"refused ");
-            io::print_decimal(STDOUT_FILENO, cause);
-        }
+        Printed::Length(n) => print!(rt; "length {n} ")?,
+        Printed::Refused(cause) => print!(rt; "refused {cause} ")?,
     }
-    io::write_all(STDOUT_FILENO, b" ");
-    line(scratch);
+    line(rt, scratch)
 }
 
 // In scratch that is long enough, and in scratch that is one byte too short.
-fn in_twenty(kind: u64, number: i64) {
+fn in_twenty(rt: &impl Print, kind: u64, number: i64) -> io::Result<()> {
     let mut scratch = [b'.'; printer::LEAST_SCRATCH];
-    show_all(kind, number, &mut scratch);
+    show_all(rt, kind, number, &mut scratch)
 }
 
-fn in_nineteen(kind: u64, number: i64) {
+fn in_nineteen(rt: &impl Print, kind: u64, number: i64) -> io::Result<()> {
     let mut scratch = [b'.'; printer::LEAST_SCRATCH - 1];
-    show_all(kind, number, &mut scratch);
+    show_all(rt, kind, number, &mut scratch)
 }
 
 // The digits of a number from the second byte on, with the bytes before and after them.
-fn show_digits(m: u64) {
+#[tactic(auto, using(decimal::proofs::Digits::length_word))]
+fn show_digits(rt: &impl Print, m: u64) -> io::Result<()> {
     let mut bytes = [b'.'; decimal::MOST_DIGITS + 2];
     decimal::put_digits(m, 1, &mut bytes);
-    line(&bytes);
+    line(rt, &bytes)
 }
 
 // Both sides of a power of ten.
-fn about(power: u64)
+fn about(rt: &impl Print, power: u64) -> io::Result<()>
     requires { 1 ≤ power }
 {
-    show_digits(power - 1);
-    show_digits(power);
+    show_digits(rt, power - 1)?;
+    show_digits(rt, power)
 }
 
-fn all_lengths() {
-    about(1);
-    about(10);
-    about(100);
-    about(1_000);
-    about(10_000);
-    about(100_000);
-    about(1_000_000);
-    about(10_000_000);
-    about(100_000_000);
-    about(1_000_000_000);
-    about(10_000_000_000);
-    about(100_000_000_000);
-    about(1_000_000_000_000);
-    about(10_000_000_000_000);
-    about(100_000_000_000_000);
-    about(1_000_000_000_000_000);
-    about(10_000_000_000_000_000);
-    about(100_000_000_000_000_000);
-    about(1_000_000_000_000_000_000);
-    about(10_000_000_000_000_000_000);
-    show_digits(9_876_543_210);
-    show_digits(18_446_744_073_709_551_615);
+fn all_lengths(rt: &impl Print) -> io::Result<()> {
+    about(rt, 1)?;
+    about(rt, 10)?;
+    about(rt, 100)?;
+    about(rt, 1_000)?;
+    about(rt, 10_000)?;
+    about(rt, 100_000)?;
+    about(rt, 1_000_000)?;
+    about(rt, 10_000_000)?;
+    about(rt, 100_000_000)?;
+    about(rt, 1_000_000_000)?;
+    about(rt, 10_000_000_000)?;
+    about(rt, 100_000_000_000)?;
+    about(rt, 1_000_000_000_000)?;
+    about(rt, 10_000_000_000_000)?;
+    about(rt, 100_000_000_000_000)?;
+    about(rt, 1_000_000_000_000_000)?;
+    about(rt, 10_000_000_000_000_000)?;
+    about(rt, 100_000_000_000_000_000)?;
+    about(rt, 1_000_000_000_000_000_000)?;
+    about(rt, 10_000_000_000_000_000_000)?;
+    show_digits(rt, 9_876_543_210)?;
+    show_digits(rt, 18_446_744_073_709_551_615)
 }
 
-fn numbers() {
-    show(3, 0);
-    show(3, 1);
-    show(3, -1);
-    show(3, 9);
-    show(3, -9);
-    show(3, 10);
-    show(3, 99);
-    show(3, 100);
-    show(3, -100);
-    show(3, 1_024);
-    show(3, 987_654_321);
-    show(3, LIMIT - 1);
-    show(3, LIMIT);
-    show(3, 1 - LIMIT);
-    show(3, 0 - LIMIT);
+fn numbers(rt: &impl Print) -> io::Result<()> {
+    show(rt, 3, 0)?;
+    show(rt, 3, 1)?;
+    show(rt, 3, -1)?;
+    show(rt, 3, 9)?;
+    show(rt, 3, -9)?;
+    show(rt, 3, 10)?;
+    show(rt, 3, 99)?;
+    show(rt, 3, 100)?;
+    show(rt, 3, -100)?;
+    show(rt, 3, 1_024)?;
+    show(rt, 3, 987_654_321)?;
+    show(rt, 3, LIMIT - 1)?;
+    show(rt, 3, LIMIT)?;
+    show(rt, 3, 1 - LIMIT)?;
+    show(rt, 3, 0 - LIMIT)
 }
 
-fn main() {
-    numbers();
-    show(1, 0);
-    show(2, 0);
-    show(0, 0);
-    in_twenty(3, -120);
-    in_twenty(3, 0 - LIMIT);
-    in_twenty(1, 0);
-    in_twenty(2, 0);
-    in_twenty(0, 0);
-    in_twenty(4, 0);
-    in_twenty(1, 1);
-    in_twenty(2, -1);
-    in_twenty(3, LIMIT + 1);
-    in_twenty(3, -1 - LIMIT);
-    in_nineteen(3, 5);
-    in_nineteen(0, 0);
-    all_lengths();
+fn main(rt: HostRuntime) -> io::Result<()> {
+    numbers(&rt)?;
+    show(&rt, 1, 0)?;
+    show(&rt, 2, 0)?;
+    show(&rt, 0, 0)?;
+    in_twenty(&rt, 3, -120)?;
+    in_twenty(&rt, 3, 0 - LIMIT)?;
+    in_twenty(&rt, 1, 0)?;
+    in_twenty(&rt, 2, 0)?;
+    in_twenty(&rt, 0, 0)?;
+    in_twenty(&rt, 4, 0)?;
+    in_twenty(&rt, 1, 1)?;
+    in_twenty(&rt, 2, -1)?;
+    in_twenty(&rt, 3, LIMIT + 1)?;
+    in_twenty(&rt, 3, -1 - LIMIT)?;
+    in_nineteen(&rt, 3, 5)?;
+    in_nineteen(&rt, 0, 0)?;
+    all_lengths(&rt)
 }
