@@ -1,18 +1,14 @@
 -- The first field and the last, from what the code tests of their bytes; a field that is not there whole. Assumes nothing.
 use mathlib.Core.Path.{◌≡◌, refl, sym, ap, ◌∙◌}
 use mathlib.Core.Bool.{Bool, true, false, cond, not, ◌&&◌}
-use mathlib.Core.List.{List, [], ◌∷◌}
-use mathlib.Core.Logic.{inl, inr}
+use mathlib.Core.List.{List}
 use Prim.Native.Nat.{ℕ, ◌+◌, ◌≤◌, ◌<◌}
 use native.Mathlib.Omega.{arith}
 use lib.ListN.{length}
 use borrow.Author.Tests.{lt-ltb, le-ltb, eq-eqb, ne_eqb}
-use types.Run.{OneOf}
-use denote.Enum.Declared.{tag_of}
 use Rattle.field.specs.Field.{cut_at, le16_at}
 use Rattle.field.specs.declared.Cut.{Cut}
 use Rattle.field.specs.declared.Cut.TheVariants.{Field, Short, Absent}
-use Rattle.field.specs.contracts.Cut.{the_type}
 use Rattle.field.proofs.Cutting.{field_iff, content_length}
 use Rattle.circuit.specs.Calls.{Test, first_cause}
 use Rattle.layout.specs.Layout.{head_tag, last_tag, edition_known, count_allowed, edition_at, count_at, head_length}
@@ -25,15 +21,15 @@ use Rattle.sheet.proofs.Names.{part_length}
 use Rattle.sheet.proofs.Content.{content16}
 
 -- a field that is absent or runs past the end
-pub missing : (tests : ℕ → List ℕ → List Test) (s : List ℕ) (at : ℕ) (x : Cut) → x ≡ cut_at s at → OneOf (1 ∷ 2 ∷ []) (tag_of the_type x)
+pub missing : (tests : ℕ → List ℕ → List Test) (s : List ℕ) (at : ℕ) (x : Cut) → x ≡ cut_at s at
+    → ((tag start len next : ℕ) → x ≡ Field tag start len next → ⊥)
     → judge tests s (cut_at s at) ≡ 1
 missing tests s at x e o = rw (← e) (go x o)
   where
-    go : (x : Cut) → OneOf (1 ∷ 2 ∷ []) (tag_of the_type x) → judge tests s x ≡ 1
+    go : (x : Cut) → ((tag start len next : ℕ) → x ≡ Field tag start len next → ⊥) → judge tests s x ≡ 1
     go Absent o = refl
     go Short o = refl
-    go (Field tag start len next) (inl h) = absurd (omega arith)
-    go (Field tag start len next) (inr h) = absurd (omega arith)
+    go (Field tag start len next) o = absurd (o tag start len next refl)
 
 -- The first field.
 module _ (s : List ℕ) (tag start len : ℕ) (fits : start + len ≤ length s) where

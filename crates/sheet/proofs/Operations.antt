@@ -1,17 +1,11 @@
 -- Whether a rule with a number of parents is allowed, from the operation that the code finds. Assumes nothing.
-use mathlib.Core.Path.{◌≡◌, sym, ap, ◌∙◌}
+use mathlib.Core.Path.{◌≡◌, refl, sym, ap, ◌∙◌}
 use mathlib.Core.Bool.{true, false}
-use mathlib.Core.List.{[], ◌∷◌}
-use mathlib.Core.Logic.{inl, inr}
 use Prim.Native.Nat.{ℕ}
-use native.Mathlib.Omega.{arith}
-use types.Run.{OneOf}
-use denote.Enum.Declared.{tag_of}
 use Rattle.circuit.specs.Rules.{operation_of}
 use Rattle.rules.specs.Operations.{operation_meaning}
 use Rattle.rules.specs.declared.Operation.{Operation}
 use Rattle.rules.specs.declared.Operation.TheVariants.{Sum, Difference, Smallest, Largest, Share, Choice, Count, AtLeast, Refused}
-use Rattle.rules.specs.contracts.Operation.{the_type}
 use Rattle.layout.specs.Layout.{is_some, rule_allowed}
 
 module _ (rule p : ℕ) where
@@ -19,8 +13,7 @@ module _ (rule p : ℕ) where
   rule_refused o e r = ap is_some (sym e) ∙ ap (λ x. is_some (operation_meaning x)) r
 
   -- an operation other than the refusal
-  pub rule_taken : (o : Operation) → operation_meaning o ≡ operation_of rule p → OneOf (0 ∷ 1 ∷ 2 ∷ 3 ∷ 4 ∷ 5 ∷ 6 ∷ 7 ∷ []) (tag_of the_type o)
-      → rule_allowed rule p ≡ true
+  pub rule_taken : (o : Operation) → operation_meaning o ≡ operation_of rule p → (o ≡ Refused → ⊥) → rule_allowed rule p ≡ true
   rule_taken Sum e k = sym (ap is_some e)
   rule_taken Difference e k = sym (ap is_some e)
   rule_taken Smallest e k = sym (ap is_some e)
@@ -29,11 +22,4 @@ module _ (rule p : ℕ) where
   rule_taken Choice e k = sym (ap is_some e)
   rule_taken Count e k = sym (ap is_some e)
   rule_taken AtLeast e k = sym (ap is_some e)
-  rule_taken Refused e (inl h) = absurd (omega arith)
-  rule_taken Refused e (inr (inl h)) = absurd (omega arith)
-  rule_taken Refused e (inr (inr (inl h))) = absurd (omega arith)
-  rule_taken Refused e (inr (inr (inr (inl h)))) = absurd (omega arith)
-  rule_taken Refused e (inr (inr (inr (inr (inl h))))) = absurd (omega arith)
-  rule_taken Refused e (inr (inr (inr (inr (inr (inl h)))))) = absurd (omega arith)
-  rule_taken Refused e (inr (inr (inr (inr (inr (inr (inl h))))))) = absurd (omega arith)
-  rule_taken Refused e (inr (inr (inr (inr (inr (inr (inr h))))))) = absurd (omega arith)
+  rule_taken Refused e k = absurd (k refl)

@@ -11,11 +11,11 @@ use Rattle.sheet.proofs.check_items.Given as goal
 
 abbrev pub invariant-loop-i : goal.invariant-loop-i
 invariant-loop-i l = (l.i ≤ l.count)
-    × (scan l.s l.edition l.i ≡ going l.initial.i (sound_items l.s l.edition l.i))
-    × (l.initial.at ≡ over (offsets_of (sound_items l.s l.edition l.i)) l.initial.offsets)
-    × (l.at ≡ over (levels_of (sound_items l.s l.edition l.i)) l.offsets)
-    × (length l.initial.at ≡ length l.initial.offsets)
-    × (length l.at ≡ length l.offsets)
+    × (scan l.s l.edition l.i ≡ going l.at (sound_items l.s l.edition l.i))
+    × (l.offsets ≡ over (offsets_of (sound_items l.s l.edition l.i)) l.initial.offsets)
+    × (l.levels ≡ over (levels_of (sound_items l.s l.edition l.i)) l.initial.levels)
+    × (length l.offsets ≡ length l.initial.offsets)
+    × (length l.levels ≡ length l.initial.levels)
 
 abbrev pub decreases-loop-i : goal.decreases-loop-i
 decreases-loop-i l = l.count - l.i

@@ -1,5 +1,4 @@
 -- `sheet::head_cause` meets its contract: at each `return` the tests that led there say which cause is the lowest. Assumes nothing.
-use borrow.Author.Tests.{not-true, not-false}
 use mathlib.Core.Path.{◌≡◌, sym, ap, ap₂, ◌∙◌}
 use mathlib.Core.Bool.{true, false}
 use Rattle.field.specs.Field.{le16_at}
@@ -18,7 +17,7 @@ pub returns-then-not-edition_known : goal.returns-then-not-edition_known
 returns-then-not-edition_known c =
     let a = c in
     let e = c.u16_at-edition.ensures.0 in
-    let k : edition_known (le16_at a.args.s.now a.args.start) ≡ false = sym (ap edition_known e) ∙ sym c.edition_known.ensures ∙ not-true _ c.if-not-edition_known.true-raw in
+    let k : edition_known (le16_at a.args.s.now a.args.start) ≡ false = sym (ap edition_known e) ∙ sym c.edition_known.ensures ∙ c.if-not-edition_known.true in
     head_edition a.args.s.now a.args.tag a.args.start a.args.len a.requires c.if-tag-ne-HEAD_TAG.false c.if-len-ne-HEAD_LENGTH.false k
 
 pub returns-then-not-count_allowed : goal.returns-then-not-count_allowed
@@ -26,10 +25,9 @@ returns-then-not-count_allowed c =
     let a = c in
     let e = c.u16_at-edition.ensures.0 in
     let m = c.u16_at-count.ensures.0 in
-    let k : edition_known (le16_at a.args.s.now a.args.start) ≡ true = sym (ap edition_known e) ∙ sym c.edition_known.ensures ∙ not-false _
-    c.if-not-edition_known.false-raw in
+    let k : edition_known (le16_at a.args.s.now a.args.start) ≡ true = sym (ap edition_known e) ∙ sym c.edition_known.ensures ∙ c.if-not-edition_known.false in
     let n : count_allowed (le16_at a.args.s.now a.args.start) (le16_at a.args.s.now (a.args.start + count_at)) ≡ false =
-    sym (ap₂ count_allowed e m) ∙ sym c.count_allowed.ensures ∙ not-true _ c.if-not-count_allowed.true-raw in
+    sym (ap₂ count_allowed e m) ∙ sym c.count_allowed.ensures ∙ c.if-not-count_allowed.true in
     head_count a.args.s.now a.args.tag a.args.start a.args.len a.requires c.if-tag-ne-HEAD_TAG.false
     c.if-len-ne-HEAD_LENGTH.false k n
 
@@ -38,9 +36,8 @@ returns c =
     let a = c in
     let e = c.u16_at-edition.ensures.0 in
     let m = c.u16_at-count.ensures.0 in
-    let k : edition_known (le16_at a.args.s.now a.args.start) ≡ true = sym (ap edition_known e) ∙ sym c.edition_known.ensures ∙ not-false _
-    c.if-not-edition_known.false-raw in
+    let k : edition_known (le16_at a.args.s.now a.args.start) ≡ true = sym (ap edition_known e) ∙ sym c.edition_known.ensures ∙ c.if-not-edition_known.false in
     let n : count_allowed (le16_at a.args.s.now a.args.start) (le16_at a.args.s.now (a.args.start + count_at)) ≡ true =
-    sym (ap₂ count_allowed e m) ∙ sym c.count_allowed.ensures ∙ not-false _ c.if-not-count_allowed.false-raw in
+    sym (ap₂ count_allowed e m) ∙ sym c.count_allowed.ensures ∙ c.if-not-count_allowed.false in
     head_sound a.args.s.now a.args.tag a.args.start a.args.len a.requires c.if-tag-ne-HEAD_TAG.false
     c.if-len-ne-HEAD_LENGTH.false k n

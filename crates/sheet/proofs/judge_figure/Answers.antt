@@ -1,5 +1,4 @@
 -- `sheet::judge_figure` meets its contract: at each `return` the tests that led there say what the field's answer is. Assumes nothing.
-use borrow.Author.Tests.{not-true, not-false}
 use mathlib.Core.Path.{sym, ◌∙◌}
 use Rattle.layout.specs.Layout.{level_limit}
 use Rattle.sheet.proofs.Judging.{figure_short, figure_narrow, figure_unnamed, figure_unruled, figure_above, figure_high, figure_sound}
@@ -25,7 +24,7 @@ returns-then-not-name_allowed c =
     let w = c.wide-p.ensures.0 in
     figure_unnamed a.args.s.now a.args.edition a.args.start a.args.len a.requires.0 ps c.wide-p.result w
     c.if-len-lt-PARENTS_AT.false c.if-len-before.false
-    (sym c.name_allowed.ensures ∙ not-true _ c.if-not-name_allowed.true-raw)
+    (sym c.name_allowed.ensures ∙ c.if-not-name_allowed.true)
 
 pub returns-then-not-figure_allowed : goal.returns-then-not-figure_allowed
 returns-then-not-figure_allowed c =
@@ -35,8 +34,8 @@ returns-then-not-figure_allowed c =
     figure_unruled a.args.s.now a.args.edition a.args.start a.args.len a.requires.0 ps
     c.wide-p.result w
     c.if-len-lt-PARENTS_AT.false c.if-len-before.false
-    (sym c.name_allowed.ensures ∙ not-false _ c.if-not-name_allowed.false-raw)
-    (sym c.figure_allowed.ensures ∙ not-true _ c.if-not-figure_allowed.true-raw)
+    (sym c.name_allowed.ensures ∙ c.if-not-name_allowed.false)
+    (sym c.figure_allowed.ensures ∙ c.if-not-figure_allowed.true)
 
 pub returns-then-level-eq0 : goal.returns-then-level-eq0
 returns-then-level-eq0 c =
@@ -47,8 +46,8 @@ returns-then-level-eq0 c =
     c.wide-p.result w
     c.if-len-lt-PARENTS_AT.false
     c.if-len-before.false
-    (sym c.name_allowed.ensures ∙ not-false _ c.if-not-name_allowed.false-raw)
-    (sym c.figure_allowed.ensures ∙ not-false _ c.if-not-figure_allowed.false-raw)
+    (sym c.name_allowed.ensures ∙ c.if-not-name_allowed.false)
+    (sym c.figure_allowed.ensures ∙ c.if-not-figure_allowed.false)
     a.args.i n a.args.levels.now l c.level_over-level.result c.level_over-level.ensures.0 c.if-level-eq0.true
 
 pub returns-then-level-gt-LEVEL_LIMIT : goal.returns-then-level-gt-LEVEL_LIMIT
@@ -61,9 +60,8 @@ returns-then-level-gt-LEVEL_LIMIT c =
     c.wide-p.result w
     c.if-len-lt-PARENTS_AT.false
     c.if-len-before.false
-    (sym c.name_allowed.ensures ∙ not-false _
-    c.if-not-name_allowed.false-raw)
-    (sym c.figure_allowed.ensures ∙ not-false _ c.if-not-figure_allowed.false-raw)
+    (sym c.name_allowed.ensures ∙ c.if-not-name_allowed.false)
+    (sym c.figure_allowed.ensures ∙ c.if-not-figure_allowed.false)
     a.args.i n a.args.levels.now l c.level_over-level.result c.level_over-level.ensures.0 c.if-level-eq0.false c.if-level-gt-LEVEL_LIMIT.true
 
 pub returns : goal.returns
@@ -76,7 +74,6 @@ returns c =
     c.wide-p.result w
     c.if-len-lt-PARENTS_AT.false
     c.if-len-before.false
-    (sym c.name_allowed.ensures ∙ not-false _
-    c.if-not-name_allowed.false-raw)
-    (sym c.figure_allowed.ensures ∙ not-false _ c.if-not-figure_allowed.false-raw)
+    (sym c.name_allowed.ensures ∙ c.if-not-name_allowed.false)
+    (sym c.figure_allowed.ensures ∙ c.if-not-figure_allowed.false)
     a.args.i n a.args.levels.now l c.level_over-level.result c.level_over-level.ensures.0 c.if-level-eq0.false c.if-level-gt-LEVEL_LIMIT.false

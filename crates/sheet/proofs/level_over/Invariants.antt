@@ -13,8 +13,8 @@ use Rattle.sheet.proofs.level_over.Given as goal
 abbrev pub invariant-loop-k : goal.invariant-loop-k
 invariant-loop-k l = (l.k ≤ l.p)
     × (all (λ q. ltb q l.i) (numbers_at l.s l.at l.k) ≡ true)
-    × (l.initial.k ≡ highest (map (λ q. get_or l.levels q 0) (numbers_at l.s l.at l.k)))
-    × (l.initial.k ≤ 255)
+    × (l.highest ≡ highest (map (λ q. get_or l.levels q 0) (numbers_at l.s l.at l.k)))
+    × (l.highest ≤ 255)
 
 abbrev pub decreases-loop-k : goal.decreases-loop-k
 decreases-loop-k l = l.p - l.k

@@ -1,6 +1,5 @@
 -- `sheet::name_allowed` meets its contract. The loop's invariant: each byte passed is a name's. Assumes nothing.
 use borrow.Author.Rules.{rules}
-use borrow.Author.Tests.{not-true, not-false}
 use native.Mathlib.Omega.{arith}
 use mathlib.Core.Path.{◌≡◌, refl, sym, ap, ◌∙◌}
 use mathlib.Core.Bool.{true, ◌&&◌}
@@ -33,7 +32,7 @@ unfolding name_limit
 returns-then-not-name_byte c =
     let a = c in
     let one : 1 ≤ a.args.len = omega arith in
-    let e = not-true _ c.if-not-name_byte.true-raw in
+    let e = c.if-not-name_byte.true in
     name_fails a.args.s.now a.args.at a.args.len a.requires one c.if-len-gt-NAME_LIMIT.false
     c.loop-k.k c.loop-k-test.true
     (sym c.name_byte.ensures ∙ e)
@@ -48,7 +47,7 @@ pub loop-k-preserved : goal.loop-k-preserved
 loop-k-preserved c =
     let a = c in
     let k = c.loop-k.k in
-    let e : name_byte (get_or a.args.s.now (a.args.at + k) 0) ≡ true = sym c.name_byte.ensures ∙ not-false _ c.if-not-name_byte.false-raw in
+    let e : name_byte (get_or a.args.s.now (a.args.at + k) 0) ≡ true = sym c.name_byte.ensures ∙ c.if-not-name_byte.false in
     let m = all_part_more name_byte a.args.s.now a.args.at k (omega arith) in
     (search rules, m ∙ ap (λ b. b && name_byte (get_or a.args.s.now (a.args.at + k) 0)) c.loop-k.invariant.1 ∙ e)
 
