@@ -29,12 +29,6 @@ bounds-heads-p c =
     let kept = ap length c.loop-k.invariant.1 ∙ heads_length c.args.heads.now c.args.first ps k in
     omega (arith, low, kept)
 
-pub overflow_add-k : goal.overflow_add-k
-overflow_add-k c = omega arith
-
-pub loop-k-smaller : goal.loop-k-smaller
-loop-k-smaller c = omega arith
-
 pub loop-k-preserved : goal.loop-k-preserved
 unfolding head_places
 loop-k-preserved c =

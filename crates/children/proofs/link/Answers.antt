@@ -11,10 +11,6 @@ loop-c-init c =
     let a = c.args in
     built_start a.s.now a.heads.now a.links.now a.n
 
-pub overflow_sub-c : goal.overflow_sub-c
-overflow_sub-c c =
-    omega arith
-
 pub offset_bounds-offsets-c : goal.offset_bounds-offsets-c
 offset_bounds-offsets-c c =
     omega (arith, size_most c.args.s.now, c.requires.fact_2, c.loop-c.invariant.within)

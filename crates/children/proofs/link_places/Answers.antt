@@ -37,12 +37,6 @@ bounds-links-first c =
     let kept = ap length l.invariant.1 ∙ links_length c.args.links.now c.args.heads.now c.args.first (parents_of (field_item c.args.s.now c.args.at)) l.k in
     omega (arith, kept, c.requires.fact_3, c.parent_count-count.ensures.at_most, c.loop-k-test.true)
 
-pub overflow_add-k : goal.overflow_add-k
-overflow_add-k c = omega arith
-
-pub loop-k-smaller : goal.loop-k-smaller
-loop-k-smaller c = omega arith
-
 pub loop-k-preserved : goal.loop-k-preserved
 unfolding link_places
 loop-k-preserved c =

@@ -8,29 +8,11 @@ pub loop-matched-init : goal.loop-matched-init
 loop-matched-init c =
     (omega arith, refl)
 
-pub overflow_mul-matched : goal.overflow_mul-matched
-overflow_mul-matched c = omega arith
-
-pub offset_bounds-offsets-matched : goal.offset_bounds-offsets-matched
-offset_bounds-offsets-matched c = omega arith
-
-pub bounds-offsets-matched : goal.bounds-offsets-matched
-bounds-offsets-matched c = omega arith
-
-pub is_offset-requires : goal.is_offset-requires
-is_offset-requires c = omega arith
-
 pub returns-then-not-is_offset : goal.returns-then-not-is_offset
 returns-then-not-is_offset c =
     let l = c.loop-matched in
     compared_other c.args.index.now c.args.offsets.now c.args.n l.matched (omega arith) (omega arith) (omega arith) l.invariant.1
     (sym c.if-not-is_offset.true ∙ c.is_offset.ensures)
-
-pub overflow_add-matched : goal.overflow_add-matched
-overflow_add-matched c = omega arith
-
-pub loop-matched-smaller : goal.loop-matched-smaller
-loop-matched-smaller c = omega arith
 
 pub loop-matched-preserved : goal.loop-matched-preserved
 loop-matched-preserved c =

@@ -13,24 +13,6 @@ unfolding offset_bytes
 loop-written-init c =
     (omega arith, omega arith, refl)
 
-pub overflow_mul-written : goal.overflow_mul-written
-overflow_mul-written c = omega arith
-
-pub offset_bounds-offsets-written : goal.offset_bounds-offsets-written
-offset_bounds-offsets-written c = omega arith
-
-pub bounds-offsets-written : goal.bounds-offsets-written
-bounds-offsets-written c = omega arith
-
-pub put_offset-requires : goal.put_offset-requires
-put_offset-requires c = omega arith
-
-pub overflow_add-written : goal.overflow_add-written
-overflow_add-written c = omega arith
-
-pub loop-written-smaller : goal.loop-written-smaller
-loop-written-smaller c = omega arith
-
 pub loop-written-preserved : goal.loop-written-preserved
 loop-written-preserved c =
     let l = c.loop-written in
@@ -40,10 +22,6 @@ loop-written-preserved c =
       ap length e ∙ put_length l.index (index_width * l.written) (get_or offsets l.written 0) ∙ l.invariant.1,
       ap (take (index_width * (l.written + 1))) e ∙ write_next offsets l.index l.written (omega arith) (omega arith) l.invariant.2,
     )
-
-pub shape_of-index : goal.shape_of-index
-shape_of-index c =
-    omega arith
 
 pub returns : goal.returns
 returns c =

@@ -11,12 +11,6 @@ loop-i-init c = record { within = omega arith; kept = refl; zeros = λ j h. absu
 pub bounds-owed-i : goal.bounds-owed-i
 bounds-owed-i c = omega (arith, c.loop-i.invariant.kept)
 
-pub overflow_add-i : goal.overflow_add-i
-overflow_add-i c = omega arith
-
-pub loop-i-smaller : goal.loop-i-smaller
-loop-i-smaller c = omega arith
-
 pub loop-i-preserved : goal.loop-i-preserved
 loop-i-preserved c =
     let l = c.loop-i in

@@ -8,23 +8,8 @@ use Rattle.owing.proofs.copy_owed.Goals as goal
 pub loop-i-init : goal.loop-i-init
 loop-i-init c = record { within = omega arith; kept = refl; copies = λ j h. absurd (omega arith) }
 
-pub overflow_mul-owed : goal.overflow_mul-owed
-overflow_mul-owed c = omega arith
-
-pub overflow_add-owed : goal.overflow_add-owed
-overflow_add-owed c = omega arith
-
-pub bounds-table-i : goal.bounds-table-i
-bounds-table-i c = omega arith
-
 pub bounds-owed-i : goal.bounds-owed-i
 bounds-owed-i c = omega (arith, c.loop-i.invariant.kept)
-
-pub overflow_add-i : goal.overflow_add-i
-overflow_add-i c = omega arith
-
-pub loop-i-smaller : goal.loop-i-smaller
-loop-i-smaller c = omega arith
 
 pub loop-i-preserved : goal.loop-i-preserved
 loop-i-preserved c =

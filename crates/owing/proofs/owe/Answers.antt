@@ -15,9 +15,6 @@ loop-c-init c =
     passed_start (sheet_of c.args.s.now) (sheet_ordered c.args.s.now) (decode_table c.args.table.now) (length c.args.owed.now) c.args.n
     c.args.owed.now c.requires.fact_2 refl c.requires.fact_5
 
-pub overflow_sub-c : goal.overflow_sub-c
-overflow_sub-c c = omega arith
-
 pub leans-requires : goal.leans-requires
 leans-requires c =
     let l = c.loop-c in

@@ -21,12 +21,6 @@ bounds-owed-parent c =
     let kept = ap length c.loop-k.invariant.1 ∙ each_length c.args.owed.now ps k in
     omega (arith, low, kept)
 
-pub overflow_add-k : goal.overflow_add-k
-overflow_add-k c = omega arith
-
-pub loop-k-smaller : goal.loop-k-smaller
-loop-k-smaller c = omega arith
-
 pub loop-k-preserved : goal.loop-k-preserved
 unfolding owe_each
 loop-k-preserved c =

@@ -10,28 +10,10 @@ pub loop-i-init : goal.loop-i-init
 unfolding all_below
 loop-i-init c = (omega arith, refl)
 
-pub overflow_mul-i : goal.overflow_mul-i
-overflow_mul-i c = omega arith
-
-pub overflow_add-i : goal.overflow_add-i
-overflow_add-i c = omega arith
-
-pub bounds-table-i : goal.bounds-table-i
-bounds-table-i c = omega arith
-
-pub bounds-owed-i : goal.bounds-owed-i
-bounds-owed-i c = omega arith
-
 pub returns-then-table-i : goal.returns-then-table-i
 returns-then-table-i c =
     let a = c.args in
     match_not a.table.now a.owed.now c.loop-i.i a.n c.loop-i-test.true c.if-table-i.true
-
-pub overflow_add-i-in-loop-i : goal.overflow_add-i-in-loop-i
-overflow_add-i-in-loop-i c = omega arith
-
-pub loop-i-smaller : goal.loop-i-smaller
-loop-i-smaller c = omega arith
 
 pub loop-i-preserved : goal.loop-i-preserved
 loop-i-preserved c =

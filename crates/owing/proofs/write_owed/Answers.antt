@@ -13,25 +13,10 @@ pub loop-i-init : goal.loop-i-init
 unfolding owe_rows
 loop-i-init c = (omega arith, refl)
 
-pub bounds-owed-i : goal.bounds-owed-i
-bounds-owed-i c = omega arith
-
-pub overflow_mul-table : goal.overflow_mul-table
-overflow_mul-table c = omega arith
-
-pub overflow_add-table : goal.overflow_add-table
-overflow_add-table c = omega arith
-
 pub bounds-table-i : goal.bounds-table-i
 bounds-table-i c =
     let l = c.loop-i in
     omega (arith, ap length l.invariant.1 ∙ rows_length c.args.table.now c.args.owed.now l.i)
-
-pub overflow_add-i : goal.overflow_add-i
-overflow_add-i c = omega arith
-
-pub loop-i-smaller : goal.loop-i-smaller
-loop-i-smaller c = omega arith
 
 pub loop-i-preserved : goal.loop-i-preserved
 unfolding owe_rows

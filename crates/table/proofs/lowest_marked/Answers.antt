@@ -8,21 +8,9 @@ pub loop-i-init : goal.loop-i-init
 loop-i-init c =
     record { within = omega arith; none_below = λ i h. absurd (omega arith) }
 
-pub is_marked-requires : goal.is_marked-requires
-is_marked-requires c =
-    omega arith
-
 pub returns-then-is_marked : goal.returns-then-is_marked
 returns-then-is_marked c =
     search_found c.loop-i.invariant (sym c.is_marked.ensures ∙ c.if-is_marked.true)
-
-pub overflow_add-i : goal.overflow_add-i
-overflow_add-i c =
-    omega arith
-
-pub loop-i-smaller : goal.loop-i-smaller
-loop-i-smaller c =
-    omega arith
 
 pub loop-i-preserved : goal.loop-i-preserved
 loop-i-preserved c =
