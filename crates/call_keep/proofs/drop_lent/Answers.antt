@@ -29,7 +29,8 @@ settle-requires c =
     let i = c.item_cause-cause in
     let drops = c.dropped_cell-cell.ensures ∙ ap drop_cell c.read_cell.ensures in
     let left = drop_left p.fact_2 c.args.item i.result i.ensures c.if-cause-ne0.false _ _ drops s.ensures in
-    settle_needs p.fact_1 p.fact_2 p.fact_3 _ s.auto.table left.formed
+    let n = settle_needs p.fact_1 p.fact_2 p.fact_3 _ s.auto.table left.formed in
+    record { fact_1 = n.0; fact_2 = n.1.0; fact_3 = n.1.1.0; fact_4 = n.1.1.1.0; fact_5 = n.1.1.1.1 }
 
 pub returns : goal.returns
 returns c =

@@ -21,7 +21,8 @@ pub settle-requires : goal.settle-requires
 settle-requires c =
     let p = c.requires in
     let d = c.keep_cell in
-    settle_needs p.fact_1 p.fact_2 p.fact_3 _ d.auto.table d.ensures.formed
+    let n = settle_needs p.fact_1 p.fact_2 p.fact_3 _ d.auto.table d.ensures.formed in
+    record { fact_1 = n.0; fact_2 = n.1.0; fact_3 = n.1.1.0; fact_4 = n.1.1.1.0; fact_5 = n.1.1.1.1 }
 
 pub returns : goal.returns
 returns c =

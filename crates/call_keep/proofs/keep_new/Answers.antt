@@ -11,7 +11,7 @@ use Rattle.call_keep.proofs.keep_new.Goals as goal
 pub look_unstored-seen-requires : goal.look_unstored-seen-requires
 look_unstored-seen-requires c =
     let p = c.requires in
-    record { fact_1 = p.fact_1; fact_2 = ready_memo p.fact_2 (decode_table c.args.table.now); fact_3 = p.fact_3; fact_4 = p.fact_5 }
+    (p.fact_1, (ready_memo p.fact_2 (decode_table c.args.table.now), (p.fact_3, p.fact_5)))
 
 pub returns : goal.returns
 returns c =

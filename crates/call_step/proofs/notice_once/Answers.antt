@@ -17,7 +17,7 @@ tell_and_clear-requires c =
     record {
       fact_1 = p.fact_1;
       fact_2 = p.fact_5.0;
-      fact_3 = record { low = omega (arith, p.fact_2.0, p.fact_3); room = omega (arith, p.fact_2, o.auto.owed); linked = λ q. l.ensures.0.linked (l.ensures.1 q) };
+      fact_3 = record { low = omega (arith, p.fact_2.0, p.fact_3); room = omega (arith, p.fact_2, o.auto.owed); linked = λ q. l.ensures.lists.linked (l.ensures.there q) };
     }
 
 pub returns : goal.returns
