@@ -11,17 +11,23 @@ board_lent-requires c =
     let m = b.admit in
     let e = b in
     let a = e.args in
-    let room = e.requires.0 in
-    let g = admits a.sheet.now a.index.now a.table-1.now _ m.new.1.1.1.1.0 m.ensures.0 b.n-1.given.1 m.ensures.1.located
-    (omega (arith, m.auto.1.1.1.0, room.0), omega (arith, m.auto.1.1.1.1.0, room.1)) in
-    (g.placing, (g.lent, (g.owes, (g.byte_room, e.requires.1))))
+    let room = e.requires.fact_1 in
+    let g = admits a.sheet.now a.index.now a.table-1.now _ m.new.levels m.ensures.answer b.n-1.given.1 m.ensures.found.located
+    (omega (arith, m.auto.offsets, c.requires.fact_1.0), omega (arith, m.auto.levels, c.requires.fact_1.1)) in
+    record {
+      fact_1 = g.placing;
+      fact_2 = g.lent;
+      fact_3 = g.owes;
+      fact_4 = g.byte_room;
+      fact_5 = e.requires.fact_2;
+    }
 
 pub returns-in-Refused : goal.returns-in-Refused
 returns-in-Refused c =
     let b = c in
     let m = b.admit in
     let a = b.args in
-    rw (refuses a.sheet.now a.index.now a.table-1.now (board a.items.now a.results-1.now) m.ensures.0 b.number-1.given.1)
+    rw (refuses a.sheet.now a.index.now a.table-1.now (board a.items.now a.results-1.now) m.ensures.answer b.number-1.given.1)
     (record { number_is = c.give.ensures.0; offset_is = c.give.ensures.1; results_are = refl; table_is = refl })
 
 pub returns-in-Items : goal.returns-in-Items
@@ -32,7 +38,7 @@ returns-in-Items c =
     let e = c29 in
     let m = c29.admit in
     let a = e.args in
-    let room = e.requires.0 in
-    let g = admits a.sheet.now a.index.now a.table-1.now _ m.new.1.1.1.1.0 m.ensures.0 b.n-1.given.1 m.ensures.1.located
-    (omega (arith, m.auto.1.1.1.0, room.0), omega (arith, m.auto.1.1.1.1.0, room.1)) in
+    let room = e.requires.fact_1 in
+    let g = admits a.sheet.now a.index.now a.table-1.now _ m.new.levels m.ensures.answer b.n-1.given.1 m.ensures.found.located
+    (omega (arith, m.auto.offsets, c.requires.fact_1.0), omega (arith, m.auto.levels, c.requires.fact_1.1)) in
     rw (g.call (board a.items.now a.results-1.now)) (c13.board_lent.ensures a.index.now)

@@ -11,7 +11,7 @@ returns-then-lists_wrong c =
     λ x.
     let w = c in
     let e = w in
-    lists_refused e.requires.1.0 x e.args.items.now e.args.results.now c.give.result (sym w.lists_wrong.ensures ∙ c.if-lists_wrong.true)
+    lists_refused e.requires.fact_2 x e.args.items.now e.args.results.now c.give.result (sym w.lists_wrong.ensures ∙ c.if-lists_wrong.true)
     c.give.ensures.0 c.give.ensures.1
 
 pub returns-then-some_no_item : goal.returns-then-some_no_item
@@ -20,8 +20,8 @@ returns-then-some_no_item c =
     let w = c in
     let e = w in
     let a = e.args in
-    item_refused e.requires.1.0 x a.items.now a.results-1.now c.give-then-some_no_item.result (sym w.lists_wrong.ensures ∙ c.if-lists_wrong.false)
-    (sym (c.some_no_item.ensures (sheet_of a.sheet.now) e.requires.0.count_is) ∙ c.if-some_no_item.true)
+    item_refused e.requires.fact_2 x a.items.now a.results-1.now c.give-then-some_no_item.result (sym w.lists_wrong.ensures ∙ c.if-lists_wrong.false)
+    (sym (c.some_no_item.ensures (sheet_of a.sheet.now) e.requires.fact_1.count_is) ∙ c.if-some_no_item.true)
     c.give-then-some_no_item.ensures.0 c.give-then-some_no_item.ensures.1
 
 pub returns-then-items-eq0 : goal.returns-then-items-eq0
@@ -30,7 +30,7 @@ returns-then-items-eq0 c =
     let w = c in
     let e = w in
     let p = e.requires in
-    board_empty p.1.0 (λ j. (w.type_inv.table j).fits) p.1.1.0 x
+    board_empty p.fact_2 (λ j. (w.type_inv.table j).fits) p.fact_3 x
     e.args.items.now e.args.results.now c.give-then-items-eq0.result
     (sym w.lists_wrong.ensures ∙ c.if-lists_wrong.false) c.if-items-eq0.true c.give-then-items-eq0.ensures.0 c.give-then-items-eq0.ensures.1
 
@@ -43,14 +43,20 @@ show-requires c =
     let p = e.requires in
     let lists =
     board_listed a.sheet.now a.items.now a.results-1.now (sym w.lists_wrong.ensures ∙ i.if-lists_wrong.false)
-    (sym (i.some_no_item.ensures (sheet_of a.sheet.now) p.0.count_is) ∙ i.if-some_no_item.false) in
-    (p.1.0, ((p.0.count_is, p.1.1.1.0), (lists, (p.1.1.0, p.1.1.1.1))))
+    (sym (i.some_no_item.ensures (sheet_of a.sheet.now) p.fact_1.count_is) ∙ i.if-some_no_item.false) in
+    record {
+      fact_1 = p.fact_2;
+      fact_2 = (p.fact_1.count_is, p.fact_4);
+      fact_3 = lists;
+      fact_4 = p.fact_3;
+      fact_5 = p.fact_5;
+    }
 
 pub settle-requires : goal.settle-requires
 settle-requires c =
     let s = c in
     let p = s.requires in
-    settle_needs p.0 p.1.0 (omega (arith, p.1.1.1.0, s.show.auto.1.1.1.1.1.1.0)) _ s.show.auto.1.1.0 s.show.ensures.formed
+    settle_needs p.fact_1 p.fact_2 (omega (arith, p.fact_4, s.show.auto.bytes)) _ s.show.auto.table s.show.ensures.formed
 
 pub returns : goal.returns
 returns c =
@@ -61,6 +67,6 @@ returns c =
     let w = i in
     let e = w in
     let a = e.args in
-    board_done e.requires.1.0 x a.items.now a.results-1.now c.give-2.result (sym w.lists_wrong.ensures ∙ i.if-lists_wrong.false)
-    (sym (i.some_no_item.ensures (sheet_of a.sheet.now) e.requires.0.count_is) ∙ i.if-some_no_item.false) i.if-items-eq0.false
+    board_done e.requires.fact_2 x a.items.now a.results-1.now c.give-2.result (sym w.lists_wrong.ensures ∙ i.if-lists_wrong.false)
+    (sym (i.some_no_item.ensures (sheet_of a.sheet.now) e.requires.fact_1.count_is) ∙ i.if-some_no_item.false) i.if-items-eq0.false
     c.give-2.ensures.0 c.give-2.ensures.1 _ _ s.show.ensures _ d.settle.ensures

@@ -7,7 +7,7 @@ use Rattle.call_board.proofs.show_each.Goals as goal
 pub loop-k-init : goal.loop-k-init
 loop-k-init c =
     let p = c.requires in
-    showing_start p.0 p.1.0 p.1.1
+    showing_start p.fact_1 p.fact_2 p.fact_3
 
 pub look_up-seen-requires : goal.look_up-seen-requires
 look_up-seen-requires c =
@@ -33,7 +33,7 @@ loop-k-preserved c =
     let i = u in
     let k = u.look_up-seen.auto in
     showing_next i.loop-k.invariant i.loop-k-test.true i.listed_item-i.result i.listed_item-i.ensures
-    k.1.1.0 k.1.1.1.0 k.1.1.1.1.0 (u.look_up-seen.ensures (i.listed_item-i.result + 1) (omega arith)) c.write_result.ensures
+    k.table k.tags k.numbers (u.look_up-seen.ensures (i.listed_item-i.result + 1) (omega arith)) c.write_result.ensures
 
 pub shape_of-table : goal.shape_of-table
 shape_of-table c = c.loop-k.invariant.length_is

@@ -11,7 +11,7 @@ pub write_i64-requires : goal.write_i64-requires
 write_i64-requires c = simp length-set (omega arith)
 
 pub shape_of-results : goal.shape_of-results
-shape_of-results c = c.write_i64.auto.0 ∙ simp length-set
+shape_of-results c = c.write_i64.auto.s ∙ simp length-set
 
 pub returns : goal.returns
 returns c =

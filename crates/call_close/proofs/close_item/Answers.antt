@@ -6,4 +6,4 @@ pub returns : goal.returns
 returns c =
     let s = c in
     let e = c in
-    closed_stored e.requires.0 e.args.i e.requires.1 _ s.closed_value-value.ensures _ s.store_cell.ensures
+    closed_stored e.requires.fact_1 e.args.i e.requires.fact_2 _ s.closed_value-value.ensures _ s.store_cell.ensures

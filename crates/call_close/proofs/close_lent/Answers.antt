@@ -7,7 +7,7 @@ pub settle-requires : goal.settle-requires
 settle-requires c =
     let k = c in
     let p = k.requires in
-    settle_needs p.0 p.1.0 p.1.1 _ k.close_all.auto.1.1.0 k.close_all.ensures.formed
+    settle_needs p.fact_1 p.fact_2 p.fact_3 _ k.close_all.auto.table k.close_all.ensures.formed
 
 pub returns : goal.returns
 returns c =
