@@ -18,10 +18,8 @@ catch_up-requires c =
 
 pub show_each-requires : goal.show_each-requires
 show_each-requires c =
-    let c15 = c in
-    let c31 = c15 in
-    let p = c31.requires in
-    let u = c15.catch_up in
+    let p = c.requires in
+    let u = c.catch_up in
     let memo = caught_memo p.fact_5.0 p.fact_2.0 _ _ u.auto.tags u.auto.numbers u.ensures _ in
     record {
       fact_1 = lent_on p.fact_1 _ u.auto.table u.ensures.formed;
@@ -31,8 +29,5 @@ show_each-requires c =
 
 pub returns : goal.returns
 returns c =
-    let c7 = c in
-    let c23 = c7 in
-    let c39 = c23 in
-    let a = c39.args in
-    shown_caught a.sheet.now _ _ c23.catch_up.ensures.table_is (listed a.items.now) c7.show_each.ensures
+    let a = c.args in
+    shown_caught a.sheet.now _ _ c.catch_up.ensures.table_is (listed a.items.now) c.show_each.ensures

@@ -15,7 +15,6 @@ shape_of-results c = c.write_i64.auto.s ∙ simp length-set
 
 pub returns : goal.returns
 returns c =
-    let b = c in
+    let a = c.args in
     let n = c.number_or_zero in
-    result_stored b.args.results.now b.args.k c.kind.result n.result (meaning b.args.value) _
-    c.kind.ensures n.ensures (search rules) c.write_i64.ensures
+    result_stored a.results.now a.k c.kind.result n.result (meaning a.value) _ c.kind.ensures n.ensures (search rules) c.write_i64.ensures
