@@ -24,6 +24,7 @@ use table::{Cell, Mark};
 use value::{MAX_PARENTS, Value};
 
 // Gathers the value in the record of item p, as that of the parent in place k.
+#[tactic(auto, unfolding(circuit::specs::Rules::max_parents))]
 fn gather(
     table: &[u8],
     p: usize,

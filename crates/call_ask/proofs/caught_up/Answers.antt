@@ -9,21 +9,22 @@ use Rattle.call_ask.proofs.caught_up.Goals as goal
 pub catch_up-requires : goal.catch_up-requires
 catch_up-requires c =
     let p = c.requires in
-    (p.0, (p.1.1.1.1.0, (p.1.1.1.1.1, (p.1.0, p.1.1.1.0))))
+    record {
+      fact_1 = p.fact_1;
+      fact_2 = p.fact_5.0;
+      fact_3 = p.fact_5.1;
+      fact_4 = p.fact_2;
+      fact_5 = p.fact_4;
+    }
 
 pub look_up-seen-requires : goal.look_up-seen-requires
 look_up-seen-requires c =
-    let c14 = c in
-    let c28 = c14 in
-    let p = c28.requires in
-    let u = c14.catch_up in
-    let memo = caught_memo p.1.1.1.1.0 p.1.0.0 _ _ u.auto.1.1.1.1.1.0 u.auto.1.1.1.1.1.1.0 u.ensures _ in
-    (lent_on p.0 _ u.auto.1.1.0 u.ensures.formed, (memo, omega (arith, p.1.0.0, p.1.1.0)))
+    let p = c.requires in
+    let u = c.catch_up in
+    let memo = caught_memo p.fact_5.0 p.fact_2.0 _ _ u.auto.tags u.auto.numbers u.ensures _ in
+    (lent_on p.fact_1 _ u.auto.table u.ensures.formed, (memo, omega (arith, p.fact_2.0, p.fact_3)))
 
 pub returns : goal.returns
 returns c =
-    let c6 = c in
-    let c21 = c6 in
-    let c35 = c21 in
-    let a = c35.args in
-    caught_looked a.sheet.now _ c21.catch_up.ensures.table_is a.i (c6.look_up-seen.ensures (a.i + 1) (omega arith))
+    let a = c.args in
+    caught_looked a.sheet.now _ c.catch_up.ensures.table_is a.i (c.look_up-seen.ensures (a.i + 1) (omega arith))

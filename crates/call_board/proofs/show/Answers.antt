@@ -8,21 +8,26 @@ use Rattle.call_board.proofs.show.Goals as goal
 pub catch_up-requires : goal.catch_up-requires
 catch_up-requires c =
     let p = c.requires in
-    (p.0, (p.1.1.1.1.0, (p.1.1.1.1.1, (p.1.0, p.1.1.1.0))))
+    record {
+      fact_1 = p.fact_1;
+      fact_2 = p.fact_5.0;
+      fact_3 = p.fact_5.1;
+      fact_4 = p.fact_2;
+      fact_5 = p.fact_4;
+    }
 
 pub show_each-requires : goal.show_each-requires
 show_each-requires c =
-    let c15 = c in
-    let c31 = c15 in
-    let p = c31.requires in
-    let u = c15.catch_up in
-    let memo = caught_memo p.1.1.1.1.0 p.1.0.0 _ _ u.auto.1.1.1.1.1.0 u.auto.1.1.1.1.1.1.0 u.ensures _ in
-    (lent_on p.0 _ u.auto.1.1.0 u.ensures.formed, (memo, p.1.1.0))
+    let p = c.requires in
+    let u = c.catch_up in
+    let memo = caught_memo p.fact_5.0 p.fact_2.0 _ _ u.auto.tags u.auto.numbers u.ensures _ in
+    record {
+      fact_1 = lent_on p.fact_1 _ u.auto.table u.ensures.formed;
+      fact_2 = memo;
+      fact_3 = p.fact_3;
+    }
 
 pub returns : goal.returns
 returns c =
-    let c7 = c in
-    let c23 = c7 in
-    let c39 = c23 in
-    let a = c39.args in
-    shown_caught a.sheet.now _ _ c23.catch_up.ensures.table_is (listed a.items.now) c7.show_each.ensures
+    let a = c.args in
+    shown_caught a.sheet.now _ _ c.catch_up.ensures.table_is (listed a.items.now) c.show_each.ensures

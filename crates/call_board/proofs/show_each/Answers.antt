@@ -7,7 +7,7 @@ use Rattle.call_board.proofs.show_each.Goals as goal
 pub loop-k-init : goal.loop-k-init
 loop-k-init c =
     let p = c.requires in
-    showing_start p.0 p.1.0 p.1.1
+    showing_start p.fact_1 p.fact_2 p.fact_3
 
 pub look_up-seen-requires : goal.look_up-seen-requires
 look_up-seen-requires c =
@@ -15,25 +15,17 @@ look_up-seen-requires c =
     (inv.lent, (inv.memo, showing_low inv c.loop-k-test.true _ c.listed_item-i.ensures))
 
 pub write_result-requires : goal.write_result-requires
-write_result-requires c =
-    let l = c in
-    showing_room l.loop-k.invariant l.loop-k-test.true
-
-pub overflow_add-k : goal.overflow_add-k
-overflow_add-k c =
-    let l = c in
-    omega (arith, l.loop-k-test.true, l.well-formed.1.1.1.1.1.1.0)
+write_result-requires c = showing_room c.loop-k.invariant c.loop-k-test.true
 
 pub loop-k-smaller : goal.loop-k-smaller
 loop-k-smaller c = omega (arith, c.loop-k-test.true)
 
 pub loop-k-preserved : goal.loop-k-preserved
 loop-k-preserved c =
-    let u = c in
-    let i = u in
-    let k = u.look_up-seen.auto in
-    showing_next i.loop-k.invariant i.loop-k-test.true i.listed_item-i.result i.listed_item-i.ensures
-    k.1.1.0 k.1.1.1.0 k.1.1.1.1.0 (u.look_up-seen.ensures (i.listed_item-i.result + 1) (omega arith)) c.write_result.ensures
+    let i = c.listed_item-i in
+    let u = c.look_up-seen in
+    showing_next c.loop-k.invariant c.loop-k-test.true i.result i.ensures
+    u.auto.table u.auto.tags u.auto.numbers (u.ensures (i.result + 1) (omega arith)) c.write_result.ensures
 
 pub shape_of-table : goal.shape_of-table
 shape_of-table c = c.loop-k.invariant.length_is

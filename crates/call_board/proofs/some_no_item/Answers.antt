@@ -1,4 +1,4 @@
--- `call_board::some_no_item` meets its contract. The invariant: every item passed is below n. Assumes nothing.
+-- `call_board::some_no_item` meets its contract. Assumes nothing.
 use Prim.Native.Nat.{◌<◌}
 use native.Mathlib.Omega.{arith}
 use lib.ListN.{get_or}

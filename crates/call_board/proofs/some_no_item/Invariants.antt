@@ -1,4 +1,4 @@
--- `call_board::some_no_item` meets its contract. The invariant: every item passed is below n. Assumes nothing.
+-- Every item passed is below n.
 use Prim.Native.Nat.{ℕ, ◌/◌, ◌-◌, ◌≤◌, ◌<◌}
 use lib.ListN.{length, get_or}
 use Rattle.circuit.specs.Board.{listed_width, listed}

@@ -11,11 +11,10 @@ pub write_i64-requires : goal.write_i64-requires
 write_i64-requires c = simp length-set (omega arith)
 
 pub shape_of-results : goal.shape_of-results
-shape_of-results c = c.write_i64.auto.0 ∙ simp length-set
+shape_of-results c = c.write_i64.auto.s ∙ simp length-set
 
 pub returns : goal.returns
 returns c =
-    let b = c in
+    let a = c.args in
     let n = c.number_or_zero in
-    result_stored b.args.results.now b.args.k c.kind.result n.result (meaning b.args.value) _
-    c.kind.ensures n.ensures (search rules) c.write_i64.ensures
+    result_stored a.results.now a.k c.kind.result n.result (meaning a.value) _ c.kind.ensures n.ensures (search rules) c.write_i64.ensures

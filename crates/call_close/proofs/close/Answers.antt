@@ -7,30 +7,28 @@ use Rattle.call_close.proofs.close.Goals as goal
 
 pub close_lent-requires : goal.close_lent-requires
 close_lent-requires c =
-    let b = c in
-    let m = b.admit in
-    let e = b in
-    let a = e.args in
-    let room = e.requires in
-    let g = admits a.sheet.now a.index.now a.table-1.now _ m.new.1.1.1.1.0 m.ensures.0 b.n-1.given.1 m.ensures.1.located
-    (omega (arith, m.auto.1.1.1.0, room.0), omega (arith, m.auto.1.1.1.1.0, room.1)) in
-    (g.placing, (g.lent, g.byte_room))
+    let m = c.admit in
+    let a = c.args in
+    let room = c.requires in
+    let g = admits a.sheet.now a.index.now a.table.now _ m.new.levels c.in-Items.ensures.answer refl c.in-Items.ensures.found.located
+    (omega (arith, m.auto.offsets, room.0), omega (arith, m.auto.levels, room.1)) in
+    record {
+      fact_1 = g.placing;
+      fact_2 = g.lent;
+      fact_3 = g.byte_room;
+    }
 
 pub returns-in-Refused : goal.returns-in-Refused
 returns-in-Refused c =
-    let b = c in
-    let m = b.admit in
-    let a = b.args in
-    rw (refuses a.sheet.now a.index.now a.table-1.now (close) m.ensures.0 b.number-1.given.1)
+    let a = c.args in
+    rw (refuses a.sheet.now a.index.now a.table.now close c.in-Refused.ensures.answer refl)
     (record { number_is = c.give.ensures.0; offset_is = c.give.ensures.1; table_is = refl })
 
 pub returns-in-Items : goal.returns-in-Items
 returns-in-Items c =
-    let b = c in
-    let m = b.admit in
-    let e = b in
-    let a = e.args in
-    let room = e.requires in
-    let g = admits a.sheet.now a.index.now a.table-1.now _ m.new.1.1.1.1.0 m.ensures.0 b.n-1.given.1 m.ensures.1.located
-    (omega (arith, m.auto.1.1.1.0, room.0), omega (arith, m.auto.1.1.1.1.0, room.1)) in
-    rw (g.call (close)) (c.close_lent.ensures a.index.now)
+    let m = c.admit in
+    let a = c.args in
+    let room = c.requires in
+    let g = admits a.sheet.now a.index.now a.table.now _ m.new.levels c.in-Items.ensures.answer refl c.in-Items.ensures.found.located
+    (omega (arith, m.auto.offsets, room.0), omega (arith, m.auto.levels, room.1)) in
+    rw (g.call close) (c.close_lent.ensures a.index.now)

@@ -1,9 +1,8 @@
-
+-- `call_close::close_item` meets its contract. Assumes nothing.
 use Rattle.call_close.proofs.Closing.{closed_stored}
 use Rattle.call_close.proofs.close_item.Goals as goal
 
 pub returns : goal.returns
 returns c =
-    let s = c in
-    let e = c in
-    closed_stored e.requires.0 e.args.i e.requires.1 _ s.closed_value-value.ensures _ s.store_cell.ensures
+    let e = c.requires in
+    closed_stored e.fact_1 c.args.i e.fact_2 _ c.closed_value-value.ensures _ c.store_cell.ensures

@@ -91,5 +91,5 @@ loop-out-preserved c =
     let w = field_parts cut.field_at.ensures cut.tag-1.given.1 in
     playing_step cut.loop-out.invariant _ cut.field_at.ensures cut.tag-1.given.1
     (ap (order_of _) (sym (content_part w)) ∙ sym order.order_of.ensures ∙ ap ordered_meaning bound.order-1.given.1)
-    call.carry_out-count.auto.1.1.0
+    call.carry_out-count.auto.table
     call.carry_out-count.ensures
