@@ -10,7 +10,7 @@ use lib.IntN.{ℤ, pos}
 use lib.ListN.{length, get_or, set, length-set}
 use lib.Seq.{get_or-set_same, get_or-set_other}
 use borrow.Author.Tests.{eq-eqb, eqb-true, eqb-false}
-use Rattle.circuit.specs.Value.{Value, well_formed, kind_of, number_of, of_parts}
+use Rattle.circuit.specs.Value.{well_formed, kind_of, number_of, of_parts}
 use Rattle.circuit.specs.Sheet.{Sheet, size, item_at, is_figure, kept_of, Ordered}
 use Rattle.circuit.specs.Table.{Table, Cell, unk, held, upd, notice_if, mark_of, is_notice, is_stored}
 use Rattle.circuit.specs.Machine.{Looked, looked, store_if, flagged, look_cell, look_up, work_out}

@@ -1,5 +1,5 @@
 -- `look_up`, `look_unstored` and `work_out` meet their contracts, together.
-use Rattle.std.proofs.Common.{◌<◌, arith, refl}
+use Rattle.std.proofs.Common.{arith, refl}
 use Rattle.circuit.specs.Rules.{max_parents}
 use Rattle.item.proofs.Located.{size_most, located_field}
 use Rattle.memo.specs.Memo.{seen_meaning}
