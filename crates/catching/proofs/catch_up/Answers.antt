@@ -13,7 +13,7 @@ catch_up-requires c =
     let first = c.lowest_marked-first.result in
     record {
       fact_1 = p.fact_1;
-      fact_2 = ready_later p.fact_2 (2 * first + 1) (omega arith) (omega (arith, size_most a.sheet.now, n_is, c.if-first-n.true));
+      fact_2 = ready_later p.fact_2 (2 * first + 1) (omega arith) (omega (arith, size_most a.sheet.now, n_is, c.lowest_marked-first.ensures.within));
       fact_3 = p.fact_3;
       fact_4 =
           (n_is, copied_owed a.sheet.now a.table.now o.new.owed a.n p.fact_5 n_is (omega (arith, p.fact_4.1, o.auto.owed)) o.ensures);

@@ -1,5 +1,4 @@
-use Rattle.std.proofs.Common.{refl, ◌∙◌, arith}
-use Rattle.item.proofs.Located.{size_most}
+use Rattle.std.proofs.Common.{refl, ◌∙◌}
 use Rattle.owing.specs.Owing.{says_owed}
 use Rattle.stepping.proofs.Ascending.{ascending_start, ascending_next, ascending_done}
 use Rattle.stepping.proofs.catch_up.Goals as goal

@@ -11,7 +11,7 @@ invariant-loop-i l = record {
   pass : Ascending (says_owed l.owed) l.sheet l.offsets l.fn.table l.fn.tags l.fn.numbers l.n l.i l.table l.tags l.numbers;
   lists : Lists (sheet_of l.sheet) l.built l.heads l.links;
   heads_length : length l.heads ≡ length l.fn.heads;
-  links_length : length l.links ≡ length l.fn.links
+  links_length : length l.links ≡ length l.fn.links;
 }
 
 abbrev pub decreases-loop-i : goal.decreases-loop-i
