@@ -132,7 +132,15 @@ fn choices(rt: &impl Print) -> io::Result<()> {
     figure(rt, b"choice", 6, 3, Value::number(0), out, nine)?;
     figure(rt, b"choice", 6, 3, one, out, nine)?;
     figure(rt, b"choice", 6, 3, two, none, nine)?;
-    figure(rt, b"choice", 6, 3, Value::number(-1), Value::number(4), none)
+    figure(
+        rt,
+        b"choice",
+        6,
+        3,
+        Value::number(-1),
+        Value::number(4),
+        none,
+    )
 }
 
 fn main(rt: HostRuntime) -> io::Result<()> {
@@ -147,7 +155,15 @@ fn main(rt: HostRuntime) -> io::Result<()> {
     figure(&rt, b"sum", 1, 3, top, one, minus_one)?;
     figure(&rt, b"difference", 2, 2, none, three, none)?;
     figure(&rt, b"share", 5, 2, minus_one, Value::number(5000), none)?;
-    figure(&rt, b"share", 5, 2, Value::number(7), Value::number(10001), none)?;
+    figure(
+        &rt,
+        b"share",
+        5,
+        2,
+        Value::number(7),
+        Value::number(10001),
+        none,
+    )?;
     choices(&rt)?;
     figure(&rt, b"count", 7, 2, none, Value::number(4), none)?;
     figure(&rt, b"at least", 8, 2, three, three, none)?;

@@ -7,8 +7,6 @@ use native.Mathlib.Omega.{arith}
 use borrow.Author.Tests.{ne_eqb, le-leb, lt-leb}
 use Rattle.circuit.specs.Rules.{Operation, coded, count_allowed, one_or_more, max_parents, allowed, operation_of}
 use Rattle.rules.specs.Operations.{refuses, allows}
-use Rattle.rules.specs.declared.Operation.{Operation as Answer}
-use Rattle.rules.specs.declared.Operation.TheVariants.{Sum, Difference, Smallest, Largest, Share, Choice, Count, AtLeast, Refused}
 
 module _ (code n : ℕ) (op : Operation) (e : coded code ≡ some op) where
   pub chosen : count_allowed op n ≡ true → some op ≡ operation_of code n

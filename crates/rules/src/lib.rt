@@ -110,7 +110,7 @@ fn difference(a: Value, b: Value) -> Value
 }
 
 // (m * parts + more) / WHOLE, by products of which none is larger than m or WHOLE * WHOLE.
-#[tactic(auto, using(crate::proofs::Shares::two_parts), unfolding(circuit::specs::Rules::whole))]
+#[tactic(auto, using(crate::proofs::Shares::two_parts), unfolding(circuit::specs::Rules::whole, circuit::specs::Value::limit))]
 fn scaled(m: u64, parts: u64, more: u64) -> u64
     requires amount { m ≤ circuit.limit }
     requires parts { parts ≤ rules.whole }
