@@ -1,17 +1,13 @@
 -- A case is whole where both its fields are, and what is then given and left. Assumes nothing.
 use Prim.Native.Nat.{ℕ, ◌-◌, ◌≤◌, ◌<◌}
 use mathlib.Core.Path.{◌≡◌, refl, sym, ap, ◌∙◌}
-use mathlib.Core.List.{List, [], ◌∷◌}
-use mathlib.Core.Logic.{inl, inr}
+use mathlib.Core.List.{List}
 use mathlib.Core.Option.{Option, none, some}
 use native.Mathlib.Omega.{arith}
-use types.Run.{OneOf}
-use denote.Enum.Declared.{tag_of}
 use lib.ListN.{length, take, drop}
 use Rattle.field.specs.Field.{cut_at}
 use Rattle.field.specs.declared.Cut.{Cut}
 use Rattle.field.specs.declared.Cut.TheVariants.{Field, Short, Absent}
-use Rattle.field.specs.contracts.Cut.{the_type}
 use Rattle.field.proofs.Cutting.{FieldAt, matched_field}
 use Rattle.layout.specs.Content.{content_at}
 use Rattle.sheet_cases.specs.Cases.{Case, second_in, case_in, case_at, Checks, Runs, no_case, a_case}
@@ -26,21 +22,23 @@ pub record Whole (cases : List ℕ) (at start next sheet after : ℕ) : Type 0 w
   pub case_is : case_at cases at ≡ some (record { sheet = take (after - sheet) (drop sheet cases); next = after })
 
 -- a field that is absent or runs past the end makes no case
-missing : (f : Cut → Option Case) → f Absent ≡ none → f Short ≡ none → (x : Cut) → OneOf (1 ∷ 2 ∷ []) (tag_of the_type x) → f x ≡ none
+abbrev Missing : Cut → Type 0
+Missing x = (tag start len next : ℕ) → x ≡ Field tag start len next → ⊥
+
+missing : (f : Cut → Option Case) → f Absent ≡ none → f Short ≡ none → (x : Cut) → Missing x → f x ≡ none
 missing f a s Absent o = a
 missing f a s Short o = s
-missing f a s (Field tag start len next) (inl h) = absurd (omega arith)
-missing f a s (Field tag start len next) (inr h) = absurd (omega arith)
+missing f a s (Field tag start len next) o = absurd (o tag start len next refl)
 
 module _ (cases : List ℕ) (at : ℕ) {x : Cut} (e : x ≡ cut_at cases at) where
-  pub no_label : OneOf (1 ∷ 2 ∷ []) (tag_of the_type x) → case_at cases at ≡ none
+  pub no_label : Missing x → case_at cases at ≡ none
   no_label o = ap (case_in cases) (sym e) ∙ missing (case_in cases) refl refl x o
 
   module _ {tag start len next : ℕ} {y : Cut} (f : x ≡ Field tag start len next) (g : y ≡ cut_at cases next) where
     labelled : case_at cases at ≡ second_in cases y
     labelled = ap (case_in cases) (sym e ∙ f) ∙ ap (second_in cases) (sym g)
 
-    pub no_sheet : OneOf (1 ∷ 2 ∷ []) (tag_of the_type y) → case_at cases at ≡ none
+    pub no_sheet : Missing y → case_at cases at ≡ none
     no_sheet o = labelled ∙ missing (second_in cases) refl refl y o
 
     pub whole : {tag' sheet len' after : ℕ} → y ≡ Field tag' sheet len' after → Whole cases at start next sheet after

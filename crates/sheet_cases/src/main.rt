@@ -1,6 +1,6 @@
 // Checks the sheets of standard input, and writes a line for each: its edition, its item count and the places of its items
 // (offset/level; of more than eight items the first eight and the last), or the number and the offset of its fault.
-// A case is two fields: a label and a sheet.
+// A case is two fields: a label and a sheet. What standard output does not take is left out.
 #![tactic(auto)]
 
 ghost use Rattle.std.specs.Prelude.{◌≡◌, ◌≤◌, ◌<◌, length};
@@ -8,23 +8,24 @@ ghost use Rattle.layout.specs.Layout.{most_items};
 ghost use Rattle.sheet_cases.specs.Cases.{case_at, Checks, Runs};
 
 use field::Cut;
-use libc::{STDIN_FILENO, STDOUT_FILENO};
 use sheet::Checked;
+use std::io::{Read, Write};
 
 const SHOWN: usize = 8;
 
-fn write_number(n: usize) {
-    io::write_all(STDOUT_FILENO, b" ");
-    io::print_decimal(STDOUT_FILENO, n as u64);
+// The most bytes that are read of standard input.
+const INPUT_ROOM: usize = 65536;
+
+fn write_number(rt: &HostRuntime, n: usize) {
+    let _ = print!(rt; " {n}");
 }
 
-fn write_place(offset: usize, level: u8) {
-    write_number(offset);
-    io::write_all(STDOUT_FILENO, b"/");
-    io::print_decimal(STDOUT_FILENO, level as u64);
+fn write_place(rt: &HostRuntime, offset: usize, level: u8) {
+    write_number(rt, offset);
+    let _ = print!(rt; "/{level}");
 }
 
-fn write_item(offsets: &[usize], levels: &[u8], i: usize, count: usize)
+fn write_item(rt: &HostRuntime, offsets: &[usize], levels: &[u8], i: usize, count: usize)
     ensures { (offsets.now ≡ offsets.now) × (levels.now ≡ levels.now) }
 {
     if count <= i {
@@ -36,42 +37,47 @@ fn write_item(offsets: &[usize], levels: &[u8], i: usize, count: usize)
     if levels.len() <= i {
         return;
     }
-    write_place(offsets[i], levels[i]);
+    write_place(rt, offsets[i], levels[i]);
 }
 
-fn write_items(offsets: &[usize], levels: &[u8], count: usize)
+fn write_items(rt: &HostRuntime, offsets: &[usize], levels: &[u8], count: usize)
     ensures { (offsets.now ≡ offsets.now) × (levels.now ≡ levels.now) }
 {
     for i in 0..SHOWN {
-        write_item(offsets, levels, i, count);
+        write_item(rt, offsets, levels, i, count);
     }
     if SHOWN < count {
-        write_item(offsets, levels, count - 1, count);
+        write_item(rt, offsets, levels, count - 1, count);
     }
 }
 
-fn write_answer(s: &[u8], offsets: &mut [usize], levels: &mut [u8])
+fn write_answer(rt: &HostRuntime, s: &[u8], offsets: &mut [usize], levels: &mut [u8])
     requires { (most_items ≤ length offsets.old) × (most_items ≤ length levels.old) }
     ensures { Checks s.now offsets.old levels.old offsets.new levels.new }
 {
     match sheet::check(s, offsets, levels) {
         Checked::Opens { edition, count } => {
-            io::write_all(STDOUT_FILENO, b": OPENS");
-            write_number(edition);
-            write_number(count);
-            write_items(offsets, levels, count);
+            let _ = print!(rt; ": OPENS");
+            write_number(rt, edition);
+            write_number(rt, count);
+            write_items(rt, offsets, levels, count);
         }
         Checked::Refused { number, offset } => {
-            io::write_all(STDOUT_FILENO, b": REFUSED ");
-            io::print_decimal(STDOUT_FILENO, number);
-            write_number(offset);
+            let _ = print!(rt; ": REFUSED {number}");
+            write_number(rt, offset);
         }
     }
-    io::write_all(STDOUT_FILENO, b"\n");
+    let _ = println!(rt);
 }
 
 // The case at an offset. Gives the offset after it; where there is no whole case, the length.
-fn run_case(cases: &[u8], at: usize, offsets: &mut [usize], levels: &mut [u8]) -> usize
+fn run_case(
+    rt: &HostRuntime,
+    cases: &[u8],
+    at: usize,
+    offsets: &mut [usize],
+    levels: &mut [u8],
+) -> usize
     requires { (most_items ≤ length offsets.old) × (most_items ≤ length levels.old) × (at < length cases.now) }
     ensures onward { at < result }
     ensures left { Runs cases.now offsets.old levels.old result offsets.new levels.new (case_at cases.now at) }
@@ -94,24 +100,46 @@ fn run_case(cases: &[u8], at: usize, offsets: &mut [usize], levels: &mut [u8]) -
     else {
         return cases.len();
     };
-    io::write_all(STDOUT_FILENO, &cases[start..next]);
-    write_answer(&cases[sheet..after], offsets, levels);
+    let _ = rt.stdout().write_all(&cases[start..next]);
+    write_answer(rt, &cases[sheet..after], offsets, levels);
     after
 }
 
-fn run(cases: &[u8])
+fn run(rt: &HostRuntime, cases: &[u8])
     ensures { cases.now ≡ cases.now }
 {
     let mut offsets = [0usize; limits::ITEM_LIMIT];
     let mut levels = [0u8; limits::ITEM_LIMIT];
     let mut at = 0;
     while at < cases.len() {
-        at = run_case(cases, at, &mut offsets, &mut levels);
+        at = run_case(rt, cases, at, &mut offsets, &mut levels);
     }
 }
 
-fn main() {
-    let mut input = io::large_buffer();
-    let n = io::read_full(STDIN_FILENO, &mut input);
-    run(&input[..n]);
+// The next bytes of standard input, into the front of the room for them. A read that fails gives none, as at the end.
+fn read_some(rt: &HostRuntime, bytes: &mut [u8]) -> usize
+    ensures { result ≤ length bytes.new }
+{
+    rt.stdin().read(bytes).unwrap_or(0)
+}
+
+// Reads until there is no more room, or until the input ends or a read fails.
+fn fill(rt: &HostRuntime, bytes: &mut [u8]) -> usize
+    ensures { result ≤ length bytes.new }
+{
+    let mut done = 0;
+    while done < bytes.len() {
+        let more = read_some(rt, &mut bytes[done..]);
+        if more == 0 {
+            break;
+        }
+        done += more;
+    }
+    done
+}
+
+fn main(rt: HostRuntime) {
+    let mut input = [0u8; INPUT_ROOM];
+    let n = fill(&rt, &mut input);
+    run(&rt, &input[..n]);
 }

@@ -1,0 +1,8 @@
+-- `sheet_cases::run` meets its contract. Assumes nothing.
+use mathlib.Core.Path.{refl}
+use Rattle.layout.specs.Layout.{most_items, item_limit}
+use Rattle.sheet_cases.proofs.run.Goals as goal
+
+pub loop-at-init : goal.loop-at-init
+unfolding most_items item_limit
+loop-at-init c = (refl, refl)
