@@ -6,11 +6,7 @@ use Rattle.day_meaning.proofs.Playing.{answer_refused}
 use Rattle.day.proofs.answer_line.Goals as goal
 
 pub returns-then-number-eq0 : goal.returns-then-number-eq0
-returns-then-number-eq0 c =
-    let call = c in
-    appended_as (ap answer_line (sym call.if-number-eq0.true)) call.append.ensures
+returns-then-number-eq0 c = appended_as (ap answer_line (sym c.if-number-eq0.true)) c.append.ensures
 
 pub returns : goal.returns
-returns c =
-    let call = c in
-    appended_as (answer_refused _ call.if-number-eq0.false) call.no_line.ensures
+returns c = appended_as (answer_refused _ c.if-number-eq0.false) c.no_line.ensures

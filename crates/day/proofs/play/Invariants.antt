@@ -1,12 +1,11 @@
--- `day::play` meets its contract. The invariant: the whole day is the lines so far and what follows from the offset on. The
--- measure is what is left of the log. Assumes nothing.
+-- The whole day is the lines so far and what follows from the offset on. The measure is what is left of the log.
 use Prim.Native.Nat.{◌-◌}
 use lib.ListN.{length}
 use Rattle.day_meaning.proofs.Playing.{Playing}
 use Rattle.day.proofs.play.Given as goal
 
 abbrev pub invariant-loop-out : goal.invariant-loop-out
-invariant-loop-out l = Playing l.sheet l.index l.table l.initial.table l.log l.initial.at l.at l.initial.count l.count
+invariant-loop-out l = Playing l.sheet l.index l.log l.initial.table l.initial.out l.table l.out l.at l.count
 
 abbrev pub decreases-loop-out : goal.decreases-loop-out
-decreases-loop-out l = length l.table - l.initial.count
+decreases-loop-out l = length l.log - l.at

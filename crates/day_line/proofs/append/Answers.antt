@@ -1,4 +1,4 @@
--- `day_line::append` meets its contract. The invariant: the first k bytes are stored. Assumes nothing.
+-- `day_line::append` meets its contract. Assumes nothing.
 use Prim.Native.Nat.{◌+◌, ◌<◌}
 use mathlib.Core.Path.{◌≡◌, refl, ap, ◌∙◌}
 use native.Mathlib.Omega.{arith}
@@ -15,14 +15,13 @@ bounds-out-at c = omega (arith, c.loop-k.invariant, c.lesser-n.ensures)
 
 pub loop-k-preserved : goal.loop-k-preserved
 loop-k-preserved c =
-    let here = c in
-    let start = here in
-    let now-there = here.loop-k.invariant in
-    let within : here.loop-k.k < length start.args.bytes.now = omega (arith, here.lesser-n.ensures) in (
+    let a = c.args in
+    let k = c.loop-k.k in
+    let inv = c.loop-k.invariant in
+    let within : k < length a.bytes.now = omega (arith, c.lesser-n.ensures) in (
       omega arith,
-      length-set here.loop-k.out _ _ ∙ now-there.1,
-      ap (λ o. set o (start.args.at + here.loop-k.k) (get_or start.args.bytes.now here.loop-k.k 0)) now-there.2
-          ∙ copy_more start.args.bytes.now start.args.out.now start.args.at here.loop-k.k within,
+      length-set c.loop-k.out _ _ ∙ inv.1,
+      ap (λ o. set o (a.at + k) (get_or a.bytes.now k 0)) inv.2 ∙ copy_more a.bytes.now a.out.now a.at k within,
     )
 
 pub shape_of-out : goal.shape_of-out
@@ -30,13 +29,13 @@ shape_of-out c = c.loop-k.invariant.1
 
 pub returns : goal.returns
 returns c =
-    let here = c in
-    let start = here in
-    let all : here.loop-k.k ≡ here.lesser-n.result = omega arith in
+    let a = c.args in
+    let n = c.lesser-n in
+    let all : c.loop-k.k ≡ n.result = omega arith in
     record {
-      place = omega (arith, here.lesser-n.ensures);
+      place = omega (arith, n.ensures);
       bytes =
-          here.loop-k.invariant.2
-          ∙ ap (λ k. sets start.args.out.now start.args.at (take k start.args.bytes.now)) all
-          ∙ copied start.args.bytes.now start.args.out.now start.args.at here.lesser-n.result here.lesser-n.ensures;
+          c.loop-k.invariant.2
+          ∙ ap (λ k. sets a.out.now a.at (take k a.bytes.now)) all
+          ∙ copied a.bytes.now a.out.now a.at n.result n.ensures;
     }

@@ -1,4 +1,4 @@
--- `day_line::append` meets its contract. The invariant: the first k bytes are stored. Assumes nothing.
+-- The first k bytes are stored.
 use Prim.Native.Nat.{◌-◌, ◌≤◌}
 use mathlib.Core.Path.{◌≡◌}
 use lib.ListN.{length, take}
@@ -6,7 +6,7 @@ use lib.Seq.{sets}
 use Rattle.day_line.proofs.append.Given as goal
 
 abbrev pub invariant-loop-k : goal.invariant-loop-k
-invariant-loop-k l = (l.k ≤ l.bytes) × (length l.initial.k ≡ length l.initial.out) × (l.initial.k ≡ sets l.initial.out l.out (take l.k l.at))
+invariant-loop-k l = (l.k ≤ l.n) × (length l.out ≡ length l.initial.out) × (l.out ≡ sets l.initial.out l.at (take l.k l.bytes))
 
 abbrev pub decreases-loop-k : goal.decreases-loop-k
-decreases-loop-k l = l.bytes - l.k
+decreases-loop-k l = l.n - l.k

@@ -15,6 +15,4 @@ pub slice_bounds-append-end : goal.slice_bounds-append-end
 slice_bounds-append-end c = digits_count c.put_digits-count.ensures
 
 pub returns : goal.returns
-returns c =
-    let call = c in
-    appended_as (digits_part call.put_digits-count.ensures) call.append.ensures
+returns c = appended_as (digits_part c.put_digits-count.ensures) c.append.ensures

@@ -7,9 +7,5 @@ use Rattle.day_line.proofs.append_value.Goals as goal
 
 pub returns : goal.returns
 returns c =
-    let call = c in
-    let printing = call in
-    let start = printing in
-    appended_as
-    (printing.print-part.ensures ∙ part_whole start.args.kind _ _ start.args.number refl (to_z-of_z w64 start.args.number start.ranges.number))
-    call.append.ensures
+    let a = c.args in
+    appended_as (c.print-part.ensures ∙ part_whole a.kind _ _ a.number refl (to_z-of_z w64 a.number c.ranges.number)) c.append.ensures
