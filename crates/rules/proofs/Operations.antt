@@ -48,6 +48,9 @@ pub too_many : (n : ℕ) → 17 ≤ n → one_or_more n ≡ false
 unfolding one_or_more max_parents
 too_many n h = rw (le-leb 1 n (omega arith), lt-leb n 16 (omega arith))
 
+-- whether a count of parents is one of 1 to 16
+pub ruleset counts = (enough, too_few, too_many)
+
 -- an operation that was chosen, and not refused, takes the parents that it was chosen for
 pub chosen_takes : (code n : ℕ) (o : Option Operation) → o ≡ operation_of code n → refuses o ≡ false → allows o n ≡ true
 unfolding operation_of

@@ -28,7 +28,7 @@ pub enum Operation {
 }
 
 // The operation of a rule code with a number of parents. The only place of the code that has the codes, and the counts of each rule.
-#[tactic(auto, unfolding(circuit::specs::Rules::coded, circuit::specs::Rules::count_allowed, circuit::specs::Rules::one_or_more, circuit::specs::Rules::max_parents, circuit::specs::Rules::operation_of))]
+#[tactic(auto, using(crate::proofs::Operations::counts), unfolding(circuit::specs::Rules::coded, circuit::specs::Rules::count_allowed, circuit::specs::Rules::operation_of))]
 pub fn operation_of(code: u8, count: usize) -> Operation
     ensures { operation_meaning result ≡ rules.operation_of code count }
 {

@@ -4,10 +4,8 @@ use Rattle.value.proofs.Value.exact.Goals as goal
 
 pub returns-then-in_range : goal.returns-then-in_range
 returns-then-in_range c =
-    let s = c in
-    exact_in s.args.n _ _ s.ranges.n c.in_range.ensures c.if-in_range.true c.number.ensures
+    exact_in c.args.n _ _ c.ranges.n c.in_range.ensures c.if-in_range.true c.number.ensures
 
 pub returns-else-in_range : goal.returns-else-in_range
 returns-else-in_range c =
-    let s = c in
-    exact_out s.args.n _ s.ranges.n c.in_range.ensures c.if-in_range.false
+    exact_out c.args.n _ c.ranges.n c.in_range.ensures c.if-in_range.false
