@@ -12,7 +12,7 @@ use borrow.Author.Tests.{eqb-true, eqb-false, not-false}
 use Rattle.field.specs.Field.{len_at, header_length}
 use Rattle.field.proofs.Cutting.{field_iff, content_length}
 use Rattle.circuit.specs.Rules.{max_parents}
-use Rattle.circuit.specs.Sheet.{figure, size, item_at, parents_of, Ordered}
+use Rattle.circuit.specs.Sheet.{size, item_at, parents_of, Ordered}
 use Rattle.layout.specs.Layout.{LayoutItem, figure_tag, rule_allowed, keep_allowed, spread_allowed, machine_item, rule_at, parent_count_at, most_items}
 use Rattle.layout.specs.Content.{content_at, count_in, rule_in, keep_in, spread_in, parent_count_in, parents_in, item_in}
 use Rattle.layout.specs.Read.{length_or_name, rule_wrong, Placed, head_content, SheetRead, opens, refused, read_sheet}

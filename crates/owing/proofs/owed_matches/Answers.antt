@@ -1,7 +1,6 @@
 -- `owing::owed_matches` meets its contract. The loop's invariant: the owed bytes of the first i items are those of the array. Assumes nothing.
 use native.Mathlib.Omega.{arith}
 use mathlib.Core.Path.{◌≡◌, refl, sym, ap, ◌∙◌}
-use mathlib.Core.Bool.{true}
 use Rattle.table.specs.Rows.{all_below}
 use Rattle.owing.proofs.Writing.{matches, match_next, match_not}
 use Rattle.owing.proofs.owed_matches.Goals as goal
