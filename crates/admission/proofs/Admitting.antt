@@ -28,7 +28,7 @@ use Rattle.table.specs.Record.{width, encode_cell, record_form}
 use Rattle.table.specs.Bytes.{encode_table, decode_table, table_form, owed_true, table_length, record_in_form}
 use Rattle.table.proofs.Rows.{below_true}
 use Rattle.table.proofs.Tables.{encode_decode_table, encode_upd}
-use Rattle.office.specs.Office.{refusal, lengths_off, index_wrong, table_wrong}
+use Rattle.office.specs.Office.{lengths_off, index_wrong, table_wrong}
 use Rattle.looking.specs.Pass.{Lent}
 use Rattle.admission.specs.Admission.{items_unless, measured_by, measured_of, admitted_of, call_lent, Placing}
 use Rattle.admission.proofs.Admission.{measured}

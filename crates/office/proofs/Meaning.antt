@@ -16,7 +16,6 @@ use Rattle.circuit.specs.Sheet.{Sheet, Item, entry, figure, Ordered, Entries, it
 use Rattle.circuit.specs.Table.{unk, held, is_stored, bare_cell, open_bare, open_full, opened}
 use Rattle.circuit.specs.Owed.{owed}
 use Rattle.circuit.specs.Call.{Opening, bare, full}
-use Rattle.circuit.specs.Board.{listed}
 use Rattle.circuit.specs.Words.{Bare}
 use Rattle.circuit.proofs.Solution.{solution, solution_solves, solution_unique, sheet_acyclic, below_listed, figure_below}
 use Rattle.circuit.proofs.Owed.{Child, owed_child, owed_finds, owed_leads}

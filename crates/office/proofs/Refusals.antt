@@ -24,8 +24,8 @@ use Rattle.layout.proofs.Causes.{refused_exactly, opens_faultless, refused_numbe
 use Rattle.table.specs.Rows.{row}
 use Rattle.table.specs.Record.{width}
 use Rattle.table.specs.Bytes.{decode_table, table_form, owed_true}
-use Rattle.office.specs.Office.{Office, Given, results_lent, refusal, accepted, opening_tests, call_tests, unless_refused, effect_on, call_read, call_on, open_read, open_on}
-use Rattle.office.specs.Demand1Words.{Invocation, opening, calling, serve, results_lent_to, TableBroken, NotPostable, Row, cause, own_causes, causes_in, causes_of, First, NoneHolds}
+use Rattle.office.specs.Office.{Office, Given, results_lent, refusal, opening_tests, call_tests, unless_refused, effect_on, call_read, call_on, open_read, open_on}
+use Rattle.office.specs.Demand1Words.{Invocation, opening, calling, serve, results_lent_to, TableBroken, NotPostable, Row, own_causes, causes_in, causes_of, First, NoneHolds}
 use Rattle.office.specs.Demand1Words.{HoldsAt, ByNumber, Lowest, Refused, by_sheet, by_lent, NoCause, ListsWrong, SomeNoItem, AcceptedLent, BoardRefuses, CloseRefuses}
 use Rattle.office.specs.Demand1Words.{lent_causes, NoSuchItem, ToFigure, IsEntry, NoSwap, ResultBeyond, numbers_in, SwapRefuses}
 use Rattle.office.proofs.Causes.{tells_is, tells_is_not, tells_lengths, tells_index, tells_table, tells_beyond, tells_lists, tells_listed, tells_posted, tells_mark}

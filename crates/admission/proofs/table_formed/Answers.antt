@@ -3,7 +3,6 @@ use Rattle.admission.proofs.Admitting.{unformed_record, formed_record, formed_do
 use Rattle.item.proofs.Located.{located_field}
 use Rattle.table.specs.Rows.{all_below}
 use Rattle.layout.specs.Opened.{sheet_of}
-use mathlib.Core.Bool.{true}
 use mathlib.Core.Path.{refl}
 use native.Mathlib.Omega.{arith}
 use Rattle.admission.proofs.table_formed.Goals as goal
