@@ -1,4 +1,3 @@
-
 use Rattle.table.specs.Meaning.{cell_meaning}
 use Rattle.circuit.specs.Machine.{drop_cell}
 use Rattle.circuit.specs.Table.{unk}

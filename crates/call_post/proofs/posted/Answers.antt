@@ -1,4 +1,3 @@
-
 use Rattle.value.specs.Meaning.{parts_of}
 use Rattle.value.proofs.Signed.{back}
 use Rattle.call_post.proofs.Posting.{posted_other}

@@ -1,4 +1,3 @@
-
 use Rattle.call_step.proofs.StepCall.{mark_beyond, mark_within}
 use Rattle.table.specs.Bytes.{decode_table}
 use mathlib.Core.Bool.{true, false}
