@@ -17,9 +17,6 @@ is_figure-figure-requires c =
     let p = c.requires.fact_1 in
     located_field a.sheet.now a.offsets.now p.located c.loop-k.k (omega (arith, p.count_is, c.loop-k-test.true))
 
-pub record_formed-requires : goal.record_formed-requires
-record_formed-requires c = omega arith
-
 pub returns-then-not-record_formed : goal.returns-then-not-record_formed
 returns-then-not-record_formed c =
     let a = c.args in
@@ -28,9 +25,6 @@ returns-then-not-record_formed c =
     unformed_record a.sheet.now a.offsets.now a.table.now p.located l.k
     (omega (arith, p.count_is, c.loop-k-test.true)) c.is_figure-figure.result c.record_formed.result
     c.is_figure-figure.ensures c.record_formed.ensures c.if-not-record_formed.true
-
-pub loop-k-smaller : goal.loop-k-smaller
-loop-k-smaller c = omega arith
 
 pub loop-k-preserved : goal.loop-k-preserved
 loop-k-preserved c =

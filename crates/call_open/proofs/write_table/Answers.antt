@@ -14,12 +14,6 @@ is_figure-figure-requires c =
     let p = c.requires.fact_1 in
     located_field a.sheet.now a.offsets.now p.located c.loop-k.k (omega (arith, p.count_is, c.loop-k-test.true))
 
-pub store_cell-requires : goal.store_cell-requires
-store_cell-requires c = omega (arith, c.loop-k.invariant.1)
-
-pub loop-k-smaller : goal.loop-k-smaller
-loop-k-smaller c = omega arith
-
 pub loop-k-preserved : goal.loop-k-preserved
 loop-k-preserved c =
     let a = c.args in
