@@ -45,9 +45,9 @@
  * measures them:
  *
  *   items            ask, board      step      keep     close   post, swap   drop   openings
- *   up to 128            48,960    48,224    43,520     1,914        1,786  1,754      1,706
- *   up to 1,024         101,824   101,088    65,936     9,978        9,850  9,818      9,770
- *   up to 4,096         283,072   282,336   142,736    37,626       37,498 37,466     37,418
+ *   up to 128            29,896    29,528    25,016     1,666        1,586  1,554      1,442
+ *   up to 1,024          82,760    82,392    47,400     9,730        9,650  9,618      9,506
+ *   up to 4,096         264,008   263,624   124,184    37,378       37,250 37,250     37,154
  *
  * Backtraces end inside a call: the archive has no unwind tables and keeps no frame pointers. There
  * a debugger and a profiler name the function, backtrace() gives its address, and none its callers;

@@ -1,9 +1,9 @@
 // The openings and calls with scratch arrays that have room for 128 items, for sheets that say no more. The other sizes have the same
 // text: tools/scratch writes them.
 //
-// Each calls itself if the sheet says another item count after the call than before it, which is proved never to be: a sheet is lent for
-// reading. LLVM does not know that, and does not inline a function that calls itself; so the arrays of a size are on the stack only while
-// a sheet of that size is worked on.
+// None is inlined, so that the arrays of a size are on the stack only while a sheet of that size is worked on. Each calls itself if the
+// sheet says another item count after the call than before it, which is proved never to be: a sheet is lent for reading. That kept an
+// older LLVM from inlining it; today's makes a loop of the call, so the attribute says it.
 #![tactic(auto)]
 
 ghost use Rattle.std.specs.Prelude.{◌≤◌};
@@ -25,6 +25,7 @@ pub const ROOM: usize = 128;
 // The child lists have room for every parent of every item.
 const EDGES: usize = MAX_PARENTS * ROOM;
 
+#[inline(never)]
 pub fn open_by(sheet: &[u8], index: &mut [u8], table: &mut [u8], filled: bool) -> Answer
     requires { room_for sheet.now ≤ room }
     ensures { Opened (open_on (opening_by filled) sheet.now (keeping index.old table.old)) result index.new table.new }
@@ -39,6 +40,7 @@ pub fn open_by(sheet: &[u8], index: &mut [u8], table: &mut [u8], filled: bool) -
     answer
 }
 
+#[inline(never)]
 pub fn post(
     sheet: &[u8],
     index: &[u8],
@@ -69,6 +71,7 @@ pub fn post(
     answer
 }
 
+#[inline(never)]
 pub fn swap(
     sheet: &[u8],
     index: &[u8],
@@ -99,6 +102,7 @@ pub fn swap(
     answer
 }
 
+#[inline(never)]
 pub fn keep(sheet: &[u8], index: &[u8], table: &mut [u8], item: u64) -> Answer
     requires { room_for sheet.now ≤ room }
     ensures { Answered (call_on sheet.now (keeping index.now table.old) (machine_call.keep item)) result table.new }
@@ -124,6 +128,7 @@ pub fn keep(sheet: &[u8], index: &[u8], table: &mut [u8], item: u64) -> Answer
     answer
 }
 
+#[inline(never)]
 pub fn drop_figure(sheet: &[u8], index: &[u8], table: &mut [u8], item: u64) -> Answer
     requires { room_for sheet.now ≤ room }
     ensures { Answered (call_on sheet.now (keeping index.now table.old) (machine_call.drop item)) result table.new }
@@ -138,6 +143,7 @@ pub fn drop_figure(sheet: &[u8], index: &[u8], table: &mut [u8], item: u64) -> A
     answer
 }
 
+#[inline(never)]
 pub fn step(sheet: &[u8], index: &[u8], table: &mut [u8], item: u64) -> Answer
     requires { room_for sheet.now ≤ room }
     ensures { Answered (call_on sheet.now (keeping index.now table.old) (machine_call.step item)) result table.new }
@@ -167,6 +173,7 @@ pub fn step(sheet: &[u8], index: &[u8], table: &mut [u8], item: u64) -> Answer
     answer
 }
 
+#[inline(never)]
 pub fn ask(sheet: &[u8], index: &[u8], table: &mut [u8], item: u64) -> Reading
     requires { room_for sheet.now ≤ room }
     ensures { Asked (call_on sheet.now (keeping index.now table.old) (machine_call.ask item)) result table.new }
@@ -196,6 +203,7 @@ pub fn ask(sheet: &[u8], index: &[u8], table: &mut [u8], item: u64) -> Reading
     reading
 }
 
+#[inline(never)]
 pub fn board(
     sheet: &[u8],
     index: &[u8],
@@ -232,6 +240,7 @@ pub fn board(
     answer
 }
 
+#[inline(never)]
 pub fn close(sheet: &[u8], index: &[u8], table: &mut [u8]) -> Answer
     requires { room_for sheet.now ≤ room }
     ensures { Answered (call_on sheet.now (keeping index.now table.old) machine_call.close) result table.new }
