@@ -45,9 +45,9 @@
  * measures them:
  *
  *   items            ask, board      step      keep     close   post, swap   drop   openings
- *   up to 128            29,896    29,528    25,016     1,666        1,586  1,554      1,442
- *   up to 1,024          82,760    82,392    47,400     9,730        9,650  9,618      9,506
- *   up to 4,096         264,008   263,624   124,184    37,378       37,250 37,250     37,154
+ *   up to 128            36,048    35,808    31,296     1,881        1,673  1,657      1,497
+ *   up to 1,024          88,928    88,672    53,712     9,945        9,721  9,705      9,545
+ *   up to 4,096         270,176   269,920   130,512    37,593       37,369 37,353     37,193
  *
  * Backtraces end inside a call: the archive has no unwind tables and keeps no frame pointers. There
  * a debugger and a profiler name the function, backtrace() gives its address, and none its callers;

@@ -7,7 +7,8 @@ use mathlib.Core.Bool.{Bool, true, false, ◌&&◌}
 use mathlib.Core.List.{List, [], ◌∷◌}
 use mathlib.Core.Option.{none}
 use lib.Dec.{eqb}
-use lib.ListN.{length}
+use lib.ListN.{length, take}
+use lib.Seq.{take-take, length-take-le}
 use borrow.Author.Tests.{eqb-true, not-false}
 use Rattle.layout.specs.Layout.{index_width}
 use Rattle.layout.specs.Room.{room_for}
@@ -16,16 +17,15 @@ use Rattle.circuit.specs.Call.{Call, Opening}
 use Rattle.circuit.specs.Calls.{Test, test, first_cause, tests, effect}
 use Rattle.circuit.specs.Table.{opened}
 use Rattle.circuit.proofs.RuleLaws.{and_left, and_right}
-use Rattle.layout.specs.Read.{SheetRead, opens, refused, read_sheet}
+use Rattle.layout.specs.Read as read
+use Rattle.layout.specs.Read.{SheetRead, read_sheet}
 use Rattle.layout.specs.Opened.{items_of, sheet_read, sheet_from, placed_from, sheet_of, Located}
 use Rattle.layout.specs.Index.{index_bytes}
 use Rattle.item.proofs.Located.{sheet_size, size_room}
 use Rattle.table.specs.Record.{width}
 use Rattle.table.specs.Bytes.{encode_table, decode_table, table_form, owed_true, table_length}
 use Rattle.office.specs.Office.{Given, results_lent, refusal, accepted, lengths_off, index_wrong, table_wrong, unless_refused, effect_on, call_on, open_on, keeping}
-use Rattle.looking.specs.Pass.{Lent}
-use Rattle.admission.specs.Admission.{items_unless, measured_by, measured_of, admitted_by, admitted_of, call_lent, Placing}
-use Rattle.admission.specs.declared.Admitted.TheVariants.{Items, Refused}
+use Rattle.admission.specs.Admission.{items, refused, items_unless, measured_by, measured_of, admitted_by, admitted_of, call_lent}
 
 -- the lengths, where they are right
 lengths_right : (n a b : ℕ) → lengths_off n a b ≡ false → (a ≡ index_width * n) × (b ≡ width * n)
@@ -35,18 +35,18 @@ lengths_right n a b e =
 
 -- ---- an opening
 
-pub refused_open : (how : Opening) (s x t : List ℕ) (k at : ℕ) → Refused k at ≡ measured_of s (length x) (length t) → open_on how s (keeping x t) ≡ refusal k at [] (keeping x t)
+pub refused_open : (how : Opening) (s x t : List ℕ) (k at : ℕ) → refused k at ≡ measured_of s (length x) (length t) → open_on how s (keeping x t) ≡ refusal k at [] (keeping x t)
 unfolding open_on measured_of first_cause
 refused_open how s x t k at e = go (read_sheet s) refl e
   where
-    by : (b : Bool) (n : ℕ) (g : Given) → Refused k at ≡ items_unless (first_cause (test 8 b ∷ [])) n
+    by : (b : Bool) (n : ℕ) (g : Given) → refused k at ≡ items_unless (first_cause (test 8 b ∷ [])) n
         → unless_refused (first_cause (test 8 b ∷ [])) [] (keeping x t) g ≡ refusal k at [] (keeping x t)
     by true n g q = let a : 8 ≡ k = cc in let o : 0 ≡ at = cc in ap₂ (λ i j. refusal i j [] (keeping x t)) a o
     by false n g q = let z : ◌≡◌ {A = ℕ} 0 1 = cc in absurd (omega arith)
 
-    go : (r : SheetRead) → read_sheet s ≡ r → Refused k at ≡ measured_by r (length x) (length t) → open_on how s (keeping x t) ≡ refusal k at [] (keeping x t)
-    go (refused j o) q y = let a : j ≡ k = cc in let b : o ≡ at = cc in rw q (ap₂ (λ i p. refusal i p [] (keeping x t)) a b)
-    go (opens edition ps) q y =
+    go : (r : SheetRead) → read_sheet s ≡ r → refused k at ≡ measured_by r (length x) (length t) → open_on how s (keeping x t) ≡ refusal k at [] (keeping x t)
+    go (read.refused j o) q y = let a : j ≡ k = cc in let b : o ≡ at = cc in rw q (ap₂ (λ i p. refusal i p [] (keeping x t)) a b)
+    go (read.opens edition ps) q y =
         rw q
         (by (lengths_off (length ps) (length x) (length t)) (length ps) (accepted none [] (keeping (index_bytes ps) (encode_table (sheet_read edition ps) (opened how (sheet_read edition ps))))) y)
 
@@ -57,17 +57,17 @@ pub record Measured (s x t : List ℕ) (n : ℕ) : Type 0 where
   pub table_length_lem : length t ≡ width * n
   pub opening : (how : Opening) → open_on how s (keeping x t) ≡ accepted none [] (keeping (index_bytes (items_of s)) (encode_table (sheet_of s) (opened how (sheet_of s))))
 
-pub measured : (s x t : List ℕ) (n : ℕ) → Items n ≡ measured_of s (length x) (length t) → Measured s x t n
+pub measured : (s x t : List ℕ) (n : ℕ) → items n ≡ measured_of s (length x) (length t) → Measured s x t n
 unfolding open_on measured_of first_cause items_of sheet_of
 measured s x t n e = go (read_sheet s) refl e
   where
-    by : (b : Bool) (m : ℕ) → Items n ≡ items_unless (first_cause (test 8 b ∷ [])) m → (b ≡ false) × (n ≡ m)
+    by : (b : Bool) (m : ℕ) → items n ≡ items_unless (first_cause (test 8 b ∷ [])) m → (b ≡ false) × (n ≡ m)
     by true m q = let z : ◌≡◌ {A = ℕ} 0 1 = cc in absurd (omega arith)
     by false m q = (refl, cc)
 
-    go : (r : SheetRead) → read_sheet s ≡ r → Items n ≡ measured_by r (length x) (length t) → Measured s x t n
-    go (refused j o) q y = let z : ◌≡◌ {A = ℕ} 0 1 = cc in absurd (omega arith)
-    go (opens edition ps) q y =
+    go : (r : SheetRead) → read_sheet s ≡ r → items n ≡ measured_by r (length x) (length t) → Measured s x t n
+    go (read.refused j o) q y = let z : ◌≡◌ {A = ℕ} 0 1 = cc in absurd (omega arith)
+    go (read.opens edition ps) q y =
         let f = by (lengths_off (length ps) (length x) (length t)) (length ps) y in
         let l = lengths_right (length ps) (length x) (length t) f.0 in
         let i : length (items_of s) ≡ length ps = ap (λ r. length (placed_from r)) q in
@@ -81,20 +81,20 @@ measured s x t n e = go (read_sheet s) refl e
 
 -- ---- a call
 
-pub refused_call : (s x t : List ℕ) (c : Call) (k at : ℕ) → Refused k at ≡ admitted_of s x t → call_on s (keeping x t) c ≡ refusal k at (results_lent c) (keeping x t)
+pub refused_call : (s x t : List ℕ) (c : Call) (k at : ℕ) → refused k at ≡ admitted_of s x t → call_on s (keeping x t) c ≡ refusal k at (results_lent c) (keeping x t)
 unfolding call_on admitted_of first_cause
 refused_call s x t c k at e = go (read_sheet s) refl e
   where
-    by : (a b d : Bool) (n : ℕ) (ts : List Test) (g : Given) → Refused k at ≡ items_unless (first_cause (test 8 a ∷ test 9 b ∷ test 10 d ∷ [])) n
+    by : (a b d : Bool) (n : ℕ) (ts : List Test) (g : Given) → refused k at ≡ items_unless (first_cause (test 8 a ∷ test 9 b ∷ test 10 d ∷ [])) n
         → unless_refused (first_cause (test 8 a ∷ test 9 b ∷ test 10 d ∷ ts)) (results_lent c) (keeping x t) g ≡ refusal k at (results_lent c) (keeping x t)
     by true b d n ts g q = let a : 8 ≡ k = cc in let o : 0 ≡ at = cc in ap₂ (λ i j. refusal i j (results_lent c) (keeping x t)) a o
     by false true d n ts g q = let a : 9 ≡ k = cc in let o : 0 ≡ at = cc in ap₂ (λ i j. refusal i j (results_lent c) (keeping x t)) a o
     by false false true n ts g q = let a : 10 ≡ k = cc in let o : 0 ≡ at = cc in ap₂ (λ i j. refusal i j (results_lent c) (keeping x t)) a o
     by false false false n ts g q = let z : ◌≡◌ {A = ℕ} 0 1 = cc in absurd (omega arith)
 
-    go : (r : SheetRead) → read_sheet s ≡ r → Refused k at ≡ admitted_by r x t → call_on s (keeping x t) c ≡ refusal k at (results_lent c) (keeping x t)
-    go (refused j o) q y = let a : j ≡ k = cc in let b : o ≡ at = cc in rw q (ap₂ (λ i p. refusal i p (results_lent c) (keeping x t)) a b)
-    go (opens edition ps) q y =
+    go : (r : SheetRead) → read_sheet s ≡ r → refused k at ≡ admitted_by r x t → call_on s (keeping x t) c ≡ refusal k at (results_lent c) (keeping x t)
+    go (read.refused j o) q y = let a : j ≡ k = cc in let b : o ≡ at = cc in rw q (ap₂ (λ i p. refusal i p (results_lent c) (keeping x t)) a b)
+    go (read.opens edition ps) q y =
         rw q (by (lengths_off (length ps) (length x) (length t)) (index_wrong ps x) (table_wrong (sheet_read edition ps) t) (length ps)
         (tests (sheet_read edition ps) (decode_table t) c) (effect_on (sheet_read edition ps) (keeping x t) (effect (sheet_read edition ps) (decode_table t) c)) y)
 
@@ -105,20 +105,20 @@ pub record AdmittedCall (s x t : List ℕ) (n : ℕ) : Type 0 where
   pub owes : owed_true (sheet_of s) t ≡ true
   pub call : (c : Call) → call_on s (keeping x t) c ≡ call_lent (sheet_of s) x t c
 
-pub admitted : (s x t : List ℕ) (n : ℕ) → Items n ≡ admitted_of s x t → AdmittedCall s x t n
+pub admitted : (s x t : List ℕ) (n : ℕ) → items n ≡ admitted_of s x t → AdmittedCall s x t n
 unfolding call_on admitted_of first_cause sheet_of items_of
 admitted s x t n e = go (read_sheet s) refl e
   where
-    by : (a b d : Bool) (m : ℕ) → Items n ≡ items_unless (first_cause (test 8 a ∷ test 9 b ∷ test 10 d ∷ [])) m
+    by : (a b d : Bool) (m : ℕ) → items n ≡ items_unless (first_cause (test 8 a ∷ test 9 b ∷ test 10 d ∷ [])) m
         → (a ≡ false) × (b ≡ false) × (d ≡ false) × (n ≡ m)
     by true b d m q = let z : ◌≡◌ {A = ℕ} 0 1 = cc in absurd (omega arith)
     by false true d m q = let z : ◌≡◌ {A = ℕ} 0 1 = cc in absurd (omega arith)
     by false false true m q = let z : ◌≡◌ {A = ℕ} 0 1 = cc in absurd (omega arith)
     by false false false m q = (refl, refl, refl, cc)
 
-    go : (r : SheetRead) → read_sheet s ≡ r → Items n ≡ admitted_by r x t → AdmittedCall s x t n
-    go (refused j o) q y = let z : ◌≡◌ {A = ℕ} 0 1 = cc in absurd (omega arith)
-    go (opens edition ps) q y =
+    go : (r : SheetRead) → read_sheet s ≡ r → items n ≡ admitted_by r x t → AdmittedCall s x t n
+    go (read.refused j o) q y = let z : ◌≡◌ {A = ℕ} 0 1 = cc in absurd (omega arith)
+    go (read.opens edition ps) q y =
         let f = by (lengths_off (length ps) (length x) (length t)) (index_wrong ps x) (table_wrong (sheet_read edition ps) t) (length ps) y in
         let l = lengths_right (length ps) (length x) (length t) f.0 in
         let i : length (items_of s) ≡ length ps = ap (λ r. length (placed_from r)) q in
@@ -133,11 +133,19 @@ admitted s x t n e = go (read_sheet s) refl e
           call = λ c. rw (q, f.0, f.1, f.2);
         }
 
--- what the functions below the refusals are lent
-pub admitted_lent : (s x t offsets : List ℕ) (n : ℕ) → Items n ≡ admitted_of s x t → Located s offsets → room_for s ≤ length offsets → Lent s offsets t
-admitted_lent s x t offsets n e l room =
-    let g = admitted s x t n e in
-    record { located = l; room = omega (arith, size_room s); length_is = g.table_length_lem; formed = g.formed }
+-- What a sheet is made of: its bytes and the first n offsets of the array, once the tests found n items.
+pub record Placed (s offsets : List ℕ) (n : ℕ) : Type 0 where
+  pub within : n ≤ length offsets
+  pub located : Located s (take n offsets)
+  pub counted : length (take n offsets) ≡ size (sheet_of s)
 
-pub admitted_placing : (s offsets : List ℕ) (n : ℕ) → n ≡ size (sheet_of s) → Located s offsets → room_for s ≤ length offsets → Placing s offsets n
-admitted_placing s offsets n e l room = record { count_is = e; located = l; room = omega (arith, size_room s) }
+pub placed : (s offsets : List ℕ) (n : ℕ) → n ≡ size (sheet_of s) → room_for s ≤ length offsets → Located s offsets → Placed s offsets n
+unfolding Located
+placed s offsets n e room l =
+    let m : length (items_of s) ≡ n = sym (sheet_size s) ∙ sym e in
+    let w : n ≤ length offsets = omega (arith, size_room s) in
+    record {
+      within = w;
+      located = take-take (length (items_of s)) n offsets (omega arith) ∙ l;
+      counted = length-take-le n offsets w ∙ e;
+    }

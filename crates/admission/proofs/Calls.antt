@@ -1,44 +1,57 @@
 -- What is left of a call once what is lent is admitted: the call on the sheet's items and a table in form with true owed bytes. Every call's proof
--- rests on these two. Assumes nothing.
+-- rests on these. Assumes nothing.
 use Prim.Native.Nat.{ℕ, ◌≤◌}
 use native.Mathlib.Omega.{arith}
-use mathlib.Core.Path.{◌≡◌}
+use mathlib.Core.Path.{◌≡◌, refl, sym}
 use mathlib.Core.Bool.{true}
 use mathlib.Core.List.{List}
 use lib.ListN.{length}
+use Rattle.std.specs.Prelude.{Ok, Err}
+use Rattle.cause.specs.Cause.{number_of}
+use Rattle.cause.specs.declared.Cause.{Cause}
+use Rattle.cause.specs.declared.Fault.{Fault}
+use Rattle.circuit.specs.Sheet.{size}
 use Rattle.circuit.specs.Call.{Call}
-use Rattle.layout.specs.Opened.{sheet_of, Located}
+use Rattle.layout.specs.Opened.{sheet_of}
 use Rattle.layout.specs.Room.{Room}
 use Rattle.item.proofs.Located.{size_room}
-use Rattle.office.specs.Office.{results_lent, refusal, keeping, call_on}
+use Rattle.office.specs.Office.{keeping, call_on}
 use Rattle.table.specs.Bytes.{owed_true}
 use Rattle.looking.specs.Pass.{Lent}
-use Rattle.admission.specs.Admission.{admitted_of, call_lent, Placing}
-use Rattle.admission.specs.declared.Admitted.{Admitted}
-use Rattle.admission.specs.declared.Admitted.TheVariants.{Items, Refused}
-use Rattle.admission.proofs.Admission.{admitted, admitted_lent, admitted_placing, refused_call}
+use Rattle.admission.specs.Admission.{admitted_of, refused, AllAdmitted, call_lent}
+use Rattle.admission.specs.Answers.{Did, Tried}
+use Rattle.admission.proofs.Admission.{admitted, refused_call}
 
--- n items were admitted, with their offsets in an array, and bytes for as many: what the functions below are lent, and every call whole
-pub record Admits (s x t offsets bytes : List ℕ) (n : ℕ) : Type 0 where
-  pub placing : Placing s offsets n
-  pub lent : Lent s offsets t
-  pub owes : owed_true (sheet_of s) t ≡ true
-  pub byte_room : n ≤ length bytes
-  pub call : (c : Call) → call_on s (keeping x t) c ≡ call_lent (sheet_of s) x t c
+-- what the functions below the refusals are lent
+pub record Below (S t : List ℕ) : Type 0 where
+  pub lent : Lent S t
+  pub owes : owed_true (sheet_of S) t ≡ true
 
-pub admits : (s x t offsets bytes : List ℕ) {n : ℕ} {r : Admitted} → r ≡ admitted_of s x t → r ≡ Items n → Located s offsets → Room s offsets bytes
-    → Admits s x t offsets bytes n
-admits s x t offsets bytes {n} answer items located room =
-    let e : Items n ≡ admitted_of s x t = cc in
-    let g = admitted s x t n e in
-    record {
-      placing = admitted_placing s offsets n g.count_is located room.0;
-      lent = admitted_lent s x t offsets n e located room.0;
-      owes = g.owes;
-      byte_room = omega (arith, g.count_is, size_room s, room.1);
-      call = g.call;
-    }
+pub admits : {s x t S : List ℕ} → AllAdmitted s x t S → Below S t
+admits {s} {x} {t} {S} a =
+    let g = admitted s x t (size (sheet_of s)) (sym a.admitted) in
+    let e = a.sheet_is in
+    rw e (record { lent = record { length_is = g.table_length_lem; formed = g.formed }; owes = g.owes })
+
+-- with bytes for as many items, which are no fewer afterwards
+pub byte_room : {s x t S : List ℕ} → AllAdmitted s x t S → {offsets bytes : List ℕ} → Room s offsets bytes → {n : ℕ} → n ≡ length bytes → size (sheet_of S) ≤ n
+byte_room {s} a room same = let e = a.sheet_is in rw e (omega (arith, size_room s, room.1, same))
+
+-- the whole call is the one that is left
+pub whole_call : {s x t S : List ℕ} → AllAdmitted s x t S → (c : Call) → call_on s (keeping x t) c ≡ call_lent (sheet_of S) x t c
+whole_call {s} {x} {t} a c = let e = a.sheet_is in rw e ((admitted s x t (size (sheet_of s)) (sym a.admitted)).call c)
 
 -- a refusal of what is lent is the whole call's
-pub refuses : (s x t : List ℕ) (c : Call) {k at : ℕ} {r : Admitted} → r ≡ admitted_of s x t → r ≡ Refused k at → call_on s (keeping x t) c ≡ refusal k at (results_lent c) (keeping x t)
-refuses s x t c {k} {at} answer fault = let e : Refused k at ≡ admitted_of s x t = cc in refused_call s x t c k at e
+pub refuses : (s x t : List ℕ) (c : Call) {A : Type 0} (f : Fault) → admitted_of s x t ≡ refused (number_of f.cause) f.offset → Tried {A = A} (call_on s (keeping x t) c) (Err f) t
+refuses s x t c f e =
+    let g = refused_call s x t c (number_of f.cause) f.offset (sym e) in
+    rw g (record { number_is = refl; offset_is = refl; table_is = refl })
+
+-- so is one of the call's own tests, and what it does
+pub fails : {s x t S : List ℕ} → AllAdmitted s x t S → (c : Call) {A B : Type 0} {k : Cause} {t' : List ℕ} → Did {A = A} (call_lent (sheet_of S) x t c) (Err k) t'
+    → Tried {A = B} (call_on s (keeping x t) c) (Err (record { cause = k; offset = 0 })) t'
+fails a c d = let g = whole_call a c in rw g (record { number_is = d.number_is; offset_is = d.offset_is; table_is = d.table_is })
+
+pub does : {s x t S : List ℕ} → AllAdmitted s x t S → (c : Call) {A B : Type 0} {a : A} {b : B} {t' : List ℕ} → Did (call_lent (sheet_of S) x t c) (Ok a) t'
+    → Tried (call_on s (keeping x t) c) (Ok b) t'
+does h c d = let g = whole_call h c in rw g (record { number_is = d.number_is; offset_is = d.offset_is; table_is = d.table_is })

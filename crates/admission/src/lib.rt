@@ -1,135 +1,143 @@
 // What every call does first and last: the tests of what is lent (1 to 10) and of the item (11 and 12), and the answer.
 #![tactic(auto)]
 
-ghost use Rattle.std.specs.Prelude.{◌≡◌, ◌*◌, ◌≤◌, ◌<◌, length, false, ◌&&◌, [], ◌∷◌};
-ghost use Rattle.layout.specs.Room.{Room};
+ghost use Rattle.std.specs.Prelude.{◌≡◌, ◌*◌, ◌≤◌, ◌<◌, length, ◌&&◌, [], ◌∷◌, IfOk};
+ghost use Rattle.cause.specs.Cause.{number_in};
+ghost use Rattle.circuit.specs.Calls.{first_cause, test, no_item};
+ghost use Rattle.circuit.specs.Sheet.{size, item_at, is_figure};
 ghost use Rattle.layout.specs.Opened.{sheet_of};
+ghost use Rattle.layout.specs.Room.{Room};
+ghost use Rattle.item.specs.Item.{kind_meaning};
 ghost use Rattle.table.specs.Record.{width};
 ghost use Rattle.table.specs.Bytes.{table_form, owed_true};
-ghost use Rattle.admission.specs.Admission.{measured_of, admitted_of, Scanned, Found, Placing};
-ghost use Rattle.circuit.specs.Calls.{first_cause, test, no_item};
+ghost use Rattle.admission.specs.Admission.{measured_of, admitted_of, admitted_meaning, Admits, Scanned, Found};
 ghost use Rattle.admission.specs.Answers.{wrong_item};
 
-use sheet::Checked;
+use cause::{Cause, Fault};
+use item::{Kind, Sheet};
 
-// What a call gives: 0, or the number of the cause for which it is refused, and the offset of a sheet's fault.
+// What a call gives: 0, or the number of the cause for which it is refused, and the offset of a sheet's fault. In numbers, since C
+// reads them.
 #[repr(C)]
-#[derive(Clone, Copy)]
+#[derive(Clone, Copy, PartialEq, Eq, Debug)]
 pub struct Answer {
     pub number: u64,
     pub offset: u64,
 }
 
-// How many items the sheet has, or the number and the offset of the first cause.
-#[derive(Clone, Copy)]
-pub enum Admitted {
-    Items(usize),
-    Refused { number: u64, offset: usize },
+impl From<Result<(), Fault>> for Answer {
+    ghost use Rattle.std.specs.Prelude.{◌≡◌};
+    ghost use Rattle.admission.specs.Answers.{answer_of};
+
+    ghost from_gives = { λ given a. a ≡ answer_of given };
+
+    fn from(given: Result<(), Fault>) -> Answer {
+        match given {
+            Ok(()) => Answer {
+                number: 0,
+                offset: 0,
+            },
+            Err(fault) => Answer {
+                number: fault.cause.number(),
+                offset: fault.offset as u64,
+            },
+        }
+    }
 }
 
-// The sheet (1 to 7), and the lengths of index and table (8).
+// The sheet (1 to 7), and the lengths of index and table (8): how many items the sheet has.
+#[tactic(auto, using(crate::proofs::Admitting::count_small, crate::proofs::Admitting::measured_index, crate::proofs::Admitting::measured_table, crate::proofs::Admitting::measured_items))]
 pub fn measure(
     sheet: &[u8],
     index_len: usize,
     table_len: usize,
     offsets: &mut [usize],
     levels: &mut [u8],
-) -> Admitted
+) -> Result<usize, Fault>
     requires { Room sheet.now offsets.old levels.old }
-    ensures answer { result ≡ measured_of sheet.now index_len table_len }
+    ensures answer { admitted_meaning result ≡ measured_of sheet.now index_len table_len }
     ensures found { Scanned sheet.now offsets.old levels.old offsets.new levels.new }
 {
-    match sheet::check(sheet, offsets, levels) {
-        Checked::Refused { number, offset } => Admitted::Refused { number, offset },
-        Checked::Opens { edition: _, count } => {
-            if index_len != limits::INDEX_WIDTH * count {
-                return Admitted::Refused {
-                    number: 8,
-                    offset: 0,
-                };
-            }
-            if table_len != table::WIDTH * count {
-                return Admitted::Refused {
-                    number: 8,
-                    offset: 0,
-                };
-            }
-            Admitted::Items(count)
-        }
+    let opened = sheet::check(sheet, offsets, levels)?;
+    if index_len != limits::INDEX_WIDTH * opened.count || table_len != table::WIDTH * opened.count {
+        return Err(Cause::Lengths.into());
     }
+    Ok(opened.count)
 }
 
 // Whether the table is in form, with true owed bytes (10).
-fn table_formed(sheet: &[u8], offsets: &[usize], n: usize, table: &[u8], owed: &mut [u8]) -> bool
-    requires fact_1 { Placing sheet.now offsets.now n }
-    requires fact_2 { length table.now ≡ width * n }
-    requires fact_3 { n ≤ length owed.old }
+fn table_formed(sheet: &Sheet<'_>, table: &[u8], owed: &mut [u8]) -> bool
+    requires table_length { length table.now ≡ width * size (sheet_of sheet.now) }
+    requires room { size (sheet_of sheet.now) ≤ length owed.old }
     ensures { result ≡ (table_form (sheet_of sheet.now) table.now && owed_true (sheet_of sheet.now) table.now) }
 {
-    let mut k = 0;
-    while k < n {
-        let figure = item::is_figure(sheet, offsets[k]);
-        if !table::record_formed(table, k, figure) {
-            return false;
-        }
-        k += 1;
-    }
-    owing::owed_true(sheet, offsets, n, table, owed)
+    (0..sheet.len()).all(|k| table::record_formed(table, k, sheet.item(k).is_figure()))
+        && owing::owed_true(sheet, table, owed)
 }
 
-// All that is lent (1 to 10). The array of levels serves for the owed bytes too, and what it holds at the end is left free.
+// All that is lent (1 to 10): how many items the sheet has. The array of levels serves for the owed bytes too, since memory is fixed, and
+// what it holds at the end is left free. No sheet of items is given, since one that borrows the offsets could not say what they hold.
 pub fn admit(
     sheet: &[u8],
     index: &[u8],
     table: &[u8],
     offsets: &mut [usize],
     levels: &mut [u8],
-) -> Admitted
+) -> Result<usize, Fault>
     requires { Room sheet.now offsets.old levels.old }
-    ensures answer { result ≡ admitted_of sheet.now index.now table.now }
+    ensures answer { admitted_meaning result ≡ admitted_of sheet.now index.now table.now }
     ensures found { Found sheet.now offsets.old offsets.new }
 {
-    match measure(sheet, index.len(), table.len(), offsets, levels) {
-        Admitted::Refused { number, offset } => Admitted::Refused { number, offset },
-        Admitted::Items(n) => {
-            if !item::index_matches(offsets, n, index) {
-                return Admitted::Refused {
-                    number: 9,
-                    offset: 0,
-                };
-            }
-            if !table_formed(sheet, offsets, n, table, levels) {
-                return Admitted::Refused {
-                    number: 10,
-                    offset: 0,
-                };
-            }
-            Admitted::Items(n)
-        }
+    let n = measure(sheet, index.len(), table.len(), offsets, levels)?;
+    let placed = &offsets[..n];
+    if !item::index_matches(placed, index) {
+        return Err(Cause::Index.into());
     }
+    if !table_formed(&Sheet::new(sheet, placed), table, levels) {
+        return Err(Cause::Form.into());
+    }
+    Ok(n)
 }
 
-// 11 where there is no such item, 12 where it is not what the call takes, figures or entries; 0 otherwise.
-pub fn item_cause(sheet: &[u8], offsets: &[usize], n: usize, item: u64, figures: bool) -> u64
-    requires { Placing sheet.now offsets.now n }
-    ensures { result ≡ first_cause (test 11 (no_item (sheet_of sheet.now) item) ∷ test 12 (wrong_item figures (sheet_of sheet.now) item) ∷ []) }
+// The same, with the sheet and its items for what comes after.
+// (Each call goes on from here in lines of its own: one frame of all would take a closure, whose contract repeats what the call requires.)
+pub fn admitted<'a>(
+    sheet: &'a [u8],
+    index: &[u8],
+    table: &[u8],
+    offsets: &'a mut [usize],
+    levels: &mut [u8],
+) -> Result<Sheet<'a>, Fault>
+    requires { Room sheet.now offsets.old levels.old }
+    ensures { Admits sheet.now index.now table.now result }
 {
-    if item >= n as u64 {
-        return 11;
-    }
-    let figure = item::is_figure(sheet, offsets[item as usize]);
-    if figures {
-        if figure { 0 } else { 12 }
-    } else {
-        if figure { 12 } else { 0 }
-    }
+    let n = admit(sheet, index, table, offsets, levels)?;
+    Ok(Sheet::new(sheet, &offsets[..n]))
 }
 
-pub fn give(number: u64, offset: usize) -> Answer
-    ensures { (result.number ≡ number) × (result.offset ≡ offset) }
+// The item of that number (11).
+#[tactic(auto, unfolding(circuit::specs::Calls::first_cause))]
+pub fn in_sheet(sheet: &Sheet<'_>, item: u64) -> Result<usize, Cause>
+    ensures number { number_in result ≡ first_cause (test 11 (no_item (sheet_of sheet.now) item) ∷ []) }
+    ensures found { IfOk result (λ i. (i ≡ item) × (i < size (sheet_of sheet.now))) }
 {
-    Answer {
-        number,
-        offset: offset as u64,
+    if item >= sheet.len() as u64 {
+        return Err(Cause::NoItem);
     }
+    // By a cast: below the sheet's length it keeps the number, where try_from would have a way to fail that cannot come.
+    Ok(item as usize)
+}
+
+// The same (11), which has to be of the kind that the call takes (12).
+#[tactic(auto, unfolding(circuit::specs::Calls::first_cause))]
+pub fn find(sheet: &Sheet<'_>, item: u64, kind: Kind) -> Result<usize, Cause>
+    ensures number { number_in result ≡ first_cause (test 11 (no_item (sheet_of sheet.now) item) ∷ test 12 (wrong_item kind (sheet_of sheet.now) item) ∷ []) }
+    ensures found { IfOk result (λ i. (i ≡ item) × (i < size (sheet_of sheet.now))) }
+    ensures kind { IfOk result (λ i. is_figure (item_at (sheet_of sheet.now) i) ≡ kind_meaning kind) }
+{
+    let i = in_sheet(sheet, item)?;
+    if sheet.item(i).kind() != kind {
+        return Err(Cause::WrongItem);
+    }
+    Ok(i)
 }

@@ -1,47 +1,67 @@
 -- Ask: its own test, and what it gives and leaves. Assumes nothing.
-use Prim.Native.Nat.{ℕ, ◌≤◌, ◌<◌}
-use native.Mathlib.Omega.{arith}
-use mathlib.Core.Path.{◌≡◌, refl, ap, subst, ◌∙◌}
-use mathlib.Core.List.{List}
-use lib.IntN.{ℤ, pos}
-use borrow.Author.Tests.{le-leb, lt-leb}
-use Rattle.circuit.specs.Value.{Value}
-use Rattle.circuit.specs.Sheet.{size}
-use Rattle.circuit.specs.Table.{Table}
+use Prim.Native.Nat.{ℕ}
+use mathlib.Core.Path.{◌≡◌, refl, sym, ap, ◌∙◌}
+use mathlib.Core.Bool.{Bool, true, false}
+use mathlib.Core.List.{List, [], ◌∷◌}
+use Rattle.std.specs.Prelude.{Ok, Err}
+use Rattle.cause.specs.declared.Cause.{Cause}
+use Rattle.cause.specs.declared.Fault.{Fault}
+use Rattle.cause.specs.Cause.{number_of}
+use Rattle.cause.proofs.Numbers.{number_some}
+use Rattle.circuit.specs.Value as circuit
+use Rattle.circuit.specs.Sheet.{Sheet}
 use Rattle.circuit.specs.Machine.{look_up, catch_up}
-use Rattle.circuit.specs.Call.{ask}
-use Rattle.circuit.specs.Calls.{first_cause, tests, effect}
+use Rattle.circuit.specs.Call.{Call, ask}
+use Rattle.circuit.specs.Calls.{test, first_cause, tests, effect, no_item}
+use Rattle.value.specs.declared.Value.{Value}
+use Rattle.value.specs.Meaning.{meaning}
 use Rattle.layout.specs.Opened.{sheet_of}
 use Rattle.table.specs.Bytes.{encode_table, decode_table}
-use Rattle.looking.specs.Pass.{Lent, Leaves}
-use Rattle.memo.specs.Memo.{Found}
-use Rattle.admission.specs.Admission.{call_lent}
-use Rattle.call_ask.specs.Asking.{Asked, ReadingOf, LookedUp}
-use Rattle.call_ask.specs.declared.Reading.{Reading}
+use Rattle.office.specs.Office.{keeping, call_on}
+use Rattle.admission.specs.Admission.{refused, admitted_of, AllAdmitted, call_lent}
+use Rattle.admission.proofs.Admission.{refused_call}
+use Rattle.admission.proofs.Calls.{whole_call, fails, does}
+use Rattle.call_ask.specs.Asking.{Valued, TriedValue, LookedUp}
 
--- ---- ask
+-- the cause is that of the test
+tested : (b : Bool) (k : Cause) → number_of k ≡ first_cause (test 11 b ∷ []) → (b ≡ true) × (number_of k ≡ 11)
+unfolding first_cause
+tested true k e = (refl, e)
+tested false k e = absurd (number_some k e)
 
-module _ {s offsets t : List ℕ} (lent : Lent s offsets t) (x : List ℕ) (n item : ℕ) (count_is : n ≡ size (sheet_of s)) (r : Reading) where
-  pub ask_refused : n ≤ item → r.number ≡ 11 → r.offset ≡ 0 → r.kind ≡ 0 → r.value ≡ pos 0 → Asked (call_lent (sheet_of s) x t (ask item)) r t
-  unfolding tests first_cause
-  ask_refused h a b k v =
-      rw (le-leb (size (sheet_of s)) item (omega arith)) (record { number_is = a; offset_is = b; kind_is = k; value_is = v; table_is = refl })
+pub ask_refused : (S : Sheet) (x t : List ℕ) (item : ℕ) (k : Cause) → number_of k ≡ first_cause (test 11 (no_item S item) ∷ []) → Valued (call_lent S x t (ask item)) (Err k) t
+unfolding tests first_cause
+ask_refused S x t item k e =
+    let p = tested (no_item S item) k e in
+    rw p.0 (record { did = record { number_is = p.1; offset_is = refl; table_is = refl }; kind_is = refl; value_is = refl })
 
-  pub ask_done : item < n → (t₁ : List ℕ) (v : Value) → LookedUp s (look_up (sheet_of s) (catch_up (sheet_of s) (decode_table t)) item) v t₁ → (t₂ : List ℕ)
-      → t₂ ≡ encode_table (sheet_of s) (decode_table t₁) → ReadingOf v r → Asked (call_lent (sheet_of s) x t (ask item)) r t₂
-  unfolding tests first_cause effect
-  ask_done h t₁ v l t₂ settled q =
-      rw (lt-leb (size (sheet_of s)) item (omega arith)) (record {
-        number_is = q.number_is;
-        offset_is = q.offset_is;
-        kind_is = q.kind_is ∙ ap Rattle.circuit.specs.Value.kind_of l.value_is;
-        value_is = q.value_is ∙ ap Rattle.circuit.specs.Value.number_of l.value_is;
-        table_is = settled ∙ ap (encode_table (sheet_of s)) l.table_is;
-      })
+pub ask_done : (s x t : List ℕ) {item i : ℕ} → i ≡ item → 0 ≡ first_cause (test 11 (no_item (sheet_of s) item) ∷ [])
+    → {t₁ : List ℕ} (v : Value) → LookedUp s (look_up (sheet_of s) (catch_up (sheet_of s) (decode_table t)) i) (meaning v) t₁
+    → (t₂ : List ℕ) → t₂ ≡ encode_table (sheet_of s) (decode_table t₁) → Valued (call_lent (sheet_of s) x t (ask item)) (Ok v) t₂
+unfolding tests effect
+ask_done s x t {item} {i} is passed {t₁} v l t₂ settled =
+    rw (← passed, ← is) (record {
+      did = record { number_is = refl; offset_is = refl; table_is = settled ∙ ap (encode_table (sheet_of s)) l.table_is };
+      kind_is = ap circuit.kind_of l.value_is;
+      value_is = ap circuit.number_of l.value_is;
+    })
 
--- what a look-up after catching up gives
-pub caught_looked : (s : List ℕ) {t₁ : List ℕ} (T : Table) → decode_table t₁ ≡ T
-    → {tags : List ℕ} {generation b : ℕ} (i : ℕ) {f : Found} {t₂ tags₂ : List ℕ} {numbers₂ : List ℤ}
-    → Leaves s t₁ tags generation b (look_up (sheet_of s) (decode_table t₁) i) f t₂ tags₂ numbers₂ → LookedUp s (look_up (sheet_of s) T i) f.value t₂
-caught_looked s {t₁} T is i {f} {t₂} looks =
-    subst (λ U. LookedUp s (look_up (sheet_of s) U i) f.value t₂) is (record { value_is = looks.value_is; table_is = looks.table_is; formed = looks.formed })
+-- ---- the whole call
+
+pub ask_refuses : (s x t : List ℕ) (c : Call) (f : Fault) → admitted_of s x t ≡ refused (number_of f.cause) f.offset → TriedValue (call_on s (keeping x t) c) (Err f) t
+ask_refuses s x t c f e =
+    rw (refused_call s x t c (number_of f.cause) f.offset (sym e)) (record {
+      tried = record { number_is = refl; offset_is = refl; table_is = refl };
+      kind_is = refl;
+      value_is = refl;
+    })
+
+pub ask_fails : {s x t S t' : List ℕ} → AllAdmitted s x t S → (c : Call) {k : Cause} → Valued (call_lent (sheet_of S) x t c) (Err k) t'
+    → TriedValue (call_on s (keeping x t) c) (Err (record { cause = k; offset = 0 })) t'
+ask_fails a c d =
+    record { tried = fails a c d.did; kind_is = let g = whole_call a c in rw g d.kind_is; value_is = let g = whole_call a c in rw g d.value_is }
+
+pub ask_does : {s x t S t' : List ℕ} → AllAdmitted s x t S → (c : Call) {v : Value} → Valued (call_lent (sheet_of S) x t c) (Ok v) t'
+    → TriedValue (call_on s (keeping x t) c) (Ok v) t'
+ask_does a c d =
+    record { tried = does a c d.did; kind_is = let g = whole_call a c in rw g d.kind_is; value_is = let g = whole_call a c in rw g d.value_is }

@@ -1,3 +1,4 @@
 pub mod Answers
+pub mod Chunks
 pub mod Lists
 pub mod Showing

@@ -3,7 +3,7 @@ use Prim.Native.Nat.{ℕ, zero, suc, ◌+◌, ◌*◌, ◌/◌, ◌%◌, ◌≤�
 use native.Mathlib.Omega.{arith}
 use native.Mathlib.Numerals.{add-one}
 use mathlib.Core.Path.{◌≡◌, refl, sym, ap, ap₂, ◌∙◌}
-use mathlib.Core.Bool.{true, false, not, ◌&&◌, or-true}
+use mathlib.Core.Bool.{Bool, true, false, ◌&&◌, or-true}
 use mathlib.Core.List.{List, [], ◌∷◌, ◌++◌, append-nil, append_assoc}
 use lib.Dec.{eqb, leb}
 use lib.ListN.{length, get_or, drop, set, length-append, length-drop}
@@ -12,7 +12,9 @@ use lib.IntN.{ℤ}
 use mir.Syntax.{w64}
 use mir.Val.{to_z, of_z, SFits}
 use mir.ValLaws.{to_z-of_z}
-use borrow.Author.Tests.{eq-eqb, ne_eqb, le-leb, lt-leb, leb-false, eqb-true, not-false}
+use borrow.Author.Tests.{le-leb, lt-leb, leb-false, eqb-true, not-false}
+use Rattle.std.specs.Prelude.{MatchBool}
+use Rattle.std.specs.List.{HoldsAt, AllWithin}
 use Rattle.circuit.specs.Value.{Value, kind_of, number_of}
 use Rattle.circuit.specs.Sheet.{Sheet, size, beyond}
 use Rattle.circuit.specs.Board.{listed_width, result_width, most_listed, lists_off}
@@ -27,19 +29,6 @@ use Rattle.office.specs.Office.{result_of, results_of}
 -- ---- 17, by the two lengths
 
 module _ (items results : ℕ) where
-  pub lists_odd : (items % listed_width ≡ 0 → ⊥) → true ≡ lists_off items results
-  unfolding lists_off
-  lists_odd h = rw (ne_eqb (items % listed_width) 0 h)
-
-  pub lists_long : items % listed_width ≡ 0 → most_listed < items / listed_width → true ≡ lists_off items results
-  unfolding lists_off
-  lists_long e h = rw (eq-eqb (items % listed_width) 0 e, lt-leb (items / listed_width) most_listed h)
-
-  pub lists_other : items % listed_width ≡ 0 → items / listed_width ≤ most_listed
-      → not (eqb results (result_width * (items / listed_width))) ≡ lists_off items results
-  unfolding lists_off
-  lists_other e h = rw (eq-eqb (items % listed_width) 0 e, le-leb (items / listed_width) most_listed h)
-
   pub lists_even : lists_off items results ≡ false → items % listed_width ≡ 0
   unfolding lists_off
   lists_even e =
@@ -56,16 +45,22 @@ module _ (items results : ℕ) where
 
 -- ---- 11, of any item
 
-pub no_item_at : (S : Sheet) (is : List ℕ) (k : ℕ) → k < length is → size S ≤ get_or is k 0 → true ≡ some_no_item S is
+no_item_at : (S : Sheet) (is : List ℕ) (k : ℕ) → k < length is → size S ≤ get_or is k 0 → true ≡ some_no_item S is
 unfolding some_no_item
 no_item_at S [] k l h = absurd (omega arith)
 no_item_at S (i ∷ is) zero l h = rw (le-leb (size S) i h)
 no_item_at S (i ∷ is) (suc k) l h = rw (← no_item_at S is k (omega arith) h) (sym (or-true (beyond S i)))
 
-pub all_items : (S : Sheet) (is : List ℕ) → ((k : ℕ) → k < length is → get_or is k 0 < size S) → false ≡ some_no_item S is
+all_items : (S : Sheet) (is : List ℕ) → ((k : ℕ) → k < length is → get_or is k 0 < size S) → false ≡ some_no_item S is
 unfolding some_no_item
 all_items S [] h = refl
 all_items S (i ∷ is) h = rw (lt-leb (size S) i (h 0 (omega arith))) (all_items S is (λ k l. h (suc k) (omega arith)))
+
+-- by a search for the first of n or more
+pub some_item : (S : Sheet) (is : List ℕ) (n : ℕ) (b : Bool) → n ≡ size S
+    → MatchBool b ((k : ℕ) × (k < length is) × HoldsAt (λ i. n ≤ i) is k) (AllWithin (λ i. i < n) is 0 (length is)) → b ≡ some_no_item S is
+some_item S is n true e h = no_item_at S is h.0 h.1 (omega (arith, h.2 0))
+some_item S is n false e h = all_items S is (λ k l. omega (arith, h k 0 (omega arith) l))
 
 pub item_within_lem : (S : Sheet) (is : List ℕ) → some_no_item S is ≡ false → (k : ℕ) → k < length is → get_or is k 0 < size S
 unfolding some_no_item

@@ -1,10 +1,10 @@
 // The call board: the values of up to 64 items, with one catching up and one memo for all of them.
 #![tactic(auto)]
 
-ghost use Rattle.std.specs.Prelude.{◌≡◌, true, false, List, ℕ, ◌+◌, ◌*◌, ◌/◌, ◌<◌, ◌≤◌, length, get_or};
+ghost use Rattle.std.specs.Prelude.{◌≡◌, true, List, ℕ, ◌+◌, ◌*◌, ◌≤◌, length};
 ghost use Rattle.circuit.specs.Value.{kind_of, number_of};
-ghost use Rattle.circuit.specs.Sheet.{Sheet, size};
-ghost use Rattle.circuit.specs.Board.{listed_width, result_width, listed, lists_off};
+ghost use Rattle.circuit.specs.Sheet.{size};
+ghost use Rattle.circuit.specs.Board.{result_width, listed, lists_off};
 ghost use Rattle.circuit.specs.Calls.{some_no_item};
 ghost use Rattle.circuit.specs.Machine as machine;
 ghost use Rattle.circuit.specs.Call as machine_call;
@@ -14,16 +14,21 @@ ghost use Rattle.layout.specs.Room.{Room};
 ghost use Rattle.table.specs.Rows.{set_row};
 ghost use Rattle.table.specs.Bytes.{decode_table, owed_true};
 ghost use Rattle.office.specs.Office.{call_on, keeping, result_of};
-ghost use Rattle.memo.specs.Memo.{Memo};
+ghost use Rattle.children.specs.Children.{Kept};
+ghost use Rattle.memo.specs.Memo.{Right};
 ghost use Rattle.looking.specs.Pass.{Lent};
-ghost use Rattle.stepping.specs.Stepping.{Ready, Lists};
-ghost use Rattle.admission.specs.Admission.{Placing, call_lent};
-ghost use Rattle.call_board.specs.Showing.{BoardShown, Listed, Shown};
+ghost use Rattle.stepping.specs.Stepping.{Ready, begun};
+ghost use Rattle.admission.specs.Admission.{call_lent};
+ghost use Rattle.call_board.specs.Showing.{BoardDid, BoardTried, Listed, Shown};
 
-use admission::{Admitted, Answer};
+use cause::{Cause, Fault};
+use children::Children;
+use item::Sheet;
+use memo::Memo;
 use value::Value;
 
-// The bytes of an item in the list, those of its result, and the most items of a list.
+// The bytes of an item in the list, those of its result, and the most items of a list. The definitions have these numbers too, and the
+// proofs pin them: code does not read a definition.
 const LISTED_WIDTH: usize = 2;
 
 const RESULT_WIDTH: usize = 9;
@@ -31,40 +36,22 @@ const RESULT_WIDTH: usize = 9;
 const MOST_LISTED: usize = 64;
 
 // Whether the list is of odd length or too long, or the results are not as many (17).
+#[tactic(auto, unfolding(circuit::specs::Board::lists_off))]
 fn lists_wrong(items_len: usize, results_len: usize) -> bool
     ensures { result ≡ lists_off items_len results_len }
 {
-    if items_len % LISTED_WIDTH != 0 {
-        return true;
-    }
     let count = items_len / LISTED_WIDTH;
-    if MOST_LISTED < count {
-        return true;
-    }
-    results_len != RESULT_WIDTH * count
+    !(items_len % LISTED_WIDTH == 0 && count <= MOST_LISTED && results_len == RESULT_WIDTH * count)
 }
 
-// The item in place k of the list.
-fn listed_item(items: &[u8], k: usize) -> usize
-    requires { k < length items.now / listed_width }
-    ensures { result ≡ get_or (listed items.now) k 0 }
+// Whether an item of the list is not the sheet's (11).
+fn some_no_item(sheet: &Sheet<'_>, items: &[u8]) -> bool
+    ensures { result ≡ some_no_item (sheet_of sheet.now) (listed items.now) }
 {
-    field::u16_at(items, LISTED_WIDTH * k)
-}
-
-// Whether an item of the list is n or more (11).
-fn some_no_item(items: &[u8], n: usize) -> bool
-    ensures { (S : Sheet) → n ≡ size S → result ≡ some_no_item S (listed items.now) }
-{
-    let count = items.len() / LISTED_WIDTH;
-    let mut k = 0;
-    while k < count {
-        if n <= listed_item(items, k) {
-            return true;
-        }
-        k += 1;
-    }
-    false
+    let n = sheet.len();
+    items
+        .chunks_exact(LISTED_WIDTH)
+        .any(|pair| n <= field::u16_at(pair, 0))
 }
 
 // Writes the kind and the number of a value as result k, and changes no other byte.
@@ -77,105 +64,83 @@ fn write_result(results: &mut [u8], k: usize, value: Value)
     word::write_i64(results, at + 1, value.number_or_zero());
 }
 
-// Looks the items up in list order, in one generation, and writes their results.
+// Looks the items up in list order, in one generation, and writes their results by their places: C lends items and results in two arrays,
+// and nothing is known of what is written through an adapter of `chunks_exact_mut`, as in a `zip` of the two.
 fn show_each(
-    sheet: &[u8],
-    offsets: &[usize],
+    sheet: &Sheet<'_>,
     table: &mut [u8],
-    tags: &mut [u64],
-    numbers: &mut [i64],
-    generation: u64,
+    memo: &mut Memo<'_>,
     items: &[u8],
     results: &mut [u8],
 )
-    requires fact_1 { Lent sheet.now offsets.now table.old }
-    requires fact_2 { Memo (sheet_of sheet.now) (decode_table table.old) tags.old numbers.old generation }
-    requires fact_3 { Listed sheet.now items.now results.old }
+    requires lent { Lent sheet.now table.old }
+    requires right { Right (sheet_of sheet.now) (decode_table table.old) memo.old }
+    requires lists { Listed sheet.now items.now results.old }
     ensures { Shown sheet.now (machine.gather (machine.look_up (sheet_of sheet.now)) (decode_table table.old) (listed items.now)) results.new table.new }
 {
-    let count = items.len() / LISTED_WIDTH;
-    let mut k = 0;
-    while k < count {
-        let i = listed_item(items, k);
-        let seen = looking::look_up(sheet, offsets, table, tags, numbers, generation, i);
+    for (k, pair) in items.chunks_exact(LISTED_WIDTH).enumerate() {
+        let seen = looking::look_up(sheet, table, memo, field::u16_at(pair, 0));
         write_result(results, k, seen.value);
-        k += 1;
     }
 }
 
-// Catches up, and shows the items in the generation after those of the steps.
+// Catches up, and shows the items in the generation after those of the steps, which call_ask begins so too: one function of these two
+// lines would have to repeat the five facts of catching up.
 fn show(
-    sheet: &[u8],
-    offsets: &[usize],
+    sheet: &Sheet<'_>,
     table: &mut [u8],
-    n: usize,
     items: &[u8],
     results: &mut [u8],
-    bytes: &mut [u8],
-    tags: &mut [u64],
-    numbers: &mut [i64],
-    heads: &mut [u16],
-    links: &mut [u16],
+    owed: &mut [u8],
+    memo: &mut Memo<'_>,
+    children: &mut Children<'_>,
 )
-    requires fact_1 { Lent sheet.now offsets.now table.old }
-    requires fact_2 { (n ≡ size (sheet_of sheet.now)) × (n ≤ length bytes.old) }
-    requires fact_3 { Listed sheet.now items.now results.old }
-    requires fact_4 { owed_true (sheet_of sheet.now) table.old ≡ true }
-    requires fact_5 { Ready sheet.now tags.old numbers.old 1 × Lists (sheet_of sheet.now) false heads.old links.old }
+    requires lent { Lent sheet.now table.old }
+    requires owes { owed_true (sheet_of sheet.now) table.old ≡ true }
+    requires owed_room { size (sheet_of sheet.now) ≤ length owed.old }
+    requires ready { Ready sheet.now (begun memo.old 1) }
+    requires kept { Kept (sheet_of sheet.now) children.old }
+    requires lists { Listed sheet.now items.now results.old }
     ensures { Shown sheet.now (machine.gather (machine.look_up (sheet_of sheet.now)) (machine.catch_up (sheet_of sheet.now) (decode_table table.old)) (listed items.now)) results.new table.new }
 {
-    catching::catch_up(sheet, offsets, table, n, bytes, tags, numbers, heads, links);
-    show_each(
-        sheet,
-        offsets,
-        table,
-        tags,
-        numbers,
-        (2 * n + 1) as u64,
-        items,
-        results,
-    );
+    catching::catch_up(sheet, table, memo, children, owed);
+    memo.begin((2 * sheet.len() + 1) as u64);
+    show_each(sheet, table, memo, items, results);
 }
 
 // The board on what was admitted: its own tests, and then the results and the table.
 fn board_lent(
-    sheet: &[u8],
-    offsets: &[usize],
+    sheet: &Sheet<'_>,
     table: &mut [u8],
-    n: usize,
     items: &[u8],
     results: &mut [u8],
-    bytes: &mut [u8],
-    tags: &mut [u64],
-    numbers: &mut [i64],
-    heads: &mut [u16],
-    links: &mut [u16],
-) -> Answer
-    requires fact_1 { Placing sheet.now offsets.now n }
-    requires fact_2 { Lent sheet.now offsets.now table.old }
-    requires fact_3 { owed_true (sheet_of sheet.now) table.old ≡ true }
-    requires fact_4 { n ≤ length bytes.old }
-    requires fact_5 { Ready sheet.now tags.old numbers.old 1 × Lists (sheet_of sheet.now) false heads.old links.old }
-    ensures { (x : List ℕ) → BoardShown (call_lent (sheet_of sheet.now) x table.old (machine_call.board items.now results.old)) result results.new table.new }
+    owed: &mut [u8],
+    memo: &mut Memo<'_>,
+    children: &mut Children<'_>,
+) -> Result<(), Cause>
+    requires lent { Lent sheet.now table.old }
+    requires owes { owed_true (sheet_of sheet.now) table.old ≡ true }
+    requires owed_room { size (sheet_of sheet.now) ≤ length owed.old }
+    requires ready { Ready sheet.now (begun memo.old 1) }
+    requires kept { Kept (sheet_of sheet.now) children.old }
+    ensures { (x : List ℕ) → BoardDid (call_lent (sheet_of sheet.now) x table.old (machine_call.board items.now results.old)) result results.new table.new }
 {
     if lists_wrong(items.len(), results.len()) {
-        return admission::give(17, 0);
+        return Err(Cause::List);
     }
-    if some_no_item(items, n) {
-        return admission::give(11, 0);
+    if some_no_item(sheet, items) {
+        return Err(Cause::NoItem);
     }
-    if items.len() == 0 {
-        return admission::give(0, 0);
+    if items.is_empty() {
+        return Ok(());
     }
-    show(
-        sheet, offsets, table, n, items, results, bytes, tags, numbers, heads, links,
-    );
-    owing::settle(sheet, offsets, n, table, bytes);
-    admission::give(0, 0)
+    show(sheet, table, items, results, owed, memo, children);
+    owing::settle(sheet, table, owed);
+    Ok(())
 }
 
-// Shows the items of a list: 1 to 10, then 17, then 11, then the values. In the scratch arrays nothing is remembered or linked yet: what
-// they hold afterwards is left free.
+// Shows the items of a list: 1 to 10, then 17, then 11, then the values. In the scratch arrays nothing is remembered for the generations
+// of the steps, and the lists of children are built already or empty: what they hold afterwards is left free.
 pub fn board(
     sheet: &[u8],
     index: &[u8],
@@ -184,19 +149,16 @@ pub fn board(
     results: &mut [u8],
     offsets: &mut [usize],
     bytes: &mut [u8],
-    tags: &mut [u64],
-    numbers: &mut [i64],
-    heads: &mut [u16],
-    links: &mut [u16],
-) -> Answer
-    requires fact_1 { Room sheet.now offsets.old bytes.old }
-    requires fact_2 { Ready sheet.now tags.old numbers.old 1 × Lists (sheet_of sheet.now) false heads.old links.old }
-    ensures { BoardShown (call_on sheet.now (keeping index.now table.old) (machine_call.board items.now results.old)) result results.new table.new }
+    memo: &mut Memo<'_>,
+    children: &mut Children<'_>,
+) -> Result<(), Fault>
+    requires room { Room sheet.now offsets.old bytes.old }
+    requires ready { Ready sheet.now (begun memo.old 1) }
+    requires kept { Kept (sheet_of sheet.now) children.old }
+    ensures { BoardTried (call_on sheet.now (keeping index.now table.old) (machine_call.board items.now results.old)) result results.new table.new }
 {
-    match admission::admit(sheet, index, table, offsets, bytes) {
-        Admitted::Refused { number, offset } => admission::give(number, offset),
-        Admitted::Items(n) => board_lent(
-            sheet, offsets, table, n, items, results, bytes, tags, numbers, heads, links,
-        ),
-    }
+    let sheet = admission::admitted(sheet, index, table, offsets, bytes)?;
+    // (By ? and then Ok: ? also makes a Fault of the call's Cause.)
+    board_lent(&sheet, table, items, results, bytes, memo, children)?;
+    Ok(())
 }

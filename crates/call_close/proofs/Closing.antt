@@ -1,5 +1,5 @@
 -- The season-close run: what is stored for an item, the pass over the items, and the call. Assumes nothing.
-use Prim.Native.Nat.{ℕ, ◌+◌, ◌<◌, ◌≤◌}
+use Prim.Native.Nat.{ℕ, ◌+◌, ◌<◌}
 use mathlib.Core.Path.{◌≡◌, refl, sym, ap, ◌∙◌}
 use mathlib.Core.Bool.{false}
 use mathlib.Core.List.{List, map}
@@ -22,9 +22,9 @@ use Rattle.office.proofs.Holdable.{closed_formed, closed_allowed}
 use Rattle.looking.specs.Pass.{Lent}
 use Rattle.looking.proofs.Gathering.{lent_on}
 use Rattle.admission.specs.Admission.{call_lent}
-use Rattle.admission.specs.Answers.{Answered, Left}
-use Rattle.admission.specs.declared.Answer.{Answer}
-use Rattle.admission.proofs.Admitting.{accepted_answer, left_settled}
+use Rattle.admission.specs.Answers.{Did, Left}
+use Rattle.admission.proofs.Admitting.{accepted_did}
+use Rattle.std.specs.Prelude.{Ok}
 
 -- an entry's value in the run is what its record holds
 pub closed_entry : (s t : List ℕ) (i : ℕ) → is_figure (item_at (sheet_of s) i) ≡ false → closed_value (sheet_of s) (decode_table t) i ≡ value_in (decode_table t i)
@@ -39,10 +39,10 @@ closed_entry s t i = go (item_at (sheet_of s) i)
     go (figure op keep spread ps) e = let bad : ◌≡◌ {A = ℕ} 0 1 = cc in absurd (omega arith)
 
 -- item i is stored
-pub closed_stored : {s offsets t : List ℕ} → Lent s offsets t → (i : ℕ) → i < size (sheet_of s) → (v : Value) → v ≡ closed_value (sheet_of s) (decode_table t) i
+pub closed_stored : {s t : List ℕ} → Lent s t → (i : ℕ) → i < size (sheet_of s) → (v : Value) → v ≡ closed_value (sheet_of s) (decode_table t) i
     → (t' : List ℕ) → t' ≡ set_row width t i (encode_cell (held v unmarked)) → Left s (close_item (sheet_of s) (decode_table t) i) t'
 unfolding close_item
-closed_stored {s} {offsets} {t} lent i low v value t' e =
+closed_stored {s} {t} lent i low v value t' e =
     record {
       table_is =
           ap decode_table stored
@@ -65,29 +65,24 @@ closed_stored {s} {offsets} {t} lent i low v value t' e =
     stored = e ∙ ap (λ x. set_row width t i (encode_cell (held x unmarked))) value
 
 -- The pass's invariant, since the table t₀: the items below i are closed.
-pub record Closing (s offsets t₀ : List ℕ) (n i : ℕ) (t : List ℕ) : Type 0 where
-  pub lent : Lent s offsets t₀
-  pub count_is : n ≡ size (sheet_of s)
-  pub within : i ≤ n
+pub record Closing (s t₀ : List ℕ) (i : ℕ) (t : List ℕ) : Type 0 where
+  pub lent : Lent s t₀
   pub length_is : length t ≡ length t₀
   pub left : Left s (close_below (sheet_of s) (decode_table t₀) i) t
 
-pub closing_start : {s offsets t : List ℕ} {n : ℕ} → Lent s offsets t → n ≡ size (sheet_of s) → Closing s offsets t n 0 t
+pub closing_start : {s t : List ℕ} → Lent s t → Closing s t 0 t
 unfolding close_below
-closing_start lent e =
-    record { lent = lent; count_is = e; within = omega arith; length_is = refl; left = record { table_is = refl; formed = lent.formed } }
+closing_start lent = record { lent = lent; length_is = refl; left = record { table_is = refl; formed = lent.formed } }
 
-module _ {s offsets t₀ : List ℕ} {n i : ℕ} {t : List ℕ} (inv : Closing s offsets t₀ n i t) where
-  pub closing_lent : Lent s offsets t
+module _ {s t₀ : List ℕ} {i : ℕ} {t : List ℕ} (inv : Closing s t₀ i t) where
+  pub closing_lent : Lent s t
   closing_lent = lent_on inv.lent t inv.length_is inv.left.formed
 
-  pub closing_next : i < n → (t' : List ℕ) → length t' ≡ length t → Left s (close_item (sheet_of s) (decode_table t) i) t' → Closing s offsets t₀ n (i + 1) t'
+  pub closing_next : (t' : List ℕ) → length t' ≡ length t → Left s (close_item (sheet_of s) (decode_table t) i) t' → Closing s t₀ (i + 1) t'
   unfolding close_below
-  closing_next more t' len left =
+  closing_next t' len left =
       record {
         lent = inv.lent;
-        count_is = inv.count_is;
-        within = omega arith;
         length_is = len ∙ inv.length_is;
         left =
             record {
@@ -98,15 +93,13 @@ module _ {s offsets t₀ : List ℕ} {n i : ℕ} {t : List ℕ} (inv : Closing s
             };
       }
 
-  pub closing_done : n ≤ i → Left s (close_all (sheet_of s) (decode_table t₀)) t
+  -- the owed bytes are settled last
+  pub closing_done : i ≡ size (sheet_of s) → (t' : List ℕ) → t' ≡ encode_table (sheet_of s) (decode_table t) → t' ≡ encode_table (sheet_of s) (close_all (sheet_of s) (decode_table t₀))
   unfolding close_all
-  closing_done h =
-      let all : i ≡ size (sheet_of s) = omega (arith, inv.within, inv.count_is) in
-      record { table_is = inv.left.table_is ∙ ap (close_below (sheet_of s) (decode_table t₀)) all; formed = inv.left.formed }
+  closing_done all t' settled =
+      settled ∙ ap (encode_table (sheet_of s)) (inv.left.table_is ∙ ap (close_below (sheet_of s) (decode_table t₀)) all)
 
 -- the call has no tests of its own
-pub closed_answer : (s t x : List ℕ) (r : Answer) (t₁ : List ℕ) → Left s (close_all (sheet_of s) (decode_table t)) t₁ → (t₂ : List ℕ)
-    → t₂ ≡ encode_table (sheet_of s) (decode_table t₁) → r.number ≡ 0 → r.offset ≡ 0 → Answered (call_lent (sheet_of s) x t close) r t₂
+pub close_did : (s x t t' : List ℕ) → t' ≡ encode_table (sheet_of s) (close_all (sheet_of s) (decode_table t)) → Did (call_lent (sheet_of s) x t close) (Ok (tt {0})) t'
 unfolding tests first_cause effect
-closed_answer s t x r t₁ left t₂ settled number offset =
-    accepted_answer (sheet_of s) x t t₂ close r refl number offset (left_settled left t₂ settled)
+close_did s x t t' e = accepted_did (sheet_of s) x t t' close (tt {0}) refl e

@@ -1,120 +1,91 @@
 // The call swap.
 #![tactic(auto)]
 
-ghost use Rattle.std.specs.Prelude.{◌≡◌, true, List, ℕ};
+ghost use Rattle.std.specs.Prelude.{◌≡◌, true, List, ℕ, IfOk};
 ghost use Rattle.circuit.specs.Value.{well_formed};
 ghost use Rattle.circuit.specs.Swap as machine_swap;
 ghost use Rattle.circuit.specs.Call as machine_call;
+ghost use Rattle.cause.specs.Cause.{number_in};
 ghost use Rattle.value.specs.Meaning.{meaning};
 ghost use Rattle.layout.specs.Opened.{sheet_of};
 ghost use Rattle.layout.specs.Room.{Room};
 ghost use Rattle.table.specs.Bytes.{owed_true};
 ghost use Rattle.office.specs.Office.{call_on, keeping};
-ghost use Rattle.admission.specs.Answers.{Answered};
-ghost use Rattle.admission.specs.Admission.{Placing, call_lent};
+ghost use Rattle.admission.specs.Answers.{Did, Tried};
+ghost use Rattle.admission.specs.Admission.{call_lent};
 ghost use Rattle.looking.specs.Pass.{Lent};
-ghost use Rattle.call_swap.specs.Results.{items_cause, swap_results};
+ghost use Rattle.call_swap.specs.Results.{Entries, items_cause, results_meaning, swap_results};
 
-use admission::{Admitted, Answer};
+use cause::{Cause, Fault};
+use item::Sheet;
 use value::Value;
 
-// What the giver is left with and what the taker comes to, or that either is beyond the range (13).
-#[derive(Clone, Copy)]
-enum Results {
-    Within { left: i64, come: i64 },
-    Beyond,
+// What the giver is left with, and what the taker comes to.
+#[derive(Clone, Copy, PartialEq, Eq, Debug)]
+struct Results {
+    left: i64,
+    come: i64,
 }
 
-// A quantity over this, of either sign, takes every number of the range out of it.
-const MOST: i64 = 2 * value::LIMIT;
-
-const LEAST: i64 = -MOST;
-
-// 11 where either item is n or more, 12 where either is a figure; 0 otherwise.
-fn items_cause(sheet: &[u8], offsets: &[usize], n: usize, giver: u64, taker: u64) -> u64
-    requires { Placing sheet.now offsets.now n }
-    ensures { result ≡ items_cause (sheet_of sheet.now) giver taker }
+// The two entries: 11 where either item is n or more, then 12 where either is a figure.
+fn find_both(sheet: &Sheet<'_>, giver: u64, taker: u64) -> Result<(usize, usize), Cause>
+    ensures number { number_in result ≡ items_cause (sheet_of sheet.now) giver taker }
+    ensures found { IfOk result (λ p. Entries (sheet_of sheet.now) giver taker p.0 p.1) }
 {
-    let first = admission::item_cause(sheet, offsets, n, giver, false);
-    let second = admission::item_cause(sheet, offsets, n, taker, false);
-    if first == 11 {
-        return 11;
+    let i = admission::in_sheet(sheet, giver)?;
+    let j = admission::in_sheet(sheet, taker)?;
+    if sheet.item(i).is_figure() || sheet.item(j).is_figure() {
+        return Err(Cause::WrongItem);
     }
-    if second == 11 {
-        return 11;
-    }
-    if first != 0 {
-        return first;
-    }
-    second
+    Ok((i, j))
 }
 
 // One entry on both sides, or a quantity under 1 (18).
+#[tactic(auto, unfolding(circuit::specs::Swap::no_swap))]
 fn no_swap(giver: u64, taker: u64, quantity: i64) -> bool
     ensures { result ≡ machine_swap.no_swap giver taker quantity }
 {
-    if giver == taker {
-        return true;
-    }
-    quantity < 1
+    giver == taker || quantity < 1
 }
 
-// The results of a swap, by the values that the entries hold. No quantity overflows.
-fn swap_results(giver: Value, taker: Value, quantity: i64) -> Results
-    requires fact_1 { well_formed (meaning giver) ≡ true }
-    requires fact_2 { well_formed (meaning taker) ≡ true }
-    ensures { result ≡ swap_results (meaning giver) (meaning taker) quantity }
+// The results of a swap, by the values that the entries hold; none where either is beyond the range, as each that overflows is.
+fn swap_results(giver: Value, taker: Value, quantity: i64) -> Option<Results>
+    requires giver_formed { well_formed (meaning giver) ≡ true }
+    requires taker_formed { well_formed (meaning taker) ≡ true }
+    ensures { results_meaning result ≡ swap_results (meaning giver) (meaning taker) quantity }
 {
-    if quantity < LEAST {
-        return Results::Beyond;
+    let left = giver.number_or_zero().checked_sub(quantity)?;
+    let come = taker.number_or_zero().checked_add(quantity)?;
+    // (By if and else: with then_some the case that is refused would stand nowhere in the text.)
+    if value::in_range(left) && value::in_range(come) {
+        Some(Results { left, come })
+    } else {
+        None
     }
-    if MOST < quantity {
-        return Results::Beyond;
-    }
-    let left = giver.number_or_zero() - quantity;
-    let come = taker.number_or_zero() + quantity;
-    if !value::in_range(left) {
-        return Results::Beyond;
-    }
-    if !value::in_range(come) {
-        return Results::Beyond;
-    }
-    Results::Within { left, come }
 }
 
+// The call on what was admitted.
 fn swap_lent(
-    sheet: &[u8],
-    offsets: &[usize],
+    sheet: &Sheet<'_>,
     table: &mut [u8],
-    n: usize,
     giver: u64,
     taker: u64,
     quantity: i64,
-) -> Answer
-    requires fact_1 { Placing sheet.now offsets.now n }
-    requires fact_2 { Lent sheet.now offsets.now table.old }
-    requires fact_3 { owed_true (sheet_of sheet.now) table.old ≡ true }
-    ensures { (x : List ℕ) → Answered (call_lent (sheet_of sheet.now) x table.old (machine_call.swap giver taker quantity)) result table.new }
+) -> Result<(), Cause>
+    requires lent { Lent sheet.now table.old }
+    requires owes { owed_true (sheet_of sheet.now) table.old ≡ true }
+    ensures { (x : List ℕ) → Did (call_lent (sheet_of sheet.now) x table.old (machine_call.swap giver taker quantity)) result table.new }
 {
-    let cause = items_cause(sheet, offsets, n, giver, taker);
-    if cause != 0 {
-        return admission::give(cause, 0);
-    }
+    let (i, j) = find_both(sheet, giver, taker)?;
     if no_swap(giver, taker, quantity) {
-        return admission::give(18, 0);
+        return Err(Cause::Swap);
     }
-    let i = giver as usize;
-    let j = taker as usize;
-    let giver_holds = table::value_in(table::read_cell(table, i));
-    let taker_holds = table::value_in(table::read_cell(table, j));
-    match swap_results(giver_holds, taker_holds, quantity) {
-        Results::Beyond => admission::give(13, 0),
-        Results::Within { left, come } => {
-            posting::store_posting(table, i, Value::number(left));
-            posting::store_posting(table, j, Value::number(come));
-            admission::give(0, 0)
-        }
-    }
+    let giver_holds = table::value_at(table, i);
+    let taker_holds = table::value_at(table, j);
+    let results = swap_results(giver_holds, taker_holds, quantity).ok_or(Cause::Amount)?;
+    posting::store_posting(table, i, Value::number(results.left));
+    posting::store_posting(table, j, Value::number(results.come));
+    Ok(())
 }
 
 // The call, with scratch arrays: what they hold before counts for nothing, and what they hold afterwards is left free.
@@ -127,12 +98,12 @@ pub fn swap(
     quantity: i64,
     offsets: &mut [usize],
     bytes: &mut [u8],
-) -> Answer
-    requires { Room sheet.now offsets.old bytes.old }
-    ensures { Answered (call_on sheet.now (keeping index.now table.old) (machine_call.swap giver taker quantity)) result table.new }
+) -> Result<(), Fault>
+    requires room { Room sheet.now offsets.old bytes.old }
+    ensures { Tried (call_on sheet.now (keeping index.now table.old) (machine_call.swap giver taker quantity)) result table.new }
 {
-    match admission::admit(sheet, index, table, offsets, bytes) {
-        Admitted::Refused { number, offset } => admission::give(number, offset),
-        Admitted::Items(n) => swap_lent(sheet, offsets, table, n, giver, taker, quantity),
-    }
+    let sheet = admission::admitted(sheet, index, table, offsets, bytes)?;
+    // (By ? and then Ok: ? also makes a Fault of the call's Cause.)
+    swap_lent(&sheet, table, giver, taker, quantity)?;
+    Ok(())
 }

@@ -7,47 +7,74 @@ ghost use Rattle.layout.specs.Room.{room_for};
 ghost use Rattle.circuit.specs.Call as machine_call;
 ghost use Rattle.circuit.specs.Call.{bare, full};
 ghost use Rattle.office.specs.Office.{open_on, call_on, keeping};
-ghost use Rattle.admission.specs.Answers.{Answered};
-ghost use Rattle.call_open.specs.Opening.{Opened, opening_by};
-ghost use Rattle.call_ask.specs.Asking.{Asked};
-ghost use Rattle.call_board.specs.Showing.{BoardShown};
-ghost use Rattle.scratch_4096.specs.Scratch.{room as largest};
+ghost use Rattle.admission.specs.Answers.{Tried};
+ghost use Rattle.call_open.specs.Opening.{Opens, opening_by};
+ghost use Rattle.call_ask.specs.Asking.{TriedValue};
+ghost use Rattle.call_board.specs.Showing.{BoardTried};
+ghost use Rattle.calls.specs.Rooms.{room_of, least_for};
 
-use admission::Answer;
-use call_ask::Reading;
+use call_open::Opening;
+use cause::Fault;
+use value::Value;
 
-// The room that the sheet's items need, which the largest arrays have.
-fn room_for(sheet: &[u8]) -> usize
-    ensures { (result ≡ room_for sheet.now) × (result ≤ largest) }
-{
-    sheet::room_for(sheet)
+const SMALL: usize = 128;
+
+const MEDIUM: usize = 1024;
+
+const LARGE: usize = 4096;
+
+#[derive(Clone, Copy, PartialEq, Eq, Debug)]
+enum Size {
+    Small,
+    Medium,
+    Large,
 }
 
-fn open_by(sheet: &[u8], index: &mut [u8], table: &mut [u8], filled: bool) -> Answer
-    ensures { Opened (open_on (opening_by filled) sheet.now (keeping index.old table.old)) result index.new table.new }
+// The least size that has the room that the sheet's items need.
+fn size_for(sheet: &[u8]) -> Size
+    ensures least { result ≡ least_for (room_for sheet.now) }
+    ensures enough { room_for sheet.now ≤ room_of result }
 {
-    let room = room_for(sheet);
-    if room <= scratch_128::ROOM {
-        return scratch_128::open_by(sheet, index, table, filled);
+    let room = sheet::room_for(sheet);
+    if room <= SMALL {
+        Size::Small
+    } else if room <= MEDIUM {
+        Size::Medium
+    } else {
+        Size::Large
     }
-    if room <= scratch_1024::ROOM {
-        return scratch_1024::open_by(sheet, index, table, filled);
-    }
-    scratch_4096::open_by(sheet, index, table, filled)
+}
+
+// A function of scratch at the size for the sheet. The size is in the function's type, so each size is a call of its own. A macro, since
+// the calls take different things: a function would take three closures, each of which would borrow the table, and would be no plainer.
+macro_rules! by_size {
+    ($call:ident, $sheet:ident $(, $rest:expr)*) => {
+        match size_for($sheet) {
+            Size::Small => scratch::$call::<SMALL>($sheet $(, $rest)*),
+            Size::Medium => scratch::$call::<MEDIUM>($sheet $(, $rest)*),
+            Size::Large => scratch::$call::<LARGE>($sheet $(, $rest)*),
+        }
+    };
+}
+
+fn open_by(sheet: &[u8], index: &mut [u8], table: &mut [u8], opening: Opening) -> Result<(), Fault>
+    ensures { Opens (open_on (opening_by opening) sheet.now (keeping index.old table.old)) result index.new table.new }
+{
+    by_size!(open_by, sheet, index, table, opening)
 }
 
 // Opening with every figure UNK.
-pub fn open_bare(sheet: &[u8], index: &mut [u8], table: &mut [u8]) -> Answer
-    ensures { Opened (open_on bare sheet.now (keeping index.old table.old)) result index.new table.new }
+pub fn open_bare(sheet: &[u8], index: &mut [u8], table: &mut [u8]) -> Result<(), Fault>
+    ensures { Opens (open_on bare sheet.now (keeping index.old table.old)) result index.new table.new }
 {
-    open_by(sheet, index, table, false)
+    open_by(sheet, index, table, Opening::Bare)
 }
 
 // Opening with every figure NULL.
-pub fn open_full(sheet: &[u8], index: &mut [u8], table: &mut [u8]) -> Answer
-    ensures { Opened (open_on full sheet.now (keeping index.old table.old)) result index.new table.new }
+pub fn open_full(sheet: &[u8], index: &mut [u8], table: &mut [u8]) -> Result<(), Fault>
+    ensures { Opens (open_on full sheet.now (keeping index.old table.old)) result index.new table.new }
 {
-    open_by(sheet, index, table, true)
+    open_by(sheet, index, table, Opening::Full)
 }
 
 pub fn post(
@@ -57,17 +84,10 @@ pub fn post(
     item: u64,
     kind: u64,
     number: i64,
-) -> Answer
-    ensures { Answered (call_on sheet.now (keeping index.now table.old) (machine_call.post item kind number)) result table.new }
+) -> Result<(), Fault>
+    ensures { Tried (call_on sheet.now (keeping index.now table.old) (machine_call.post item kind number)) result table.new }
 {
-    let room = room_for(sheet);
-    if room <= scratch_128::ROOM {
-        return scratch_128::post(sheet, index, table, item, kind, number);
-    }
-    if room <= scratch_1024::ROOM {
-        return scratch_1024::post(sheet, index, table, item, kind, number);
-    }
-    scratch_4096::post(sheet, index, table, item, kind, number)
+    by_size!(post, sheet, index, table, item, kind, number)
 }
 
 pub fn swap(
@@ -77,69 +97,34 @@ pub fn swap(
     giver: u64,
     taker: u64,
     quantity: i64,
-) -> Answer
-    ensures { Answered (call_on sheet.now (keeping index.now table.old) (machine_call.swap giver taker quantity)) result table.new }
+) -> Result<(), Fault>
+    ensures { Tried (call_on sheet.now (keeping index.now table.old) (machine_call.swap giver taker quantity)) result table.new }
 {
-    let room = room_for(sheet);
-    if room <= scratch_128::ROOM {
-        return scratch_128::swap(sheet, index, table, giver, taker, quantity);
-    }
-    if room <= scratch_1024::ROOM {
-        return scratch_1024::swap(sheet, index, table, giver, taker, quantity);
-    }
-    scratch_4096::swap(sheet, index, table, giver, taker, quantity)
+    by_size!(swap, sheet, index, table, giver, taker, quantity)
 }
 
-pub fn keep(sheet: &[u8], index: &[u8], table: &mut [u8], item: u64) -> Answer
-    ensures { Answered (call_on sheet.now (keeping index.now table.old) (machine_call.keep item)) result table.new }
+pub fn keep(sheet: &[u8], index: &[u8], table: &mut [u8], item: u64) -> Result<(), Fault>
+    ensures { Tried (call_on sheet.now (keeping index.now table.old) (machine_call.keep item)) result table.new }
 {
-    let room = room_for(sheet);
-    if room <= scratch_128::ROOM {
-        return scratch_128::keep(sheet, index, table, item);
-    }
-    if room <= scratch_1024::ROOM {
-        return scratch_1024::keep(sheet, index, table, item);
-    }
-    scratch_4096::keep(sheet, index, table, item)
+    by_size!(keep, sheet, index, table, item)
 }
 
-pub fn drop_figure(sheet: &[u8], index: &[u8], table: &mut [u8], item: u64) -> Answer
-    ensures { Answered (call_on sheet.now (keeping index.now table.old) (machine_call.drop item)) result table.new }
+pub fn drop_figure(sheet: &[u8], index: &[u8], table: &mut [u8], item: u64) -> Result<(), Fault>
+    ensures { Tried (call_on sheet.now (keeping index.now table.old) (machine_call.drop item)) result table.new }
 {
-    let room = room_for(sheet);
-    if room <= scratch_128::ROOM {
-        return scratch_128::drop_figure(sheet, index, table, item);
-    }
-    if room <= scratch_1024::ROOM {
-        return scratch_1024::drop_figure(sheet, index, table, item);
-    }
-    scratch_4096::drop_figure(sheet, index, table, item)
+    by_size!(drop_figure, sheet, index, table, item)
 }
 
-pub fn step(sheet: &[u8], index: &[u8], table: &mut [u8], item: u64) -> Answer
-    ensures { Answered (call_on sheet.now (keeping index.now table.old) (machine_call.step item)) result table.new }
+pub fn step(sheet: &[u8], index: &[u8], table: &mut [u8], item: u64) -> Result<(), Fault>
+    ensures { Tried (call_on sheet.now (keeping index.now table.old) (machine_call.step item)) result table.new }
 {
-    let room = room_for(sheet);
-    if room <= scratch_128::ROOM {
-        return scratch_128::step(sheet, index, table, item);
-    }
-    if room <= scratch_1024::ROOM {
-        return scratch_1024::step(sheet, index, table, item);
-    }
-    scratch_4096::step(sheet, index, table, item)
+    by_size!(step, sheet, index, table, item)
 }
 
-pub fn ask(sheet: &[u8], index: &[u8], table: &mut [u8], item: u64) -> Reading
-    ensures { Asked (call_on sheet.now (keeping index.now table.old) (machine_call.ask item)) result table.new }
+pub fn ask(sheet: &[u8], index: &[u8], table: &mut [u8], item: u64) -> Result<Value, Fault>
+    ensures { TriedValue (call_on sheet.now (keeping index.now table.old) (machine_call.ask item)) result table.new }
 {
-    let room = room_for(sheet);
-    if room <= scratch_128::ROOM {
-        return scratch_128::ask(sheet, index, table, item);
-    }
-    if room <= scratch_1024::ROOM {
-        return scratch_1024::ask(sheet, index, table, item);
-    }
-    scratch_4096::ask(sheet, index, table, item)
+    by_size!(ask, sheet, index, table, item)
 }
 
 pub fn board(
@@ -148,28 +133,14 @@ pub fn board(
     table: &mut [u8],
     items: &[u8],
     results: &mut [u8],
-) -> Answer
-    ensures { BoardShown (call_on sheet.now (keeping index.now table.old) (machine_call.board items.now results.old)) result results.new table.new }
+) -> Result<(), Fault>
+    ensures { BoardTried (call_on sheet.now (keeping index.now table.old) (machine_call.board items.now results.old)) result results.new table.new }
 {
-    let room = room_for(sheet);
-    if room <= scratch_128::ROOM {
-        return scratch_128::board(sheet, index, table, items, results);
-    }
-    if room <= scratch_1024::ROOM {
-        return scratch_1024::board(sheet, index, table, items, results);
-    }
-    scratch_4096::board(sheet, index, table, items, results)
+    by_size!(board, sheet, index, table, items, results)
 }
 
-pub fn close(sheet: &[u8], index: &[u8], table: &mut [u8]) -> Answer
-    ensures { Answered (call_on sheet.now (keeping index.now table.old) machine_call.close) result table.new }
+pub fn close(sheet: &[u8], index: &[u8], table: &mut [u8]) -> Result<(), Fault>
+    ensures { Tried (call_on sheet.now (keeping index.now table.old) machine_call.close) result table.new }
 {
-    let room = room_for(sheet);
-    if room <= scratch_128::ROOM {
-        return scratch_128::close(sheet, index, table);
-    }
-    if room <= scratch_1024::ROOM {
-        return scratch_1024::close(sheet, index, table);
-    }
-    scratch_4096::close(sheet, index, table)
+    by_size!(close, sheet, index, table)
 }

@@ -208,10 +208,6 @@ module _ (S : Sheet) (ordered : Ordered S) (narrow : (c : ℕ) → c < size S �
         link = λ c k low listed. r.link c k (omega arith) low listed;
       }
 
--- a parent that was read in its place has a head
-pub place_low : (ps : List ℕ) {h : ℕ} → ((k : ℕ) → k < length ps → get_or ps k 0 < h) → (k p n : ℕ) → p ≡ get_or ps k 0 → n ≡ length ps → k < n → p < h
-place_low ps below k p n is counts low = rw is (below k (omega arith))
-
 -- The child that an edge leads to.
 pub record Child (S : Sheet) (p c e : ℕ) : Type 0 where
   pub place : ℕ

@@ -1,8 +1,12 @@
--- The child lists of a sheet, in two arrays: how they are built, and what they say. Edge max_parents * c + k stands for the parent that
--- item c lists in place k; 0 ends a list. Assumes nothing.
-use Rattle.std.specs.Prelude.{ℕ, zero, suc, ◌+◌, ◌*◌, ◌-◌, ◌<◌, ◌≤◌, ◌≡◌, false, List, length, get_or, set}
+-- The child lists of a sheet: how they are built, and what they say. Edge max_parents * c + k stands for the parent that
+-- item c lists in place k; 0 ends a list. They stand in one array, the kin of each item. Assumes nothing.
+use Rattle.std.specs.Prelude.{ℕ, zero, suc, ◌+◌, ◌*◌, ◌-◌, ◌<◌, ◌≤◌, ◌≡◌, Bool, true, false, cond, List, eqb, length, get_or, set, map}
+use Rattle.std.specs.Prelude as core
+use Rattle.std.specs.List.{concat, range_with_len}
 use Rattle.circuit.specs.Rules.{max_parents}
 use Rattle.circuit.specs.Sheet.{Sheet, size, parents, is_child}
+use Rattle.children.specs.declared.Kin.{Kin}
+use Rattle.children.specs.declared.Edge.{Edge}
 
 -- the edge that heads the list of each item, and the edge that follows each edge
 pub record Lists : Type 0 where
@@ -54,3 +58,40 @@ pub record Linked (S : Sheet) (heads links : List ℕ) : Type 0 where
   pub head : (p : ℕ) → p < size S → Leads S p 0 (get_or heads p 0)
   pub link : (c k : ℕ) → c < size S → k < length (parents S c)
       → Leads S (get_or (parents S c) k 0) (c + 1) (get_or links (max_parents * c + k) 0)
+
+abbrev pub heads_of : List Kin → List ℕ
+heads_of kin = map (λ k. k.child) kin
+
+-- the edges that follow an item's own, place by place
+unfoldable pub edges_of : Kin → List ℕ
+edges_of k = map (λ j. get_or k.siblings j 0) (range_with_len 0 max_parents)
+
+-- those of each item in turn: edge max_parents * c + k is followed by that of item c in place k
+abbrev pub links_of : List Kin → List ℕ
+links_of kin = concat (map edges_of kin)
+
+abbrev pub lists_of : List Kin → Lists
+lists_of kin = lists (heads_of kin) (links_of kin)
+
+-- the lists, and whether they are built
+pub record Family : Type 0 where
+  pub lists : Lists
+  pub built : Bool
+
+abbrev pub family : Lists → Bool → Family
+family l b = record { lists = l; built = b }
+
+-- the edge of a number; 0 ends a list
+abbrev pub edge_in : ℕ → core.Option Edge
+edge_in n = cond (eqb n 0) core.None (core.Some (record { number = n }))
+
+abbrev pub edge_number : core.Option Edge → ℕ
+edge_number core.None = 0
+edge_number (core.Some e) = e.number
+
+-- The child lists of the sheet: built, or with room for them and blank heads.
+pub record Kept (S : Sheet) (f : Family) : Type 0 where
+  pub head_room : size S ≤ length f.lists.heads
+  pub link_room : max_parents * size S ≤ length f.lists.links
+  pub linked : f.built ≡ true → Linked S f.lists.heads f.lists.links
+  pub blank : f.built ≡ false → (p : ℕ) → p < size S → get_or f.lists.heads p 0 ≡ 0

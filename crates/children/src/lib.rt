@@ -1,64 +1,158 @@
-// The child lists of a sheet, in two arrays. Edge MAX_PARENTS * c + k stands for the parent that item c lists in place k. `heads` holds,
-// for each item, the edge of its lowest child, and `links`, for each edge, the edge of the next child of the same parent.
-// 0 ends a list: item 0 has no parents.
+// The child lists of a sheet, in one array. Edge MAX_PARENTS * c + k stands for the parent that item c lists in place k. 0 ends a list:
+// item 0 has no parents.
 #![tactic(auto)]
 
-ghost use Rattle.std.specs.Prelude.{◌≡◌, ℕ, ◌<◌, ◌≤◌, ◌+◌, ◌*◌, length, get_or};
+ghost use Rattle.std.specs.Prelude.{◌≡◌, ℕ, true, false, ◌<◌, ◌≤◌, ◌+◌, ◌*◌, ◌/◌, length, get_or, set};
 ghost use Rattle.circuit.specs.Rules.{max_parents};
 ghost use Rattle.circuit.specs.Sheet.{size, parents_of};
-ghost use Rattle.layout.specs.Opened.{sheet_of, Located};
-ghost use Rattle.item.specs.Item.{ItemField, field_item};
-ghost use Rattle.children.specs.Children.{lists, link_places, head_places, link_all};
+ghost use Rattle.layout.specs.Opened.{sheet_of};
+ghost use Rattle.children.specs.Children.{lists, link_places, head_places, link_all, edges_of, heads_of, links_of, lists_of, family, edge_in, Kept};
 
+use item::{Item, Sheet};
+use std::marker::Model;
 use value::MAX_PARENTS;
 
-// Each edge of an item is linked to the edge that heads the list of its parent. The edges begin at `first`.
-fn link_places(s: &[u8], at: usize, heads: &[u16], links: &mut [u16], first: usize)
-    requires fact_1 { ItemField s.now at }
-    requires fact_2 { ((k : ℕ) → k < length (parents_of (field_item s.now at)) → get_or (parents_of (field_item s.now at)) k 0 < length heads.now) }
-    requires fact_3 { first + max_parents ≤ length links.old }
-    ensures { links.new ≡ link_places links.old heads.now first (parents_of (field_item s.now at)) (length (parents_of (field_item s.now at))) }
-{
-    let count = item::parent_count(s, at);
-    let mut k = 0;
-    while k < count {
-        let p = item::parent(s, at, k);
-        links[first + k] = heads[p];
-        k += 1;
+// Of an item: the edge of its lowest child, and for each place of its own parents the edge of that parent's next child. Edges stand here as
+// their numbers, 0 for none: memory is fixed, and an Option for each of them would double it.
+#[derive(Clone, Copy, PartialEq, Eq, Debug)]
+pub struct Kin {
+    child: u16,
+    siblings: [u16; MAX_PARENTS],
+}
+
+impl Kin {
+    pub const NONE: Kin = Kin {
+        child: 0,
+        siblings: [0; MAX_PARENTS],
+    };
+
+    // The edge that follows the item's own in place k.
+    #[tactic(auto, using(crate::proofs::Rows::edges_put), unfolding(circuit::specs::Rules::max_parents))]
+    fn link(&mut self, k: usize, edge: u16)
+        requires place { k < max_parents }
+        ensures child_kept { self.new.child ≡ self.old.child }
+        ensures linked { edges_of self.new ≡ set (edges_of self.old) k edge }
+    {
+        self.siblings[k] = edge;
     }
 }
 
-// Each edge of an item heads the list of its parent.
-fn head_places(s: &[u8], at: usize, heads: &mut [u16], first: usize)
-    requires fact_1 { ItemField s.now at }
-    requires fact_2 { ((k : ℕ) → k < length (parents_of (field_item s.now at)) → get_or (parents_of (field_item s.now at)) k 0 < length heads.old) }
-    requires fact_3 { first + max_parents ≤ 65_536 }
-    ensures { heads.new ≡ head_places heads.old first (parents_of (field_item s.now at)) (length (parents_of (field_item s.now at))) }
-{
-    let count = item::parent_count(s, at);
-    let mut k = 0;
-    while k < count {
-        let p = item::parent(s, at, k);
-        heads[p] = (first + k) as u16;
-        k += 1;
+// A place in which an item lists a parent: a link of that parent's list.
+#[derive(Clone, Copy, PartialEq, Eq, Debug)]
+pub struct Edge {
+    number: u16,
+}
+
+impl Edge {
+    fn at(number: u16) -> Option<Edge>
+        ensures { result ≡ edge_in number }
+    {
+        // (By if and else: with then_some the case that is refused would stand nowhere in the text.)
+        if number == 0 {
+            None
+        } else {
+            Some(Edge { number })
+        }
+    }
+
+    // The child that the edge leads to.
+    #[tactic(auto, unfolding(circuit::specs::Rules::max_parents))]
+    pub fn child(self) -> usize
+        ensures { result ≡ self.number / max_parents }
+    {
+        usize::from(self.number) / MAX_PARENTS
     }
 }
 
-// The child lists of all n items, from empty ones. The items come highest first, so that each list begins with its lowest.
-pub fn link(s: &[u8], offsets: &[usize], n: usize, heads: &mut [u16], links: &mut [u16])
-    requires fact_1 { Located s.now offsets.now }
-    requires fact_2 { n ≡ size (sheet_of s.now) }
-    requires fact_3 { n ≤ length offsets.now }
-    requires fact_4 { n ≤ length heads.old }
-    requires fact_5 { max_parents * n ≤ length links.old }
-    ensures headed { heads.new ≡ (link_all (sheet_of s.now) (lists heads.old links.old)).heads }
-    ensures linked { links.new ≡ (link_all (sheet_of s.now) (lists heads.old links.old)).links }
+// The lists, and whether they are built. They are built once, where they are needed first.
+// (A flag beside the lent array: an enum of built and not built would hold the same borrow in both its cases.)
+#[derive(Drop)]
+pub struct Children<'a> {
+    kin: &'a mut [Kin],
+    built: bool,
+}
+
+impl<'a> Model for Children<'a> {
+    ghost use Rattle.children.specs.Children.{Family, family, lists_of};
+
+    ghost Value = { Family };
+
+    ghost view = { λ c. family (lists_of c.kin.now) c.built };
+}
+
+// Each edge of item c is linked to the edge that heads the list of its parent.
+#[tactic(auto, unfolding(circuit::specs::Rules::max_parents))]
+fn link_places(kin: &mut [Kin], item: &Item<'_>, c: usize)
+    requires here { c < length kin.old }
+    requires listed { (k : ℕ) → k < length (parents_of item.now) → get_or (parents_of item.now) k 0 < length kin.old }
+    ensures { lists_of kin.new ≡ lists (heads_of kin.old) (link_places (links_of kin.old) (heads_of kin.old) (max_parents * c) (parents_of item.now) (length (parents_of item.now))) }
 {
-    let mut c = n;
-    while c > 0 {
-        c -= 1;
-        let at = offsets[c];
-        link_places(s, at, heads, links, MAX_PARENTS * c);
-        head_places(s, at, heads, MAX_PARENTS * c);
+    for k in 0..item.parent_count() {
+        let head = kin[item.parent(k)].child;
+        kin[c].link(k, head);
+    }
+}
+
+// Each edge of item c heads the list of its parent.
+#[tactic(auto, unfolding(circuit::specs::Rules::max_parents))]
+fn head_places(kin: &mut [Kin], item: &Item<'_>, c: usize)
+    requires fits { max_parents * c + max_parents ≤ 65_536 }
+    requires listed { (k : ℕ) → k < length (parents_of item.now) → get_or (parents_of item.now) k 0 < length kin.old }
+    ensures { lists_of kin.new ≡ lists (head_places (heads_of kin.old) (max_parents * c) (parents_of item.now) (length (parents_of item.now))) (links_of kin.old) }
+{
+    for k in 0..item.parent_count() {
+        kin[item.parent(k)].child = (MAX_PARENTS * c + k) as u16;
+    }
+}
+
+// The child lists of all items, from empty ones. The items come highest first, so that each list begins with its lowest.
+fn link(sheet: &Sheet<'_>, kin: &mut [Kin])
+    requires room { size (sheet_of sheet.now) ≤ length kin.old }
+    ensures { lists_of kin.new ≡ link_all (sheet_of sheet.now) (lists_of kin.old) }
+{
+    for c in (0..sheet.len()).rev() {
+        let item = sheet.item(c);
+        link_places(kin, &item, c);
+        head_places(kin, &item, c);
+    }
+}
+
+impl<'a> Children<'a> {
+    pub fn new(kin: &'a mut [Kin]) -> Children<'a>
+        ensures { result ≡ family (lists_of kin.entry.now) false }
+    {
+        Children { kin, built: false }
+    }
+
+    // Builds the lists where they are needed and are not built yet. The need is handed in, and not tested around the two calls: one clause
+    // then says for both, built or not, what holds afterwards.
+    pub fn link_once(&mut self, sheet: &Sheet<'_>, needed: bool)
+        requires kept { Kept (sheet_of sheet.now) self.old }
+        ensures kept { Kept (sheet_of sheet.now) self.new }
+        ensures there { needed ≡ true → self.new.built ≡ true }
+    {
+        if needed && !self.built {
+            link(sheet, self.kin);
+            self.built = true;
+        }
+    }
+
+    // The edge of item p's lowest child.
+    pub fn first(&self, p: usize) -> Option<Edge>
+        requires within { p < length self.now.lists.heads }
+        ensures { result ≡ edge_in (get_or self.now.lists.heads p 0) }
+    {
+        let kin = &*self.kin;
+        Edge::at(kin[p].child)
+    }
+
+    // The edge of the same parent's next child.
+    #[tactic(auto, unfolding(circuit::specs::Rules::max_parents))]
+    pub fn next(&self, edge: Edge) -> Option<Edge>
+        requires within { edge.number < length self.now.lists.links }
+        ensures { result ≡ edge_in (get_or self.now.lists.links edge.number 0) }
+    {
+        let number = usize::from(edge.number);
+        Edge::at(self.kin[number / MAX_PARENTS].siblings[number % MAX_PARENTS])
     }
 }

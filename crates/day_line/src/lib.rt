@@ -1,7 +1,9 @@
-// Text appended to the output bytes from a place on, as far as it fits. Each function gives the place after it.
+// Text appended to the output bytes from a place on, as far as it fits. Each function gives the place after it. (Bytes and place go as two:
+// in a struct that borrows the bytes, each contract would also have to say that it still holds the caller's bytes, since what is
+// left in them is promised.)
 #![tactic(auto)]
 
-ghost use Rattle.std.specs.Prelude.{◌≡◌, ◌≤◌, min, length};
+ghost use Rattle.std.specs.Prelude.{◌≤◌, length};
 ghost use Rattle.decimal.specs.Decimal.{digits};
 ghost use Rattle.printer.specs.Printing.{text_of};
 ghost use Rattle.value.specs.Meaning.{parts_of};
@@ -22,22 +24,13 @@ const SPACE: [u8; 1] = *b" ";
 
 const LINE_END: [u8; 1] = *b"\n";
 
-pub fn lesser(a: usize, b: usize) -> usize
-    ensures { result ≡ min a b }
-{
-    if a < b { a } else { b }
-}
-
+// As many of the bytes as there is room for.
 pub fn append(out: &mut [u8], at: usize, bytes: &[u8]) -> usize
     requires { at ≤ length out.old }
     ensures { Appended bytes.now out.old at result out.new }
 {
-    let n = lesser(bytes.len(), out.len() - at);
-    let mut k: usize = 0;
-    while k < n {
-        out[at + k] = bytes[k];
-        k += 1;
-    }
+    let n = bytes.len().min(out.len() - at);
+    out[at..at + n].copy_from_slice(&bytes[..n]);
     at + n
 }
 

@@ -27,13 +27,16 @@ const TEXT_BESIDES: usize = 13;
 const OUTPUT_ROOM: usize = TEXT_PER_BYTE * FILE_LIMIT + TEXT_BESIDES;
 
 // The next bytes of a file, into the front of the room for them. A read that fails gives none, as at the end.
+// (As in sheet_cases, which reads its input: one of both would be generic over Read, in a crate of its own for two short functions.)
 fn read_some(file: &mut File, bytes: &mut [u8]) -> usize
     ensures { result ≤ length bytes.new }
 {
     file.read(bytes).unwrap_or(0)
 }
 
-// Reads until there is no more room, or until the file ends or a read fails.
+// Reads until there is no more room, or until the file ends or a read fails: each turn goes on by what a read gave. (sheet_cases has the like
+// for its input: two programs, and a crate for these lines, generic in what is read, would be no plainer.)
+// (A length, and no part: the array stays the caller's, who cuts it.)
 fn fill(file: &mut File, bytes: &mut [u8]) -> usize
     ensures { IsPrefixLen result bytes.new }
 {
@@ -49,8 +52,9 @@ fn fill(file: &mut File, bytes: &mut [u8]) -> usize
 }
 
 // The first bytes of a file, as many as there is room for. A file that does not open counts as empty.
-fn load(rt: &HostRuntime, path: &str, bytes: &mut [u8]) -> usize
-    ensures { IsPrefixLen result bytes.new }
+fn load<const ROOM: usize>(rt: &HostRuntime, path: &str, bytes: &mut [u8; ROOM]) -> usize
+    ensures front { IsPrefixLen result bytes.new }
+    ensures room { length bytes.new ≡ ROOM }
 {
     match File::open(rt, path) {
         Ok(mut file) => fill(&mut file, bytes),
@@ -58,20 +62,21 @@ fn load(rt: &HostRuntime, path: &str, bytes: &mut [u8]) -> usize
     }
 }
 
-// What is taken of the two files: the room for each is the definitions', so that a sheet over the limit is known and a log is cut there.
-fn load_sheet(rt: &HostRuntime, bytes: &mut [u8; SHEET_ROOM]) -> usize
-    ensures { IsPrefixLen result bytes.new × (length bytes.new ≡ sheet_room) }
+// What is taken of the two files, sheet first: the room for each is the definitions', so that a sheet over the limit is known and a
+// log is cut there.
+fn load_files(
+    rt: &HostRuntime,
+    sheet: &mut [u8; SHEET_ROOM],
+    log: &mut [u8; FILE_LIMIT],
+) -> (usize, usize)
+    ensures sheet { IsPrefixLen result.0 sheet.new × (length sheet.new ≡ sheet_room) }
+    ensures log { IsPrefixLen result.1 log.new × (length log.new ≡ file_limit) }
 {
-    load(rt, "sheet.bin", bytes)
+    (load(rt, "sheet.bin", sheet), load(rt, "day.bin", log))
 }
 
-fn load_log(rt: &HostRuntime, bytes: &mut [u8; FILE_LIMIT]) -> usize
-    ensures { IsPrefixLen result bytes.new × (length bytes.new ≡ file_limit) }
-{
-    load(rt, "day.bin", bytes)
-}
-
-// Writes the bytes to standard output, all of them, or as many as it takes.
+// Writes the bytes to standard output, all of them, or as many as it takes. (A wrapper of its own: a crate for the three
+// programs that have one would be longer than they are.)
 fn put(rt: &HostRuntime, bytes: &[u8]) {
     let _ = rt.stdout().write_all(bytes);
 }
@@ -98,8 +103,7 @@ fn main(rt: HostRuntime) {
     let mut index = [0u8; INDEX_ROOM];
     let mut table = [0u8; TABLE_ROOM];
     let mut out = [0u8; OUTPUT_ROOM];
-    let s = load_sheet(&rt, &mut sheet);
-    let d = load_log(&rt, &mut log);
+    let (s, d) = load_files(&rt, &mut sheet, &mut log);
     show_day(
         &rt,
         &sheet[..s],

@@ -15,13 +15,11 @@ use Rattle.circuit.specs.Value.{same_number}
 use Rattle.circuit.specs.Call.{Call, post, keep, drop, step, ask}
 use Rattle.circuit.proofs.RuleLaws.{same_number_true}
 use Rattle.printer.proofs.Causes.{not_zero_lem}
-use Rattle.field.specs.Field.{cut_at}
-use Rattle.field.specs.declared.Cut.{Cut}
-use Rattle.field.specs.declared.Cut.TheVariants.{Field, Short, Absent}
+use Rattle.field.specs.Field.{Cut, absent, short, field, cut_at}
 use Rattle.layout.specs.Content.{content_at}
 use Rattle.day_meaning.specs.Orders.{post_tag, ask_tag, keep_tag, drop_tag, step_tag, post_length, call_length, item_in, kind_in, number_in, post_in, call_in, order_of}
 use Rattle.day_meaning.specs.Day.{played, fault_line, play_order, play_cut, play_from}
-use Rattle.day_meaning.specs.Causes.{FieldWrong, tag_unknown, post_length_other, call_length_other, kind_other, null_not_zero, DayFault, short, wrong, DaySound, ends, orders}
+use Rattle.day_meaning.specs.Causes.{FieldWrong, tag_unknown, post_length_other, call_length_other, kind_other, null_not_zero, DayFault, runs_past, wrong, DaySound, ends, orders}
 
 -- an order, or none where P holds
 data Orders (P : Type 0) : Option Call → Type 0 where
@@ -96,7 +94,7 @@ module _ (tag : ℕ) (content : List ℕ) where
 -- a fault is the last line, and leaves the table
 pub fault_ends : (k : ℕ) (s x d : List ℕ) (at : ℕ) (t : List ℕ) → DayFault d at → play_from (suc k) s x d at t ≡ played (fault_line at) t
 unfolding play_from
-fault_ends k s x d at t (short e) = ap (play_cut (play_from k s x d) s x d at t) e
+fault_ends k s x d at t (runs_past e) = ap (play_cut (play_from k s x d) s x d at t) e
 fault_ends k s x d at t (wrong tag start len next e w) =
     ap (play_cut (play_from k s x d) s x d at t) e
     ∙ ap (play_order (play_from k s x d) s x at t next) ((wrong_exactly tag (content_at d start len)).1 w)
@@ -106,9 +104,9 @@ pub fault_or_sound : (d : List ℕ) (at : ℕ) → ¬ DayFault d at → DaySound
 fault_or_sound d at none-there = go (cut_at d at) refl
   where
     go : (c : Cut) → cut_at d at ≡ c → DaySound d at
-    go Absent e = ends e
-    go Short e = absurd (none-there (short e))
-    go (Field tag start len next) e = order (order_of tag (content_at d start len)) refl
+    go absent e = ends e
+    go short e = absurd (none-there (runs_past e))
+    go (field tag start len next) e = order (order_of tag (content_at d start len)) refl
       where
         order : (o : Option Call) → order_of tag (content_at d start len) ≡ o → DaySound d at
         order (some c) q = orders tag start len next c e q

@@ -11,9 +11,7 @@ use Rattle.circuit.specs.Call.{Call}
 use Rattle.printer.specs.Printing.{text_of, printed}
 use Rattle.value.specs.Meaning.{parts_of}
 use Rattle.circuit.proofs.Parts.{parts_own}
-use Rattle.field.specs.Field.{cut_at}
-use Rattle.field.specs.declared.Cut.{Cut}
-use Rattle.field.specs.declared.Cut.TheVariants.{Field, Short, Absent}
+use Rattle.field.specs.Field.{Cut, absent, short, field, cut_at}
 use Rattle.field.proofs.Cutting.{FieldAt, field_iff, absent_iff}
 use Rattle.layout.specs.Content.{content_at}
 use Rattle.office.specs.Office.{call_on, keeping}
@@ -33,7 +31,7 @@ enough_fields (suc f) zero s x d t at p q = play_absent s x d t at f ((absent_if
 enough_fields (suc f) (suc g) s x d t at p q = cut (λ u next. enough_fields f g s x d u next) (cut_at d at) refl
   where
     order : ((u : List ℕ) (next : ℕ) → length d < next + f → length d < next + g → play_from f s x d next u ≡ play_from g s x d next u)
-        → (tag start len next : ℕ) → cut_at d at ≡ Field tag start len next → (o : Option Call) → order_of tag (content_at d start len) ≡ o
+        → (tag start len next : ℕ) → cut_at d at ≡ field tag start len next → (o : Option Call) → order_of tag (content_at d start len) ≡ o
         → play_from (suc f) s x d at t ≡ play_from (suc g) s x d at t
     order ih tag start len next e none o =
         play_fault s x d t at f tag start len next e o ∙ sym (play_fault s x d t at g tag start len next e o)
@@ -46,9 +44,9 @@ enough_fields (suc f) (suc g) s x d t at p q = cut (λ u next. enough_fields f g
 
     cut : ((u : List ℕ) (next : ℕ) → length d < next + f → length d < next + g → play_from f s x d next u ≡ play_from g s x d next u)
         → (c : Cut) → cut_at d at ≡ c → play_from (suc f) s x d at t ≡ play_from (suc g) s x d at t
-    cut ih Absent e = play_absent s x d t at f e ∙ sym (play_absent s x d t at g e)
-    cut ih Short e = play_short s x d t at f e ∙ sym (play_short s x d t at g e)
-    cut ih (Field tag start len next) e = order ih tag start len next e (order_of tag (content_at d start len)) refl
+    cut ih absent e = play_absent s x d t at f e ∙ sym (play_absent s x d t at g e)
+    cut ih short e = play_short s x d t at f e ∙ sym (play_short s x d t at g e)
+    cut ih (field tag start len next) e = order ih tag start len next e (order_of tag (content_at d start len)) refl
 
 -- what is printed of the kind and the number of a value is the value's text
 pub value_text : (v : Value) → well_formed v ≡ true → text_of (parts_of (kind_of v) (number_of v)) ≡ printed v

@@ -9,9 +9,7 @@ use lib.IntN.{ℤ}
 use lib.ListN.{length, take}
 use lib.ListN
 use Rattle.circuit.specs.Call.{Call, ask}
-use Rattle.field.specs.Field.{cut_at}
-use Rattle.field.specs.declared.Cut.{Cut}
-use Rattle.field.specs.declared.Cut.TheVariants.{Field, Short, Absent}
+use Rattle.field.specs.Field.{Cut, absent, short, field, cut_at}
 use Rattle.field.proofs.Cutting.{FieldAt, field_iff}
 use Rattle.layout.specs.Content.{content_at}
 use Rattle.office.specs.Office.{Given, call_on, keeping}
@@ -19,7 +17,9 @@ use Rattle.printer.specs.Printing.{text_of}
 use Rattle.value.specs.Meaning.{parts_of}
 use Rattle.day_meaning.specs.Lines.{Appended, no_line}
 use Rattle.day_meaning.specs.Orders.{order_of}
+use Rattle.day_meaning.specs.Causes.{DayFault}
 use Rattle.day_meaning.specs.Day.{answer_line, reading_line, line_of, fault_line, after, play_from, CarriedOut, PlayedOn}
+use Rattle.day_meaning.proofs.Causes.{fault_ends}
 use Rattle.day_meaning.proofs.Storing.{appended_as, appended_more}
 
 -- a number other than 0 is a refusal
@@ -53,7 +53,7 @@ carry_reading {c} {n = n} {kind = kind} {z = z} s x t item e number kinds value 
     })
 
 -- a field that was cut
-pub field_parts : {d : List ℕ} {at tag start len next : ℕ} {cut : Cut} → cut ≡ cut_at d at → cut ≡ Field tag start len next → FieldAt d at tag start len next
+pub field_parts : {d : List ℕ} {at tag start len next : ℕ} {cut : Cut} → cut ≡ cut_at d at → cut ≡ field tag start len next → FieldAt d at tag start len next
 field_parts {d} {at} {tag} {start} {len} {next} e f = (field_iff d at tag start len next).0 (sym e ∙ f)
 
 -- its content, as a part of the log
@@ -86,20 +86,20 @@ playing_start s x d t out =
 
 -- what a field does, by the cut and by the order
 module _ (s x d t : List ℕ) (at : ℕ) where
-  pub play_absent : (k : ℕ) → cut_at d at ≡ Absent → play_from (suc k) s x d at t ≡ record { text = []; table = t }
+  pub play_absent : (k : ℕ) → cut_at d at ≡ absent → play_from (suc k) s x d at t ≡ record { text = []; table = t }
   unfolding play_from
   play_absent k e = rw e
 
-  pub play_short : (k : ℕ) → cut_at d at ≡ Short → play_from (suc k) s x d at t ≡ record { text = fault_line at; table = t }
+  pub play_short : (k : ℕ) → cut_at d at ≡ short → play_from (suc k) s x d at t ≡ record { text = fault_line at; table = t }
   unfolding play_from
   play_short k e = rw e
 
-  pub play_fault : (k tag start len next : ℕ) → cut_at d at ≡ Field tag start len next → order_of tag (content_at d start len) ≡ none
+  pub play_fault : (k tag start len next : ℕ) → cut_at d at ≡ field tag start len next → order_of tag (content_at d start len) ≡ none
       → play_from (suc k) s x d at t ≡ record { text = fault_line at; table = t }
   unfolding play_from
   play_fault k tag start len next e o = rw (e, o)
 
-  pub play_call_lem : (k tag start len next : ℕ) (c : Call) → cut_at d at ≡ Field tag start len next → order_of tag (content_at d start len) ≡ some c
+  pub play_call_lem : (k tag start len next : ℕ) (c : Call) → cut_at d at ≡ field tag start len next → order_of tag (content_at d start len) ≡ some c
       → play_from (suc k) s x d at t ≡ after (line_of c (call_on s (keeping x t) c)) (play_from k s x d next (call_on s (keeping x t) c).after.table)
   unfolding play_from
   play_call_lem k tag start len next c e o = rw (e, o)
@@ -118,31 +118,25 @@ module _ {s x d t₀ out₀ t out : List ℕ} {at count : ℕ} (w : Playing s x 
           in
           rw whole (record { lines = appended_more w.lines p; table_is = refl })
 
-  pub playing_end : {cut : Cut} → cut ≡ cut_at d at → cut ≡ Absent → PlayedOn (play_from (suc (length d)) s x d 0 t₀) out₀ count t out
-  playing_end e f = closes (λ k. play_absent s x d t at k (sym e ∙ f)) nothing
+  pub playing_end : cut_at d at ≡ absent → PlayedOn (play_from (suc (length d)) s x d 0 t₀) out₀ count t out
+  playing_end e = closes (λ k. play_absent s x d t at k e) nothing
     where
       nothing : Appended [] out count count out
       nothing = record { place = omega (arith, w.lines.place, ap length w.lines.bytes, lib.Seq.length-sets out₀ 0 w.text); bytes = refl }
 
-  pub playing_short : {cut : Cut} {out' : List ℕ} {count' : ℕ} → cut ≡ cut_at d at → cut ≡ Short → Appended (fault_line at) out count count' out'
+  pub playing_fault : {out' : List ℕ} {count' : ℕ} → DayFault d at → Appended (fault_line at) out count count' out'
       → PlayedOn (play_from (suc (length d)) s x d 0 t₀) out₀ count' t out'
-  playing_short e f p = closes (λ k. play_short s x d t at k (sym e ∙ f)) p
+  playing_fault f p = closes (λ k. fault_ends k s x d at t f) p
 
-  pub playing_fault : {cut : Cut} {tag start len next count' : ℕ} {out' : List ℕ} → cut ≡ cut_at d at → cut ≡ Field tag start len next
-      → order_of tag (content_at d start len) ≡ none → Appended (fault_line at) out count count' out'
-      → PlayedOn (play_from (suc (length d)) s x d 0 t₀) out₀ count' t out'
-  playing_fault {tag = tag} {start = start} {len = len} {next = next} e f o p =
-      closes (λ k. play_fault s x d t at k tag start len next (sym e ∙ f) o) p
-
-  pub playing_step : {cut : Cut} {tag start len next count' : ℕ} {t' out' : List ℕ} (c : Call) → cut ≡ cut_at d at → cut ≡ Field tag start len next
+  pub playing_step : {tag start len next count' : ℕ} {t' out' : List ℕ} (c : Call) → cut_at d at ≡ field tag start len next
       → order_of tag (content_at d start len) ≡ some c → length t' ≡ length t → CarriedOut c (call_on s (keeping x t) c) out count count' t' out'
       → Playing s x d t₀ out₀ t' out' next count'
-  playing_step {cut} {tag} {start} {len} {next} {count'} {t'} {out'} c e f o same p = go w.fuel refl
+  playing_step {tag} {start} {len} {next} {count'} {t'} {out'} c e o same p = go w.fuel refl
     where
       go : (k : ℕ) → w.fuel ≡ k → Playing s x d t₀ out₀ t' out' next count'
       go zero h = absurd (omega (arith, w.within, w.enough))
       go (suc k) h =
-          let cut_is : FieldAt d at tag start len next = field_parts e f in
+          let cut_is : FieldAt d at tag start len next = field_parts refl e in
           let line : List ℕ = line_of c (call_on s (keeping x t) c) in
           record {
             fuel = k;
@@ -154,7 +148,7 @@ module _ {s x d t₀ out₀ t out : List ℕ} {at count : ℕ} (w : Playing s x 
             goes_on =
                 w.goes_on
                 ∙ ap (λ f. after w.text (play_from f s x d at t)) h
-                ∙ ap (λ q. after w.text q) (play_call_lem s x d t at k tag start len next c (sym e ∙ f) o)
+                ∙ ap (λ q. after w.text q) (play_call_lem s x d t at k tag start len next c e o)
                 ∙ ap (λ l. record { text = l; table = (play_from k s x d next (call_on s (keeping x t) c).after.table).table })
                 (sym (append_assoc w.text line (play_from k s x d next (call_on s (keeping x t) c).after.table).text))
                 ∙ ap (λ q. after (w.text ++ line) (play_from k s x d next q)) (sym p.table_is);

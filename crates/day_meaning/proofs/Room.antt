@@ -12,9 +12,7 @@ use lib.ListN
 use lib.Seq.{get_or-take, get_or-drop, take_all, length-take-le}
 use Rattle.circuit.specs.Call.{bare, Call, post, keep, drop, step, ask, board, close, swap}
 use Rattle.circuit.specs.Calls.{first_cause}
-use Rattle.field.specs.Field.{cut_at, Bytes}
-use Rattle.field.specs.declared.Cut.{Cut}
-use Rattle.field.specs.declared.Cut.TheVariants.{Field, Short, Absent}
+use Rattle.field.specs.Field.{Cut, absent, short, field, cut_at, Bytes}
 use Rattle.field.proofs.Cutting.{FieldAt, field_iff, le16_small}
 use Rattle.layout.specs.Index.{index_width}
 use Rattle.layout.specs.Read.{Placed, opens, read_sheet}
@@ -182,7 +180,7 @@ module _ (s x d : List ℕ) (b : Bytes d) (n : length d ≤ file_limit) where
   room zero t at h = unfold play_from in omega arith
   room (suc f) t at h = cut (λ u next k. room f u next k) (cut_at d at) refl
     where
-      order : ((u : List ℕ) (next : ℕ) → next ≤ length d → Room f u next) → (tag start len next : ℕ) → cut_at d at ≡ Field tag start len next
+      order : ((u : List ℕ) (next : ℕ) → next ≤ length d → Room f u next) → (tag start len next : ℕ) → cut_at d at ≡ field tag start len next
           → (o : Option Call) → order_of tag (content_at d start len) ≡ o → Room (suc f) t at
       order ih tag start len next e none o =
           rw (play_fault s x d t at f tag start len next e o) (omega (arith, fault_short at (omega arith)))
@@ -192,9 +190,9 @@ module _ (s x d : List ℕ) (b : Bytes d) (n : length d ≤ file_limit) where
           (call_room f t at tag start len next c w o (ih (call_on s (keeping x t) c).after.table next w.next_in))
 
       cut : ((u : List ℕ) (next : ℕ) → next ≤ length d → Room f u next) → (c : Cut) → cut_at d at ≡ c → Room (suc f) t at
-      cut ih Absent e = rw (play_absent s x d t at f e) (omega arith)
-      cut ih Short e = rw (play_short s x d t at f e) (omega (arith, fault_short at (omega arith)))
-      cut ih (Field tag start len next) e = order ih tag start len next e (order_of tag (content_at d start len)) refl
+      cut ih absent e = rw (play_absent s x d t at f e) (omega arith)
+      cut ih short e = rw (play_short s x d t at f e) (omega (arith, fault_short at (omega arith)))
+      cut ih (field tag start len next) e = order ih tag start len next e (order_of tag (content_at d start len)) refl
 
 -- the text of a day whose sheet opens
 pub day_room : (s d x t : List ℕ) → (open_on bare s (keeping x t)).number ≡ 0 → Bytes d → length d ≤ file_limit
@@ -225,9 +223,9 @@ run_room s d x t b n = go (too_long s) refl
     go true e =
         rw ((long_refused s d x t).only (ltb-true file_limit (length s) e)) (omega (arith, last_short sheet_word long_number 0 (omega arith) (omega arith)))
     go false e =
-        let short : length s ≤ file_limit = ltb-false file_limit (length s) e in
-        rw ((long_refused s d x t).otherwise (λ h. omega (arith, h, short)))
-        (text_room s d (take (index_size s) x) (take (table_size s) t) b short n)
+        let fits : length s ≤ file_limit = ltb-false file_limit (length s) e in
+        rw ((long_refused s d x t).otherwise (λ h. omega (arith, h, fits)))
+        (text_room s d (take (index_size s) x) (take (table_size s) t) b fits n)
 
 -- What the program lends is enough: the whole text of the day is in the output.
 pub day_shown : {s d x t out x' t' out' : List ℕ} {count : ℕ} → DayLent s d x t out → Bytes d → Ran (run_day s d x t) out count x' t' out'

@@ -1,20 +1,21 @@
--- Text stored from a place on, as far as it fits: byte by byte, text after text, and from the front. Assumes nothing.
+-- Text stored from a place on, as far as it fits: in one copy, text after text, and from the front. Assumes nothing.
 use Prim.Native.Nat.{ℕ, suc, ◌+◌, ◌-◌, ◌≤◌, ◌<◌, min}
 use mathlib.Core.Path.{◌≡◌, refl, sym, ap, ◌∙◌}
 use mathlib.Core.Bool.{Bool, true, false, cond}
 use mathlib.Core.List.{List, [], ◌∷◌, ◌++◌}
 use mathlib.Core.Option.{Option, none, some}
 use native.Mathlib.Nat.{add-zero}
-use native.Mathlib.Numerals.{add-one}
 use native.Mathlib.Omega.{arith}
 use borrow.Author.Tests.{leb-true, leb-false}
 use lib.Dec.{leb, eqb}
 use lib.IntN.{ℤ}
-use lib.ListN.{length, take, drop, set, get_or, length-set, length-append, take-append-drop}
-use lib.Seq.{sets, length-sets, set_out, take-suc, take_all, length-take-le}
+use lib.ListN.{length, take, drop, set, length-set, length-append, take-append-drop}
+use lib.Seq.{sets, length-sets, set_out, take_all, length-take-le}
+use borrow.Rule.Slice.PartMut.{put_mid}
 use Rattle.circuit.specs.Value.{Value}
 use Rattle.printer.specs.Printing.{text_of, part_of, least_scratch, scratch_short}
 use Rattle.value.specs.Meaning.{parts_of}
+use Rattle.word.proofs.Bytes.{part_sets}
 use Rattle.circuit.specs.Calls.{test, first_cause, is_none}
 use Rattle.day_meaning.specs.Lines.{written, written_count, Appended}
 
@@ -30,15 +31,6 @@ sets_append (x ∷ xs) ys l i =
     let e : suc i + length xs ≡ i + suc (length xs) = omega arith in
     sets_append xs ys (set l i x) (suc i) ∙ ap (λ k. sets (sets (set l i x) (suc i) xs) k ys) e
 
--- a turn of the loop that copies
-pub copy_more : (vs l : List ℕ) (i k : ℕ) → k < length vs → set (sets l i (take k vs)) (i + k) (get_or vs k 0) ≡ sets l i (take (k + 1) vs)
-copy_more vs l i k h =
-    let n : length (take k vs) ≡ k = length-take-le k vs (omega arith) in
-    let one_more : take (k + 1) vs ≡ take k vs ++ (get_or vs k 0 ∷ []) = rw add-one (take-suc vs k 0 h) in
-    ap (λ j. set (sets l i (take k vs)) (i + j) (get_or vs k 0)) (sym n)
-    ∙ sym (sets_append (take k vs) (get_or vs k 0 ∷ []) l i)
-    ∙ ap (λ t. sets l i t) (sym one_more)
-
 -- what has room is all that is stored
 pub copied : (vs l : List ℕ) (i n : ℕ) → n ≡ min (length vs) (length l - i) → sets l i (take n vs) ≡ sets l i vs
 copied vs l i n e = go (leb (length vs) n) refl
@@ -52,6 +44,15 @@ copied vs l i n e = go (leb (length vs) n) refl
         sym (sets_out (drop n vs) (sets l i (take n vs)) (i + length (take n vs)) full)
         ∙ sym (sets_append (take n vs) (drop n vs) l i)
         ∙ ap (λ x. sets l i x) (take-append-drop n vs)
+
+-- a part written over: the first n bytes of a text, as many as have room
+pub appended_part : (text out ys : List ℕ) (at k n : ℕ) → at ≤ length out → k ≡ n → n ≡ min (length text) (length out - at) → ys ≡ take n text → Appended text out at (at + n) (put_mid at k out ys)
+appended_part text out ys at k n h same e y =
+    let m : length ys ≡ n = ap length y ∙ length-take-le n text (omega arith) in
+    record {
+      place = omega arith;
+      bytes = part_sets at k out ys (omega arith) (omega arith) ∙ ap (λ t. sets out at t) y ∙ copied text out at n e;
+    }
 
 -- text after text
 pub appended_more : {xs ys before mid after : List ℕ} {at next last : ℕ} → Appended xs before at next mid → Appended ys mid next last after

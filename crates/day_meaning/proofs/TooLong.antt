@@ -15,9 +15,7 @@ use lib.ListN.{length, take, get_or, length-take}
 use lib.ListN
 use Rattle.circuit.specs.Value.{Value, null, out, num}
 use Rattle.circuit.specs.Call.{bare, Call, post, keep, drop, step, ask, board, close, swap}
-use Rattle.field.specs.Field.{cut_at}
-use Rattle.field.specs.declared.Cut.{Cut}
-use Rattle.field.specs.declared.Cut.TheVariants.{Field, Short, Absent}
+use Rattle.field.specs.Field.{Cut, absent, short, field, cut_at}
 use Rattle.layout.specs.Content.{content_at}
 use Rattle.decimal.specs.Decimal.{digit, digits_up_to, digits, decimal, AllDigits}
 use Rattle.decimal.proofs.Digits.{digits_small}
@@ -118,9 +116,9 @@ play_lacks (suc f) s x d at t = cut (λ next u. play_lacks f s x d next u) (cut_
         lacks_both H (line_of c g) (play_from f s x d next g.after.table).text (line_lacks c g) (ih next g.after.table)
 
     cut : ((next : ℕ) (u : List ℕ) → lacks H (play_from f s x d next u).text ≡ true) → (c : Cut) → lacks H (play_cut (play_from f s x d) s x d at t c).text ≡ true
-    cut ih Absent = refl
-    cut ih Short = fault_lacks at
-    cut ih (Field tag start len next) = order ih next (order_of tag (content_at d start len))
+    cut ih absent = refl
+    cut ih short = fault_lacks at
+    cut ih (field tag start len next) = order ih next (order_of tag (content_at d start len))
 
 -- a text without an `H` has no `SHEET` line
 without-H : (number at : ℕ) (text : List ℕ) → lacks H text ≡ true → IsIn (sheet_line number at) text → ⊥
@@ -177,10 +175,10 @@ long_refused s d x t = go (too_long s) refl
         }
     go false e =
         let is : run_day s d x t ≡ read_day s d x t = rw e in
-        let short : length s ≤ file_limit = ltb-false file_limit (length s) e in
+        let fits : length s ≤ file_limit = ltb-false file_limit (length s) e in
         record {
-          exactly = (λ i. absurd (read_lacks s d x t (rw is at i)), λ h. absurd (omega (arith, h, short)));
-          only = λ h. absurd (omega (arith, h, short));
+          exactly = (λ i. absurd (read_lacks s d x t (rw is at i)), λ h. absurd (omega (arith, h, fits)));
+          only = λ h. absurd (omega (arith, h, fits));
           otherwise = λ h. is;
         }
 

@@ -2,8 +2,7 @@
 use Rattle.std.specs.Prelude.{ℕ, ◌<◌, ◌≡◌, List, ◌++◌, ◌↔◌, pos, length}
 use Rattle.std.proofs.Math.Option.{some}
 use Rattle.circuit.specs.Call.{Call}
-use Rattle.field.specs.Field.{cut_at}
-use Rattle.field.specs.declared.Cut.TheVariants.{Field, Short, Absent}
+use Rattle.field.specs.Field.{absent, short, field, cut_at}
 use Rattle.layout.specs.Content.{content_at}
 use Rattle.day_meaning.specs.Orders.{post_tag, ask_tag, keep_tag, drop_tag, step_tag, post_length, call_length, kind_in, number_in, order_of}
 use Rattle.day_meaning.specs.Day.{ended, sheet_line, file_limit, long_number, read_day, run_day}
@@ -18,13 +17,13 @@ pub data FieldWrong (tag : ℕ) (content : List ℕ) : Type 0 where
 
 -- the field of the log d at an offset is short, or wrong
 pub data DayFault (d : List ℕ) (at : ℕ) : Type 0 where
-  short : cut_at d at ≡ Short → DayFault d at
-  wrong : (tag start len next : ℕ) → cut_at d at ≡ Field tag start len next → FieldWrong tag (content_at d start len) → DayFault d at
+  runs_past : cut_at d at ≡ short → DayFault d at
+  wrong : (tag start len next : ℕ) → cut_at d at ≡ field tag start len next → FieldWrong tag (content_at d start len) → DayFault d at
 
 -- no fault: the log ends there, or the field orders a call
 pub data DaySound (d : List ℕ) (at : ℕ) : Type 0 where
-  ends : cut_at d at ≡ Absent → DaySound d at
-  orders : (tag start len next : ℕ) (c : Call) → cut_at d at ≡ Field tag start len next → order_of tag (content_at d start len) ≡ some c → DaySound d at
+  ends : cut_at d at ≡ absent → DaySound d at
+  orders : (tag start len next : ℕ) (c : Call) → cut_at d at ≡ field tag start len next → order_of tag (content_at d start len) ≡ some c → DaySound d at
 
 -- 19: the sheet is over 65,536 bytes
 abbrev pub SheetLong : List ℕ → Type 0

@@ -4,9 +4,7 @@ use Rattle.std.specs.Prelude.{ℕ, zero, suc, ◌*◌, ◌≡◌, Bool, cond, Li
 use Rattle.std.proofs.Math.Option.{Option, none, some}
 use Rattle.std.proofs.Math.ListN
 use Rattle.circuit.specs.Call.{Call, post, keep, drop, step, ask, board, close, swap, bare}
-use Rattle.field.specs.Field.{cut_at}
-use Rattle.field.specs.declared.Cut.{Cut}
-use Rattle.field.specs.declared.Cut.TheVariants.{Field, Short, Absent}
+use Rattle.field.specs.Field.{Cut, absent, short, field, cut_at}
 use Rattle.layout.specs.Content.{content_at}
 use Rattle.layout.specs.Room.{count_said}
 use Rattle.layout.specs.Index.{index_width}
@@ -73,9 +71,9 @@ play_order rest s x at t next (some c) = play_call rest next c (call_on s (keepi
 
 -- what stands at an offset: a field, a field that runs past the end, or the end of the day
 abbrev pub play_cut : (ℕ → List ℕ → Played) → List ℕ → List ℕ → List ℕ → ℕ → List ℕ → Cut → Played
-play_cut rest s x d at t Absent = played [] t
-play_cut rest s x d at t Short = played (fault_line at) t
-play_cut rest s x d at t (Field tag start len next) = play_order rest s x at t next (order_of tag (content_at d start len))
+play_cut rest s x d at t absent = played [] t
+play_cut rest s x d at t short = played (fault_line at) t
+play_cut rest s x d at t (field tag start len next) = play_order rest s x at t next (order_of tag (content_at d start len))
 
 -- The day log d from an offset on, with the sheet s, the index x and the table t. The first argument bounds the number of
 -- fields; one more than the length of the log is enough, since a field has at least 3 bytes.

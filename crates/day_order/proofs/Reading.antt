@@ -14,20 +14,14 @@ pub post_length_lem : (content : List ℕ) → (length content ≡ post_length �
 unfolding post_in
 post_length_lem content h = rw (ne_eqb (length content) post_length h)
 
-pub post_good : (content : List ℕ) (item kind : ℕ) (z y : ℤ) → length content ≡ post_length → item ≡ item_in content → kind_in content ≡ kind → z ≡ number_in content → y ≡ z
-    → kind_allowed kind z ≡ true → some (post item kind y) ≡ post_in content
+pub post_good : (content : List ℕ) (item kind : ℕ) (y : ℤ) → length content ≡ post_length → item ≡ item_in content → kind ≡ kind_in content → y ≡ number_in content
+    → kind_allowed (kind_in content) y ≡ true → some (post item kind y) ≡ post_in content
 unfolding post_in
-post_good content item kind z y n i k e f h =
-    rw (eq-eqb (length content) post_length n, k, ← e, h, ← i, f)
+post_good content item kind y n i k e f = rw (eq-eqb (length content) post_length n, ← e, f, ← i, ← k)
 
-pub post_bad : (content : List ℕ) (kind : ℕ) (z : ℤ) → length content ≡ post_length → kind_in content ≡ kind → z ≡ number_in content
-    → kind_allowed kind z ≡ false → none ≡ post_in content
+pub post_bad : (content : List ℕ) (y : ℤ) → length content ≡ post_length → y ≡ number_in content → kind_allowed (kind_in content) y ≡ false → none ≡ post_in content
 unfolding post_in
-post_bad content kind z n k e h = rw (eq-eqb (length content) post_length n, k, ← e, h)
-
--- kind 1 asks for 0, another kind than 1 or 3 is none
-pub kind_other_lem : (kind : ℕ) (z : ℤ) → (kind ≡ 1 → ⊥) → (kind ≡ 3 → ⊥) → kind_allowed kind z ≡ false
-kind_other_lem kind z one three = rw (ne_eqb kind 1 one, ne_eqb kind 3 three)
+post_bad content y n e f = rw (eq-eqb (length content) post_length n, ← e, f)
 
 pub order_post : (tag : ℕ) (content : List ℕ) → tag ≡ post_tag → order_of tag content ≡ post_in content
 unfolding order_of

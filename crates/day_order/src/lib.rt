@@ -2,8 +2,11 @@
 #![tactic(auto)]
 
 ghost use Rattle.std.specs.Prelude.{◌≡◌};
-ghost use Rattle.day_meaning.specs.Orders.{order_of, post_in};
-ghost use Rattle.day_order.specs.Orders.{ordered_meaning};
+ghost use Rattle.day_meaning.specs.Orders.{kind_allowed, order_of, post_in};
+ghost use Rattle.day_order.specs.Orders.{order_in, Reads};
+
+use cause::Cause;
+use field::NoField;
 
 // The tags of the fields.
 const POST_TAG: u8 = 16;
@@ -28,8 +31,9 @@ const KIND_AT: usize = 2;
 
 const NUMBER_AT: usize = 3;
 
-// A call that a field orders.
-#[derive(Clone, Copy)]
+// A call that a field orders. (A post's kind and number are no Value: a number beyond the range is in form here, and it is the call that
+// refuses it, with 13.)
+#[derive(Clone, Copy, PartialEq, Eq, Debug)]
 pub enum Order {
     Post { item: u64, kind: u64, number: i64 },
     Ask(u64),
@@ -38,59 +42,78 @@ pub enum Order {
     Step(u64),
 }
 
-// What a whole field is.
-#[derive(Clone, Copy)]
-pub enum Ordered {
-    Sound(Order),
-    Fault,
+// An order, and the offset of the field after its own.
+#[derive(Clone, Copy, PartialEq, Eq, Debug)]
+pub struct Placed {
+    pub order: Order,
+    pub next: usize,
 }
 
-// A post: kind 1 with number 0, or kind 3.
-fn post_in(content: &[u8]) -> Ordered
-    ensures { ordered_meaning result ≡ post_in content.now }
+// Whether a post may have the kind and the number: kind 1 with number 0, or kind 3.
+fn kind_allowed(kind: u8, number: i64) -> bool
+    ensures { result ≡ kind_allowed kind number }
+{
+    match kind {
+        1 => number == 0,
+        3 => true,
+        _ => false,
+    }
+}
+
+// The post of a content, if it is one.
+fn post_in(content: &[u8]) -> Option<Order>
+    ensures { order_in result ≡ post_in content.now }
 {
     if content.len() != POST_LENGTH {
-        return Ordered::Fault;
+        return None;
     }
+    // by `as`, since u64 has no From of a usize
     let item = field::u16_at(content, ITEM_AT) as u64;
+    let kind = content[KIND_AT];
     let number = word::read_i64(content, NUMBER_AT);
-    match content[KIND_AT] {
-        1 => {
-            if number == 0 {
-                Ordered::Sound(Order::Post {
-                    item,
-                    kind: 1,
-                    number,
-                })
-            } else {
-                Ordered::Fault
-            }
-        }
-        3 => Ordered::Sound(Order::Post {
+    // (By if and else: with then_some the case that is refused would stand nowhere in the text.)
+    if kind_allowed(kind, number) {
+        Some(Order::Post {
             item,
-            kind: 3,
+            kind: u64::from(kind),
             number,
-        }),
-        _ => Ordered::Fault,
+        })
+    } else {
+        None
     }
 }
 
-// The order of a field, by its tag and content.
-pub fn order_of(tag: u8, content: &[u8]) -> Ordered
-    ensures { ordered_meaning result ≡ order_of tag content.now }
+// The order of a field, by its tag and content; none is a fault.
+pub fn order_of(tag: u8, content: &[u8]) -> Option<Order>
+    ensures { order_in result ≡ order_of tag content.now }
 {
     if tag == POST_TAG {
         return post_in(content);
     }
     if content.len() != CALL_LENGTH {
-        return Ordered::Fault;
+        return None;
     }
     let item = field::u16_at(content, ITEM_AT) as u64;
     match tag {
-        ASK_TAG => Ordered::Sound(Order::Ask(item)),
-        KEEP_TAG => Ordered::Sound(Order::Keep(item)),
-        DROP_TAG => Ordered::Sound(Order::Drop(item)),
-        STEP_TAG => Ordered::Sound(Order::Step(item)),
-        _ => Ordered::Fault,
+        ASK_TAG => Some(Order::Ask(item)),
+        KEEP_TAG => Some(Order::Keep(item)),
+        DROP_TAG => Some(Order::Drop(item)),
+        STEP_TAG => Some(Order::Step(item)),
+        _ => None,
+    }
+}
+
+// The order at an offset of a day log; none at the log's end. A field that runs past the end, or orders nothing, is a fault.
+pub fn order_at(log: &[u8], at: usize) -> Result<Option<Placed>, Cause>
+    ensures { Reads log.now at result }
+{
+    match field::field_at(log, at) {
+        Err(NoField::Absent) => Ok(None),
+        Err(NoField::Short) => Err(Cause::DayField),
+        Ok(field) => {
+            let next = field.next;
+            let order = order_of(field.tag, &log[field.start..next]).ok_or(Cause::DayField)?;
+            Ok(Some(Placed { order, next }))
+        }
     }
 }

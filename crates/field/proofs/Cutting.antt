@@ -13,9 +13,7 @@ use mir.Syntax.{w8}
 use mir.Val.{Fits}
 use borrow.Author.Tests.{le-leb, lt-leb, lt-ltb, le-ltb}
 use Rattle.field.specs.Bytes.{Bytes}
-use Rattle.field.specs.Field.{header_length, le16, len_at, cut_at, field_bytes}
-use Rattle.field.specs.declared.Cut.{Cut}
-use Rattle.field.specs.declared.Cut.TheVariants.{Field, Short, Absent}
+use Rattle.field.specs.Field.{Cut, absent, short, field, header_length, le16, len_at, cut_at, field_bytes}
 
 -- what the rule for a slice of bytes gives, as `Bytes` has it
 pub slice_bytes : (s : List ℕ) → ((i : ℕ) → Fits w8 (get_or s i 0)) → Bytes s
@@ -38,34 +36,34 @@ le16_high low high l = omega arith
 -- The four ways in which a cut goes.
 
 module _ (s : List ℕ) (at : ℕ) where
-  pub cut_absent : length s ≤ at → cut_at s at ≡ Absent
+  pub cut_absent : length s ≤ at → cut_at s at ≡ absent
   unfolding cut_at
   cut_absent h = simp (le-leb (length s) at h)
 
-  pub cut_no_header : at < length s → length s < at + header_length → cut_at s at ≡ Short
+  pub cut_no_header : at < length s → length s < at + header_length → cut_at s at ≡ short
   unfolding cut_at
   cut_no_header h k = simp (lt-leb (length s) at h, lt-ltb (length s) (at + header_length) k)
 
-  pub cut_no_content : at + header_length ≤ length s → length s < at + header_length + len_at s at → cut_at s at ≡ Short
+  pub cut_no_content : at + header_length ≤ length s → length s < at + header_length + len_at s at → cut_at s at ≡ short
   unfolding cut_at
   cut_no_content h k =
       simp (lt-leb (length s) at (omega arith), le-ltb (length s) (at + header_length) h, lt-ltb (length s) (at + header_length + len_at s at) k)
 
-  pub cut_whole : at + header_length + len_at s at ≤ length s → cut_at s at ≡ Field (get_or s at 0) (at + header_length) (len_at s at) (at + header_length + len_at s at)
+  pub cut_whole : at + header_length + len_at s at ≤ length s → cut_at s at ≡ field (get_or s at 0) (at + header_length) (len_at s at) (at + header_length + len_at s at)
   unfolding cut_at
   cut_whole h =
       simp (lt-leb (length s) at (omega arith), le-ltb (length s) (at + header_length) (omega arith), le-ltb (length s) (at + header_length + len_at s at) h)
 
   -- the same, with a name for the length
-  pub cut_whole_at : (len : ℕ) → len ≡ len_at s at → at + header_length + len ≤ length s → cut_at s at ≡ Field (get_or s at 0) (at + header_length) len (at + header_length + len)
+  pub cut_whole_at : (len : ℕ) → len ≡ len_at s at → at + header_length + len ≤ length s → cut_at s at ≡ field (get_or s at 0) (at + header_length) len (at + header_length + len)
   cut_whole_at len e h = rw e (cut_whole (rw e at h))
 
 -- `Cutting s at c`: c is what is cut at the offset, and why
 pub data Cutting (s : List ℕ) (at : ℕ) : Cut → Type 0 where
-  absent : length s ≤ at → Cutting s at Absent
-  no_header : at < length s → length s < at + header_length → Cutting s at Short
-  no_content : at + header_length ≤ length s → length s < at + header_length + len_at s at → Cutting s at Short
-  whole : at + header_length + len_at s at ≤ length s → Cutting s at (Field (get_or s at 0) (at + header_length) (len_at s at) (at + header_length + len_at s at))
+  at_end : length s ≤ at → Cutting s at absent
+  no_header : at < length s → length s < at + header_length → Cutting s at short
+  no_content : at + header_length ≤ length s → length s < at + header_length + len_at s at → Cutting s at short
+  whole : at + header_length + len_at s at ≤ length s → Cutting s at (field (get_or s at 0) (at + header_length) (len_at s at) (at + header_length + len_at s at))
 
 pub cutting : (s : List ℕ) (at : ℕ) → Cutting s at (cut_at s at)
 cutting s at = outer (dec_le (length s) at)
@@ -79,7 +77,7 @@ cutting s at = outer (dec_le (length s) at)
     header h (no k) = rw (cut_no_header s at h (omega arith)) (no_header h (omega arith))
 
     outer : Dec (length s ≤ at) → Cutting s at (cut_at s at)
-    outer (yes h) = rw (cut_absent s at h) (absent h)
+    outer (yes h) = rw (cut_absent s at h) (at_end h)
     outer (no h) = header (omega arith) (dec_le (at + header_length) (length s))
 
 -- What each variant says.
@@ -93,47 +91,47 @@ pub record FieldAt (s : List ℕ) (at tag start len next : ℕ) : Type 0 where
   pub next_in : next ≤ length s
 
 module _ (s : List ℕ) (at : ℕ) where
-  pub absent_iff : cut_at s at ≡ Absent ↔ length s ≤ at
+  pub absent_iff : cut_at s at ≡ absent ↔ length s ≤ at
   absent_iff = (go (cut_at s at) (cutting s at), cut_absent s at)
     where
-      go : (c : Cut) → Cutting s at c → c ≡ Absent → length s ≤ at
-      go Absent (absent h) e = h
-      go Short (no_header h k) e = let z : ◌≡◌ {A = ℕ} 0 1 = cc in omega arith
-      go Short (no_content h k) e = let z : ◌≡◌ {A = ℕ} 0 1 = cc in omega arith
-      go (Field t b l n) (whole h) e = let z : ◌≡◌ {A = ℕ} 0 1 = cc in omega arith
+      go : (c : Cut) → Cutting s at c → c ≡ absent → length s ≤ at
+      go absent (at_end h) e = h
+      go short (no_header h k) e = let z : ◌≡◌ {A = ℕ} 0 1 = cc in omega arith
+      go short (no_content h k) e = let z : ◌≡◌ {A = ℕ} 0 1 = cc in omega arith
+      go (field t b l n) (whole h) e = let z : ◌≡◌ {A = ℕ} 0 1 = cc in omega arith
 
-  pub short_iff : cut_at s at ≡ Short ↔ (at < length s) × (length s < at + header_length ⊎ length s < at + header_length + len_at s at)
+  pub short_iff : cut_at s at ≡ short ↔ (at < length s) × (length s < at + header_length ⊎ length s < at + header_length + len_at s at)
   short_iff = (go (cut_at s at) (cutting s at), back)
     where
-      go : (c : Cut) → Cutting s at c → c ≡ Short → (at < length s) × (length s < at + header_length ⊎ length s < at + header_length + len_at s at)
-      go Absent (absent h) e = let z : ◌≡◌ {A = ℕ} 0 1 = cc in absurd (omega arith)
-      go Short (no_header h k) e = (h, inl k)
-      go Short (no_content h k) e = (omega arith, inr k)
-      go (Field t b l n) (whole h) e = let z : ◌≡◌ {A = ℕ} 0 1 = cc in absurd (omega arith)
+      go : (c : Cut) → Cutting s at c → c ≡ short → (at < length s) × (length s < at + header_length ⊎ length s < at + header_length + len_at s at)
+      go absent (at_end h) e = let z : ◌≡◌ {A = ℕ} 0 1 = cc in absurd (omega arith)
+      go short (no_header h k) e = (h, inl k)
+      go short (no_content h k) e = (omega arith, inr k)
+      go (field t b l n) (whole h) e = let z : ◌≡◌ {A = ℕ} 0 1 = cc in absurd (omega arith)
 
-      content : at < length s → length s < at + header_length + len_at s at → Dec (length s < at + header_length) → cut_at s at ≡ Short
+      content : at < length s → length s < at + header_length + len_at s at → Dec (length s < at + header_length) → cut_at s at ≡ short
       content h k (yes l) = cut_no_header s at h l
       content h k (no l) = cut_no_content s at (omega arith) k
 
-      back : (at < length s) × (length s < at + header_length ⊎ length s < at + header_length + len_at s at) → cut_at s at ≡ Short
+      back : (at < length s) × (length s < at + header_length ⊎ length s < at + header_length + len_at s at) → cut_at s at ≡ short
       back p = ⊎_elim (cut_no_header s at p.0) (λ k. content p.0 k (dec_lt (length s) (at + header_length))) p.1
 
   module _ (tag start len next : ℕ) where
-    pub field_iff : cut_at s at ≡ Field tag start len next ↔ FieldAt s at tag start len next
+    pub field_iff : cut_at s at ≡ field tag start len next ↔ FieldAt s at tag start len next
     field_iff = (go (cut_at s at) (cutting s at), back)
       where
-        go : (c : Cut) → Cutting s at c → c ≡ Field tag start len next → FieldAt s at tag start len next
-        go Absent (absent h) e = let z : ◌≡◌ {A = ℕ} 0 1 = cc in absurd (omega arith)
-        go Short (no_header h k) e = let z : ◌≡◌ {A = ℕ} 0 1 = cc in absurd (omega arith)
-        go Short (no_content h k) e = let z : ◌≡◌ {A = ℕ} 0 1 = cc in absurd (omega arith)
-        go (Field t b l n) (whole h) e =
+        go : (c : Cut) → Cutting s at c → c ≡ field tag start len next → FieldAt s at tag start len next
+        go absent (at_end h) e = let z : ◌≡◌ {A = ℕ} 0 1 = cc in absurd (omega arith)
+        go short (no_header h k) e = let z : ◌≡◌ {A = ℕ} 0 1 = cc in absurd (omega arith)
+        go short (no_content h k) e = let z : ◌≡◌ {A = ℕ} 0 1 = cc in absurd (omega arith)
+        go (field t b l n) (whole h) e =
             let et : t ≡ tag = cc in
             let eb : b ≡ start = cc in
             let el : l ≡ len = cc in
             let en : n ≡ next = cc in
             record { tag_is = sym et; len_is = sym el; start_is = sym eb; next_is = omega arith; next_in = omega arith }
 
-        back : FieldAt s at tag start len next → cut_at s at ≡ Field tag start len next
+        back : FieldAt s at tag start len next → cut_at s at ≡ field tag start len next
         back f =
             let n : next ≡ at + header_length + len_at s at = omega arith in
             cc (cut_whole s at (omega arith))
@@ -142,16 +140,11 @@ module _ (s : List ℕ) (at : ℕ) where
     pub content_length : FieldAt s at tag start len next → length (take len (drop start s)) ≡ len
     content_length f = simp (length-take, length-drop) (omega arith)
 
--- What a caller of `field_at` that matched on its result c knows in each arm.
-module _ (s : List ℕ) (at : ℕ) {c : Cut} (e : c ≡ cut_at s at) where
-  pub matched_field : {tag start len next : ℕ} → c ≡ Field tag start len next → FieldAt s at tag start len next
-  matched_field {tag} {start} {len} {next} k = (field_iff s at tag start len next).0 (sym e ∙ k)
-
 -- A field that was written is cut out as it was.
 
 -- whatever stands before and after it; low and high are its length's two bytes
 pub cut_written : (pre content post : List ℕ) (tag low high : ℕ) → le16 low high ≡ length content
-    → cut_at (pre ++ ((tag ∷ low ∷ high ∷ content) ++ post)) (length pre) ≡ Field tag (length pre + header_length) (length content) (length pre + header_length + length content)
+    → cut_at (pre ++ ((tag ∷ low ∷ high ∷ content) ++ post)) (length pre) ≡ field tag (length pre + header_length) (length content) (length pre + header_length + length content)
 cut_written pre content post tag low high e =
     let ys : List ℕ = tag ∷ low ∷ high ∷ content ++ post in
     let s : List ℕ = pre ++ ys in
@@ -168,7 +161,7 @@ cut_written pre content post tag low high e =
     })
 
 pub cut_field_bytes : (pre content post : List ℕ) (tag : ℕ)
-    → cut_at (pre ++ (field_bytes tag content ++ post)) (length pre) ≡ Field tag (length pre + header_length) (length content) (length pre + header_length + length content)
+    → cut_at (pre ++ (field_bytes tag content ++ post)) (length pre) ≡ field tag (length pre + header_length) (length content) (length pre + header_length + length content)
 cut_field_bytes pre content post tag = cut_written pre content post tag (length content % 256) (length content / 256) (le16_of (length content))
 
 pub Bytes-field_bytes : (tag : ℕ) (content : List ℕ) → tag < 256 → length content < 65536 → Bytes content → Bytes (field_bytes tag content)
@@ -201,6 +194,6 @@ module _ (s : List ℕ) (at tag start len next : ℕ) (f : FieldAt s at tag star
 abbrev first : List ℕ
 first = 1 ∷ 4 ∷ 0 ∷ 1 ∷ 0 ∷ 5 ∷ 0 ∷ []
 
-first_cuts : (cut_at first 0 ≡ Field 1 3 4 7) × (cut_at first 4 ≡ Short) × (cut_at first 5 ≡ Short) × (cut_at first 7 ≡ Absent)
+first_cuts : (cut_at first 0 ≡ field 1 3 4 7) × (cut_at first 4 ≡ short) × (cut_at first 5 ≡ short) × (cut_at first 7 ≡ absent)
 unfolding cut_at
 first_cuts = (refl, refl, refl, refl)

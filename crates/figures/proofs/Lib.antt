@@ -1,1 +1,1 @@
-pub mod ThreeValues
+pub mod Tested

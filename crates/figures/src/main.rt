@@ -1,14 +1,16 @@
 // The figures to check, and shares at both ends of the range, worked out by the code of the rules: a line for each.
 #![tactic(auto)]
 
-ghost use Rattle.std.specs.Prelude.{◌≡◌, true, ◌≤◌};
-ghost use Rattle.value.specs.Meaning.{meaning};
-ghost use Rattle.rules.specs.Operations.{operation_meaning, refuses, allows, Applied};
-ghost use Rattle.figures.specs.Figures.{tested, first_of};
+ghost use Rattle.std.specs.Prelude.{◌≡◌, true, ◌≤◌, length, map};
+ghost use Rattle.circuit.specs.Rules as rules;
+ghost use Rattle.value.specs.Meaning.{meaning, meanings};
+ghost use Rattle.rules.specs.Operations.{operation_meaning, Applied};
+ghost use Rattle.figures.specs.Figures.{tested};
 
 use rules::Operation;
 use value::{Amount, LIMIT, MAX_PARENTS, Value};
 
+// (A wrapper of its own: a crate for the three programs that have one would be longer than they are.)
 fn write(rt: &impl Print, text: &[u8]) {
     let _ = rt.write_all(text);
 }
@@ -19,34 +21,16 @@ fn write_value(rt: &impl Print, v: Value) {
         return write(rt, b"NULL");
     }
     let mut scratch = [0u8; printer::LEAST_SCRATCH];
-    let part = printer::print(v.kind() as u64, v.number_or_zero(), &mut scratch);
+    let part = printer::print(u64::from(v.kind()), v.number_or_zero(), &mut scratch);
     write(rt, part);
 }
 
-fn write_parents(rt: &impl Print, n: usize, a: Value, b: Value, c: Value) {
-    write_value(rt, a);
-    write(rt, b", ");
-    write_value(rt, b);
-    if n == 3 {
-        write(rt, b", ");
-        write_value(rt, c);
-    }
-}
-
-// Whether the rule or its count of parents was refused.
-fn is_refused(op: Operation) -> bool
-    ensures { result ≡ refuses (operation_meaning op) }
-{
-    match op {
-        Operation::Sum => false,
-        Operation::Difference => false,
-        Operation::Smallest => false,
-        Operation::Largest => false,
-        Operation::Share => false,
-        Operation::Choice => false,
-        Operation::Count => false,
-        Operation::AtLeast => false,
-        Operation::Refused => true,
+fn write_parents(rt: &impl Print, parents: &[Value]) {
+    for (i, v) in parents.iter().enumerate() {
+        if i > 0 {
+            write(rt, b", ");
+        }
+        write_value(rt, *v);
     }
 }
 
@@ -54,112 +38,94 @@ fn is_refused(op: Operation) -> bool
 fn in_form(v: Value) -> Value
     ensures { meaning result ≡ tested (meaning v) }
 {
-    let a = v.amount;
-    match a {
-        Amount::Null => Value::NULL,
-        Amount::Out => Value::OUT,
+    match v.amount {
         Amount::Number(n) => Value::exact(n),
+        _ => v,
     }
 }
 
-// What the rule gives on the first n of three values.
-fn worked(op: Operation, n: usize, a: Value, b: Value, c: Value) -> Value
-    requires few { n ≤ 3 }
-    requires takes { allows (operation_meaning op) n ≡ true }
-    ensures { Applied op (first_of n (meaning a) (meaning b) (meaning c)) result }
+// What the rule gives on the parents' values.
+#[tactic(auto, unfolding(circuit::specs::Rules::max_parents))]
+fn worked(op: Operation, parents: &[Value]) -> Value
+    requires few { length parents.now ≤ rules.max_parents }
+    requires takes { rules.count_allowed (operation_meaning op) (length parents.now) ≡ true }
+    ensures { Applied op (map tested (meanings parents.now)) result }
 {
-    let first = in_form(a);
-    let second = in_form(b);
-    let third = in_form(c);
-    let mut kinds = [1u8; MAX_PARENTS];
-    let mut numbers = [0i64; MAX_PARENTS];
-    kinds[0] = first.kind();
-    numbers[0] = first.number_or_zero();
-    kinds[1] = second.kind();
-    numbers[1] = second.number_or_zero();
-    kinds[2] = third.kind();
-    numbers[2] = third.number_or_zero();
-    rules::apply(op, &kinds, &numbers, n)
+    // a fixed array of which the first are used, since there is no heap
+    let mut values = [Value::NULL; MAX_PARENTS];
+    for (i, v) in parents.iter().enumerate() {
+        values[i] = in_form(*v);
+    }
+    rules::apply(op, &values[..parents.len()])
 }
 
-// A line: the rule's name, the first n of three values, and what the rule gives on them.
-fn figure(rt: &impl Print, name: &[u8], code: u8, n: usize, a: Value, b: Value, c: Value)
-    requires { n ≤ 3 }
+// A line: the rule's name, the parents' values, and what the rule gives on them. (Name and code stand side by side in each call, and in no table:
+// most of the rules have one call.)
+fn figure(rt: &impl Print, name: &[u8], code: u8, parents: &[Value])
+    requires { length parents.now ≤ rules.max_parents }
 {
     write(rt, name);
     write(rt, b"(");
-    write_parents(rt, n, a, b, c);
+    write_parents(rt, parents);
     write(rt, b") = ");
-    let op = rules::operation_of(code, n);
-    if is_refused(op) {
-        return write(rt, b"refused\n");
+    match rules::operation_of(code, parents.len()) {
+        Some(op) => write_value(rt, worked(op, parents)),
+        None => write(rt, b"refused"),
     }
-    write_value(rt, worked(op, n, a, b, c));
     write(rt, b"\n");
 }
 
 // Shares of a number: by 0, 1, 9,999 and 10,000 parts of the whole.
+#[tactic(auto, unfolding(circuit::specs::Rules::max_parents))]
 fn shares(rt: &impl Print, n: i64) {
-    let x = Value::number(n);
-    figure(rt, b"share", 5, 2, x, Value::number(0), Value::NULL);
-    figure(rt, b"share", 5, 2, x, Value::number(1), Value::NULL);
-    figure(rt, b"share", 5, 2, x, Value::number(9999), Value::NULL);
-    figure(rt, b"share", 5, 2, x, Value::number(10000), Value::NULL);
+    for parts in [0, 1, 9999, 10000] {
+        figure(rt, b"share", 5, &[Value::number(n), Value::number(parts)]);
+    }
 }
 
 // Choices by their first parent: OUT, NULL, above 0 and not; what is not picked counts for nothing.
+#[tactic(auto, unfolding(circuit::specs::Rules::max_parents))]
 fn choices(rt: &impl Print) {
     let none = Value::NULL;
     let out = Value::OUT;
+    let zero = Value::number(0);
     let one = Value::number(1);
     let two = Value::number(2);
     let seven = Value::number(7);
     let nine = Value::number(9);
-    figure(rt, b"choice", 6, 3, Value::number(0), seven, nine);
-    figure(rt, b"choice", 6, 3, out, one, two);
-    figure(rt, b"choice", 6, 3, none, out, out);
-    figure(rt, b"choice", 6, 3, one, seven, out);
-    figure(rt, b"choice", 6, 3, Value::number(0), out, nine);
-    figure(rt, b"choice", 6, 3, one, out, nine);
-    figure(rt, b"choice", 6, 3, two, none, nine);
-    figure(
-        rt,
-        b"choice",
-        6,
-        3,
-        Value::number(-1),
-        Value::number(4),
-        none,
-    )
+    for parents in [
+        [zero, seven, nine],
+        [out, one, two],
+        [none, out, out],
+        [one, seven, out],
+        [zero, out, nine],
+        [one, out, nine],
+        [two, none, nine],
+        [Value::number(-1), Value::number(4), none],
+    ] {
+        figure(rt, b"choice", 6, &parents);
+    }
 }
 
+#[tactic(auto, unfolding(circuit::specs::Rules::max_parents))]
 fn main(rt: HostRuntime) {
     let none = Value::NULL;
     let top = Value::number(LIMIT);
     let one = Value::number(1);
     let three = Value::number(3);
     let minus_one = Value::number(-1);
-    figure(&rt, b"sum", 1, 2, none, none, none);
-    figure(&rt, b"sum", 1, 2, Value::number(5), none, none);
-    figure(&rt, b"sum", 1, 2, top, one, none);
-    figure(&rt, b"sum", 1, 3, top, one, minus_one);
-    figure(&rt, b"difference", 2, 2, none, three, none);
-    figure(&rt, b"share", 5, 2, minus_one, Value::number(5000), none);
-    figure(
-        &rt,
-        b"share",
-        5,
-        2,
-        Value::number(7),
-        Value::number(10001),
-        none,
-    );
+    figure(&rt, b"sum", 1, &[none, none]);
+    figure(&rt, b"sum", 1, &[Value::number(5), none]);
+    figure(&rt, b"sum", 1, &[top, one]);
+    figure(&rt, b"sum", 1, &[top, one, minus_one]);
+    figure(&rt, b"difference", 2, &[none, three]);
+    figure(&rt, b"share", 5, &[minus_one, Value::number(5000)]);
+    figure(&rt, b"share", 5, &[Value::number(7), Value::number(10001)]);
     choices(&rt);
-    figure(&rt, b"count", 7, 2, none, Value::number(4), none);
-    figure(&rt, b"at least", 8, 2, three, three, none);
-    figure(&rt, b"smallest", 3, 2, none, Value::number(-2), none);
-    shares(&rt, LIMIT);
-    shares(&rt, LIMIT - 1);
-    shares(&rt, 1 - LIMIT);
-    shares(&rt, -LIMIT);
+    figure(&rt, b"count", 7, &[none, Value::number(4)]);
+    figure(&rt, b"at least", 8, &[three, three]);
+    figure(&rt, b"smallest", 3, &[none, Value::number(-2)]);
+    for n in [LIMIT, LIMIT - 1, 1 - LIMIT, -LIMIT] {
+        shares(&rt, n);
+    }
 }

@@ -12,13 +12,15 @@ use lib.Seq.{get_or-take, get_or-drop, get_or_at}
 use borrow.Author.Tests.{eqb-true, eqb-false, eq-eqb, ne_eqb}
 use Rattle.field.specs.Field.{len_at, le16_at, le16, header_length}
 use Rattle.circuit.specs.Rules.{Operation, operation_of, count_allowed, coded, allowed}
-use Rattle.circuit.specs.Sheet.{entry, figure, is_figure, parents_of, kept_of, spread_of, defer, renew}
+use Rattle.circuit.specs.Sheet.{Item, entry, figure, is_figure, parents_of, kept_of, spread_of, defer, renew}
 use Rattle.layout.specs.Layout.{figure_tag, machine_item, spread_meant, operation_or, rule_at, keep_at, spread_at, parent_count_at, parents_at, parent_width, parent_at}
 use Rattle.layout.specs.Content.{item_in, parent_in, parents_in}
 use Rattle.layout.proofs.Scan.{allowed_operation}
 use Rattle.layout.proofs.Items.{parents_count}
 use Rattle.layout.proofs.IndexLaws.{parents_most}
-use Rattle.rules.specs.Operations.{operation_meaning}
+use Rattle.std.specs.Prelude as std
+use Rattle.std.specs.Prelude.{Some, None, IsSome}
+use Rattle.rules.specs.Operations.{operation_meaning, operation_in}
 use Rattle.item.specs.Item.{field_content, field_item, rule_byte, keep_byte, spread_byte, count_byte, ItemField, item_operation, OperationRead, CountRead}
 use Rattle.rules.specs.declared.Operation.{Operation as Answer}
 
@@ -47,6 +49,15 @@ operation_takes rule n op e = code (coded rule) e
     code : (c : Option Operation) → allowed c n ≡ some op → count_allowed op n ≡ true
     code none h = let z : ◌≡◌ {A = ℕ} 0 1 = cc in absurd (omega arith)
     code (some o) h = counted o (count_allowed o n) refl h
+
+-- an operation was found, the item's
+abbrev pub IfRead : Item → std.Option Answer → Type 0
+IfRead it None = ⊥
+IfRead it (Some op) = OperationRead it op
+
+pub read_some : (it : Item) (o : std.Option Answer) → IfRead it o → IsSome o
+read_some it None r = absurd r
+read_some it (Some op) r = refl
 
 -- The spread that a byte means.
 pub meant_renew : (b : ℕ) → b ≡ 1 → renew ≡ spread_meant b
@@ -83,12 +94,6 @@ module _ (s : List ℕ) (at : ℕ) where
   parents_read = parents_in (field_content s at) (count_byte s at)
 
   module _ (f : ItemField s at) where
-    pub kept_not : (get_or s at 0 ≡ figure_tag → ⊥) → false ≡ kept_of (field_item s at)
-    kept_not e = rw (not_figure_lem e)
-
-    pub spread_not : (get_or s at 0 ≡ figure_tag → ⊥) → defer ≡ spread_of (field_item s at)
-    spread_not e = rw (not_figure_lem e)
-
     pub count_not : (get_or s at 0 ≡ figure_tag → ⊥) → CountRead (field_item s at) 0
     count_not e = rw (not_figure_lem e) (record { count_is = refl; at_most = omega arith })
 
@@ -129,14 +134,21 @@ module _ (s : List ℕ) (at : ℕ) where
           let high = content_at_lem (parent_at k + 1) (at + (header_length + parents_at) + parent_width * k + 1) (omega arith) (omega arith) in
           sym (ap (λ l. get_or l k 0) parents_are ∙ parents_at_lem (field_content s at) (count_byte s at) k h ∙ ap₂ le16 low high)
 
-      pub operation_read : (op : Answer) → operation_meaning op ≡ operation_of (rule_byte s at) (count_byte s at) → OperationRead (field_item s at) op
-      operation_read op m =
-          let a = allowed_operation (rule_byte s at) (count_byte s at) (f.figure t).rule_fits in
-          let is : operation_meaning op ≡ some a.0 = m ∙ a.1 in
-          record {
-            operation_is = is ∙ ap (λ o. some (operation_or o)) (sym a.1) ∙ sym (ap item_operation figure_is);
-            takes = rw (is, ← count_is) (operation_takes (rule_byte s at) (count_byte s at) a.0 a.1);
-          }
+      pub operation_read : (o : std.Option Answer) → operation_in o ≡ operation_of (rule_byte s at) (count_byte s at) → IfRead (field_item s at) o
+      operation_read o m = go o m
+        where
+          go : (o : std.Option Answer) → operation_in o ≡ operation_of (rule_byte s at) (count_byte s at) → IfRead (field_item s at) o
+          go None m =
+              let a = allowed_operation (rule_byte s at) (count_byte s at) (f.figure t).rule_fits in
+              let bad : ◌≡◌ {A = ℕ} 0 1 = cc (m, a.1) in
+              absurd (omega arith)
+          go (Some op) m =
+              let a = allowed_operation (rule_byte s at) (count_byte s at) (f.figure t).rule_fits in
+              let is : operation_meaning op ≡ a.0 = cc (m, a.1) in
+              record {
+                operation_is = m ∙ a.1 ∙ ap (λ o. some (operation_or o)) (sym a.1) ∙ sym (ap item_operation figure_is);
+                takes = rw (is, ← count_is) (operation_takes (rule_byte s at) (count_byte s at) a.0 a.1);
+              }
 
     -- who has a parent is a figure
     pub parent_tag : (k : ℕ) → k < length (parents_of (field_item s at)) → get_or s at 0 ≡ figure_tag
@@ -166,3 +178,48 @@ module _ (s : List ℕ) (at : ℕ) where
             let n : none ≡ some op = sym (ap item_operation (not_figure_lem (eqb-false (get_or s at 0) figure_tag q))) ∙ e in
             let z : ◌≡◌ {A = ℕ} 0 1 = cc in
             absurd (omega arith)
+
+-- An item by its field: what reading its bytes gives.
+module _ {s : List ℕ} {at : ℕ} (f : ItemField s at) {it : Item} (seen : field_item s at ≡ it) where
+  pub tag_read : eqb (get_or s at 0) figure_tag ≡ is_figure it
+  tag_read = sym (tag_figure s at) ∙ ap is_figure seen
+
+  pub entry_is : is_figure it ≡ false → it ≡ entry
+  entry_is n = sym seen ∙ not_figure_lem s at (eqb-false (get_or s at 0) figure_tag (tag_read ∙ n))
+
+  pub spread_none : is_figure it ≡ false → defer ≡ spread_of it
+  spread_none n = rw (entry_is n)
+
+  module _ (t : is_figure it ≡ true) where
+    tag_is : get_or s at 0 ≡ figure_tag
+    tag_is = eqb-true (get_or s at 0) figure_tag (tag_read ∙ t)
+
+    pub parts_within : at + header_length + parent_at (count_byte s at) ≤ length s
+    parts_within = figure_within s at f tag_is
+
+    pub keep_is : eqb (keep_byte s at) 1 ≡ kept_of it
+    keep_is = kept_read s at f tag_is ∙ ap kept_of seen
+
+    pub spread_is : spread_meant (spread_byte s at) ≡ spread_of it
+    spread_is = spread_read s at f tag_is ∙ ap spread_of seen
+
+    pub parents_counted : CountRead it (count_byte s at)
+    parents_counted = rw (← seen) (count_read s at f tag_is)
+
+    pub operation_is : (n : ℕ) → CountRead it n → (o : std.Option Answer) → operation_in o ≡ operation_of (rule_byte s at) n → IfRead it o
+    operation_is n counts o e =
+        let same : n ≡ count_byte s at = counts.count_is ∙ sym parents_counted.count_is in
+        rw (← seen) (operation_read s at f tag_is o (e ∙ ap (operation_of (rule_byte s at)) same))
+
+  -- a parent stands within the sheet
+  module _ (k : ℕ) (h : k < length (parents_of it)) where
+    has_parent : k < length (parents_of (field_item s at))
+    has_parent = rw seen h
+
+    pub parent_within : at + header_length + parent_at k + 1 < length s
+    parent_within =
+        omega (arith, figure_within s at f (parent_tag s at f k has_parent), parent_counted s at f k has_parent)
+
+    pub parent_is : le16_at s (at + (header_length + parents_at) + parent_width * k) ≡ get_or (parents_of it) k 0
+    parent_is =
+        parent_read s at f (parent_tag s at f k has_parent) k (parent_counted s at f k has_parent) ∙ ap (λ i. get_or (parents_of i) k 0) seen

@@ -3,12 +3,17 @@
 use mathlib.Core.Path.{◌≡◌, refl, sym, ap, ap₂, ◌∙◌}
 use mathlib.Core.Bool.{Bool, true, false, ◌&&◌}
 use mathlib.Core.List.{List, [], ◌∷◌, ◌++◌, append_assoc}
-use Prim.Native.Nat.{ℕ, suc, ◌+◌, ◌*◌, ◌/◌, ◌%◌, ◌≤◌, ◌<◌}
+use Prim.Native.Nat.{ℕ, zero, suc, ◌+◌, ◌*◌, ◌/◌, ◌%◌, ◌≤◌, ◌<◌}
 use native.Mathlib.Omega.{arith}
 use native.Mathlib.Numerals.{add-one}
 use lib.Dec.{eqb}
-use lib.ListN.{length, get_or, take, drop, set, length-set, drop_of_length-le}
-use lib.Seq.{take-suc, take-suc-set, take_all, drop-cons, get_or-take, length-take-le}
+use lib.ListN.{length, get_or, take, drop, length-append, length-drop, drop_of_length-le}
+use lib.Seq.{sets-eq, length-sets, take-suc, take_all, drop-cons, drop-drop, length-take-le}
+use mir.Syntax.{w32}
+use borrow.Rule.Slice.PartMut.{put_mid}
+use Rattle.std.specs.Int.{to_le_bytes}
+use Rattle.std.specs.List.{list_all, range_with_len}
+use Rattle.std.proofs.lemmas.Slice.{take-put_mid}
 use borrow.Author.Tests.{eqb-true, eqb-false, eq-eqb}
 use Rattle.layout.specs.Layout.{index_width}
 use Rattle.layout.specs.Read.{Placed}
@@ -64,40 +69,34 @@ unfolding offset_bytes
 offsets_snoc [] o = refl
 offsets_snoc (a ∷ l) o = ap (λ r. bytes32 a ++ r) (offsets_snoc l o)
 
+-- the bytes copied over four of the index
+pub put_is : (l ys : List ℕ) (at k o : ℕ) → ys ≡ bytes32 o → k ≡ index_width → at + index_width ≤ length l → put_mid at k l ys ≡ put_offset l at o
+put_is l ys at k o e f h =
+    rw (e, f)
+    (ap (λ t. take at l ++ (bytes32 o ++ t)) (drop-drop index_width at l) ∙ sym (append_assoc (take at l) (bytes32 o) (drop (at + index_width) l))
+    ∙ sym (sets-eq (bytes32 o) l at h))
+
 pub put_length : (l : List ℕ) (at o : ℕ) → length (put_offset l at o) ≡ length l
-put_length l at o = simp length-set
+put_length l at o = length-sets l at (bytes32 o)
 
 put_take : (l : List ℕ) (at o : ℕ) → at + index_width ≤ length l → take (at + index_width) (put_offset l at o) ≡ take at l ++ bytes32 o
 put_take l at o h =
-    let l₁ : List ℕ = set l at (o % 256) in
-    let l₂ : List ℕ = set l₁ (at + 1) (o / 256 % 256) in
-    let l₃ : List ℕ = set l₂ (at + 2) (o / 65_536 % 256) in
-    let n₁ : length l₁ ≡ length l = length-set l at (o % 256) in
-    let n₂ : length l₂ ≡ length l₁ = length-set l₁ (at + 1) (o / 256 % 256) in
-    let n₃ : length l₃ ≡ length l₂ = length-set l₂ (at + 2) (o / 65_536 % 256) in
-    let e₁ : suc at ≡ at + 1 = omega arith in
-    let e₂ : suc (at + 1) ≡ at + 2 = omega arith in
-    let e₃ : suc (at + 2) ≡ at + 3 = omega arith in
-    let e₄ : suc (at + 3) ≡ at + index_width = omega arith in
-    let t₁ : take (at + 1) l₁ ≡ take at l ++ (o % 256 ∷ []) = rw e₁ at (take-suc-set l at (o % 256) (omega arith)) in
-    let t₂ : take (at + 2) l₂ ≡ take (at + 1) l₁ ++ (o / 256 % 256 ∷ []) = rw e₂ at (take-suc-set l₁ (at + 1) (o / 256 % 256) (omega arith)) in
-    let t₃ : take (at + 3) l₃ ≡ take (at + 2) l₂ ++ (o / 65_536 % 256 ∷ []) = rw e₃ at (take-suc-set l₂ (at + 2) (o / 65_536 % 256) (omega arith)) in
-    let t₄ : take (at + index_width) (put_offset l at o) ≡ take (at + 3) l₃ ++ (o / 16_777_216 % 256 ∷ []) = rw e₄ at (take-suc-set l₃ (at + 3) (o / 16_777_216 % 256) (omega arith)) in
-    t₄ ∙ ap (λ r. r ++ (o / 16_777_216 % 256 ∷ [])) (t₃ ∙ ap (λ r. r ++ (o / 65_536 % 256 ∷ [])) (t₂ ∙ ap (λ r. r ++ (o / 256 % 256 ∷ [])) t₁)) ∙ simp append_assoc
+    ap (take (at + index_width)) (sym (put_is l (bytes32 o) at index_width o refl refl h)) ∙ take-put_mid at index_width l (bytes32 o) (at + index_width) refl (omega arith)
 
 pub write_next : (offsets l : List ℕ) (k : ℕ) → k < length offsets → index_width * k + index_width ≤ length l → take (index_width * k) l ≡ offset_bytes (take k offsets)
     → take (index_width * (k + 1)) (put_offset l (index_width * k) (get_or offsets k 0)) ≡ offset_bytes (take (k + 1) offsets)
 write_next offsets l k h b inv =
     let e : index_width * (k + 1) ≡ index_width * k + index_width = omega arith in
     let o : ℕ = get_or offsets k 0 in
-    let left : take (index_width * k + index_width) (put_offset l (index_width * k) o) ≡ offset_bytes (take k offsets) ++ bytes32 o = put_take l (index_width * k) o b ∙ ap (λ r. r ++ bytes32 o) inv in
+    let left : take (index_width * k + index_width) (put_offset l (index_width * k) o) ≡ offset_bytes (take k offsets) ++ bytes32 o =
+    put_take l (index_width * k) o b ∙ ap (λ r. r ++ bytes32 o) inv in
     let right : take (k + 1) offsets ≡ take k offsets ++ (o ∷ []) = ap (λ n. take n offsets) (add-one k) ∙ take-suc offsets k 0 h in
     ap (λ n. take n (put_offset l (index_width * k) o)) e ∙ left ∙ sym (ap offset_bytes right ∙ offsets_snoc (take k offsets) o)
 
-pub write_done : (offsets l : List ℕ) (k n : ℕ) → k ≡ n → length l ≡ index_width * n → take (index_width * k) l ≡ offset_bytes (take k offsets)
-    → l ≡ offset_bytes (take n offsets)
-write_done offsets l k n e b inv =
-    sym (take_all (index_width * k) l (omega arith)) ∙ inv ∙ ap (λ m. offset_bytes (take m offsets)) e
+pub write_done : (offsets l : List ℕ) → length l ≡ index_width * length offsets
+    → take (index_width * length offsets) l ≡ offset_bytes (take (length offsets) offsets) → l ≡ offset_bytes offsets
+write_done offsets l e inv =
+    sym (take_all (index_width * length offsets) l (omega arith)) ∙ inv ∙ ap offset_bytes (take_all (length offsets) offsets (omega arith))
 
 -- Comparing: what is left decides.
 drop_four : (l : List ℕ) (at : ℕ) → at + index_width ≤ length l → drop at l ≡ four_at l at ++ drop (at + index_width) l
@@ -110,39 +109,27 @@ drop_four l at h =
     (e₁, e₂, e₃, e₄, ← drop-cons l (suc (suc (suc at))) 0 (omega arith), ← drop-cons l (suc (suc at)) 0 (omega arith), ← drop-cons l (suc at) 0 (omega arith))
     (drop-cons l at 0 (omega arith))
 
--- the comparison of an index with the bytes of some offsets has come to offset k
-abbrev pub Compared : List ℕ → List ℕ → ℕ → Type 0
-Compared index offsets k = same_bytes index (offset_bytes offsets) ≡ same_bytes (drop (index_width * k) index) (offset_bytes (drop k offsets))
-
-module _ (index offsets : List ℕ) (n k : ℕ) (below : k < n) (fits : n ≤ length offsets) (size : length index ≡ index_width * n) where
-  compared_step : same_bytes (drop (index_width * k) index) (offset_bytes (drop k (take n offsets)))
-      ≡ (same_bytes (four_at index (index_width * k)) (bytes32 (get_or offsets k 0)) && same_bytes (drop (index_width * (k + 1)) index) (offset_bytes (drop (k + 1) (take n offsets))))
+module _ (index offsets : List ℕ) (k : ℕ) (below : k < length offsets) (size : length index ≡ index_width * length offsets) where
+  compared_step : same_bytes (drop (index_width * k) index) (offset_bytes (drop k offsets))
+      ≡ (same_bytes (four_at index (index_width * k)) (bytes32 (get_or offsets k 0)) && same_bytes (drop (index_width * (k + 1)) index) (offset_bytes (drop (k + 1) offsets)))
   unfolding offset_bytes
   compared_step =
-      let m : length (take n offsets) ≡ n = length-take-le n offsets fits in
       let e : index_width * (k + 1) ≡ index_width * k + index_width = omega arith in
-      let g : get_or (take n offsets) k 0 ≡ get_or offsets k 0 = get_or-take n offsets k 0 below in
-      let d : drop k (take n offsets) ≡ get_or offsets k 0 ∷ drop (k + 1) (take n offsets) =
-      drop-cons (take n offsets) k 0 (omega arith) ∙ ap₂ (λ x j. x ∷ drop j (take n offsets)) g (sym (add-one k)) in
+      let d : drop k offsets ≡ get_or offsets k 0 ∷ drop (k + 1) offsets = drop-cons offsets k 0 below ∙ ap (λ j. get_or offsets k 0 ∷ drop j offsets) (sym (add-one k)) in
       rw (drop_four index (index_width * k) (omega arith), d, e)
-      (same_append (four_at index (index_width * k)) (bytes32 (get_or offsets k 0)) (drop (index_width * k + index_width) index) (offset_bytes (drop (k + 1) (take n offsets))) refl)
+      (same_append (four_at index (index_width * k)) (bytes32 (get_or offsets k 0)) (drop (index_width * k + index_width) index) (offset_bytes (drop (k + 1) offsets)) refl)
 
-  pub compared_next : Compared index (take n offsets) k → true ≡ same_bytes (four_at index (index_width * k)) (bytes32 (get_or offsets k 0))
-      → Compared index (take n offsets) (k + 1)
-  compared_next inv e =
-      inv ∙ compared_step ∙ ap (λ t. t && same_bytes (drop (index_width * (k + 1)) index) (offset_bytes (drop (k + 1) (take n offsets)))) (sym e)
+module _ (index offsets : List ℕ) (size : length index ≡ index_width * length offsets) where
+  -- whether entry k is the offset's
+  abbrev pub entry_same : ℕ → Bool
+  entry_same k = same_bytes (four_at index (index_width * k)) (bytes32 (get_or offsets k 0))
 
-  pub compared_other : Compared index (take n offsets) k → false ≡ same_bytes (four_at index (index_width * k)) (bytes32 (get_or offsets k 0))
-      → false ≡ same_bytes index (offset_bytes (take n offsets))
-  compared_other inv e =
-      sym (inv ∙ compared_step ∙ ap (λ t. t && same_bytes (drop (index_width * (k + 1)) index) (offset_bytes (drop (k + 1) (take n offsets)))) (sym e))
-
-pub compared_done : (index offsets : List ℕ) (n k : ℕ) → k ≡ n → n ≤ length offsets → length index ≡ index_width * n → Compared index (take n offsets) k
-    → true ≡ same_bytes index (offset_bytes (take n offsets))
-unfolding offset_bytes same_bytes
-compared_done index offsets n k e fits size inv =
-    let m : length (take n offsets) ≡ n = length-take-le n offsets fits in
-    sym (inv ∙ ap₂ (λ x y. same_bytes x (offset_bytes y)) (drop_of_length-le index {i = index_width * k} (omega arith)) (drop_of_length-le (take n offsets) {i = k} (omega arith)))
+  pub compared : (m k : ℕ) → k + m ≡ length offsets → list_all entry_same (range_with_len k m) ≡ same_bytes (drop (index_width * k) index) (offset_bytes (drop k offsets))
+  unfolding offset_bytes same_bytes
+  compared zero k e =
+      sym (ap₂ (λ x y. same_bytes x (offset_bytes y)) (drop_of_length-le index {i = index_width * k} (omega arith)) (drop_of_length-le offsets {i = k} (omega arith)))
+  compared (suc m) k e =
+      ap (λ t. entry_same k && t) (compared m (k + 1) (omega arith)) ∙ sym (compared_step index offsets k (omega arith) size)
 
 -- Four bytes compared as one number.
 split : (n : ℕ) → n % 256 + 256 * (n / 256) ≡ n
@@ -161,6 +148,19 @@ parts o =
     let e₂ : o / 65_536 % 256 + 256 * (o / 16_777_216) ≡ o / 65_536 = omega (arith, split (o / 65_536)) in
     let e₃ : o / 16_777_216 % 256 + 256 * (o / 4294967296) ≡ o / 16_777_216 = omega (arith, split (o / 16_777_216)) in
     join o (o % 4294967296) (o / 256) (o / 65_536) (o / 16_777_216) (o / 4294967296) (o % 256) (o / 256 % 256) (o / 65_536 % 256) (o / 16_777_216 % 256) (split o) e₁ e₂ e₃ (omega arith)
+
+-- the bytes that std gives of the low part of an offset
+four_bytes : (m a b c d : ℕ) → a < 256 → b < 256 → c < 256 → d < 256 → m ≡ a + 256 * b + 65536 * (c + 256 * d) → to_le_bytes w32 m ≡ a ∷ b ∷ c ∷ d ∷ []
+four_bytes m a b c d ha hb hc hd e =
+    let e₀ : m % 256 ≡ a = omega arith in
+    let e₁ : m / 256 % 256 ≡ b = omega arith in
+    let e₂ : m / 65_536 % 256 ≡ c = omega arith in
+    let e₃ : m / 16_777_216 % 256 ≡ d = omega arith in
+    ap₂ (λ x t. x ∷ t) e₀ (ap₂ (λ x t. x ∷ t) e₁ (ap₂ (λ x t. x ∷ t) e₂ (ap (λ x. x ∷ []) e₃)))
+
+pub low_bytes : (o : ℕ) → to_le_bytes w32 (o % 4294967296) ≡ bytes32 o
+low_bytes o =
+    four_bytes (o % 4294967296) (o % 256) (o / 256 % 256) (o / 65_536 % 256) (o / 16_777_216 % 256) (omega arith) (omega arith) (omega arith) (omega arith) (parts o)
 
 module _ (a b c d o : ℕ) (ha : a < 256) (hb : b < 256) (hc : c < 256) (hd : d < 256) where
   abbrev number : ℕ

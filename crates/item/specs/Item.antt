@@ -1,7 +1,7 @@
 -- The item of a field at an offset, as the machine sees it, and what reading it from its bytes needs. Assumes nothing.
-use Rattle.std.specs.Prelude.{ℕ, ◌+◌, ◌≤◌, ◌≡◌, true, List, length, get_or}
+use Rattle.std.specs.Prelude.{ℕ, ◌+◌, ◌≤◌, ◌≡◌, Bool, true, false, List, length, get_or}
 use Rattle.std.proofs.Math.Option.{Option, none, some}
-use Rattle.circuit.specs.Rules.{max_parents}
+use Rattle.circuit.specs.Rules.{max_parents, count_allowed}
 use Rattle.field.specs.Field.{len_at, header_length}
 use Rattle.circuit.specs.Rules as rules
 use Rattle.circuit.specs.Sheet as circuit
@@ -10,8 +10,10 @@ use Rattle.layout.specs.Layout.{figure_tag, rule_allowed, machine_item, rule_at,
 use Rattle.layout.specs.Content.{content_at, item_in}
 use Rattle.value.specs.Meaning.{meaning}
 use Rattle.value.specs.declared.Value.{Value}
-use Rattle.rules.specs.Operations.{operation_meaning, allows}
+use Rattle.rules.specs.Operations.{operation_meaning}
 use Rattle.rules.specs.declared.Operation.{Operation}
+use Rattle.item.specs.declared.Kind.{Kind}
+use Rattle.item.specs.declared.Kind.TheVariants.{Entry, Figure}
 use Rattle.item.specs.declared.Spread.{Spread}
 use Rattle.item.specs.declared.Spread.TheVariants.{Defer, Renew}
 
@@ -46,6 +48,11 @@ pub record ItemField (s : List ℕ) (at : ℕ) : Type 0 where
   pub whole : at + header_length + len_at s at ≤ length s
   pub figure : get_or s at 0 ≡ figure_tag → FigureField s at
 
+-- whether it is the figures' kind
+abbrev pub kind_meaning : Kind → Bool
+kind_meaning Entry = false
+kind_meaning Figure = true
+
 -- the spread of the definitions
 abbrev pub spread_meaning : Spread → circuit.Spread
 spread_meaning Defer = circuit.defer
@@ -58,8 +65,8 @@ item_operation (circuit.figure op keep spread ps) = some op
 
 -- an operation that is read: the item's, and it takes as many parents as the item has
 pub record OperationRead (it : circuit.Item) (op : Operation) : Type 0 where
-  pub operation_is : operation_meaning op ≡ item_operation it
-  pub takes : allows (operation_meaning op) (length (circuit.parents_of it)) ≡ true
+  pub operation_is : some (operation_meaning op) ≡ item_operation it
+  pub takes : count_allowed (operation_meaning op) (length (circuit.parents_of it)) ≡ true
 
 -- a figure's value by its parents' values, whatever stands in its own cell; it is well formed
 pub record Evaluated (it : circuit.Item) (vs : List machine.Value) (r : Value) : Type 0 where

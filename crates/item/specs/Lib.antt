@@ -1,2 +1,3 @@
 pub mod Item
+pub mod Located
 pub mod Offsets

@@ -1,5 +1,7 @@
 -- The index over the list of offsets, and the equality of lists of bytes. Assumes nothing.
-use Rattle.std.specs.Prelude.{ℕ, ◌+◌, ◌/◌, ◌%◌, Bool, true, false, ◌&&◌, List, [], ◌∷◌, ◌++◌, eqb, get_or, set}
+use Rattle.std.specs.Prelude.{ℕ, ◌+◌, Bool, true, false, ◌&&◌, List, [], ◌∷◌, ◌++◌, eqb, get_or}
+use Rattle.std.proofs.lemmas.List.Edits.{sets}
+use Rattle.layout.specs.Layout.{index_width}
 use Rattle.layout.specs.Index.{bytes32}
 
 -- each offset in four bytes, in order
@@ -19,5 +21,4 @@ four_at index at = get_or index at 0 ∷ get_or index (at + 1) 0 ∷ get_or inde
 
 -- the index after an offset is stored in those
 abbrev pub put_offset : List ℕ → ℕ → ℕ → List ℕ
-put_offset index at o =
-    set (set (set (set index at (o % 256)) (at + 1) (o / 256 % 256)) (at + 2) (o / 65_536 % 256)) (at + 3) (o / 16_777_216 % 256)
+put_offset index at o = sets index at (bytes32 o)

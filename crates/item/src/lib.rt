@@ -1,22 +1,30 @@
-// The items of a sheet that opens, read from their fields, and the index.
+// A sheet that opens with the offsets of its fields, its items read from these fields, and the index.
 // A field is a tag, two length bytes and its content. A figure's content is rule, keep, spread and parent count, two bytes
 // a parent, and the name.
 #![tactic(auto)]
 
-ghost use Rattle.std.specs.Prelude.{◌≡◌, true, ◌<◌, ◌≤◌, ◌+◌, ◌*◌, length, get_or, take};
+ghost use Rattle.std.specs.Prelude.{◌≡◌, true, ◌<◌, ◌≤◌, ◌+◌, ◌*◌, length, get_or};
 ghost use Rattle.circuit.specs.Sheet as circuit;
 ghost use Rattle.circuit.specs.WellFormed.{all_well_formed};
-ghost use Rattle.value.specs.Meaning.{first_values};
-ghost use Rattle.item.specs.Item.{ItemField, field_item, spread_meaning, OperationRead, Evaluated, CountRead};
+ghost use Rattle.value.specs.Meaning.{meanings};
+ghost use Rattle.item.specs.Item.{kind_meaning, spread_meaning, OperationRead, Evaluated, CountRead};
 ghost use Rattle.item.specs.Offsets.{offset_bytes, same_bytes, four_at, put_offset};
 ghost use Rattle.layout.specs.Layout.{index_width};
+ghost use Rattle.layout.specs.Opened.{sheet_of, Located};
 ghost use Rattle.layout.specs.Index.{bytes32};
 
 use limits::{FIGURE_TAG, INDEX_WIDTH, PARENT_WIDTH};
-use value::{MAX_PARENTS, Value};
+use std::marker::Model;
+use value::Value;
+
+#[derive(Clone, Copy, PartialEq, Eq, Debug)]
+pub enum Kind {
+    Entry,
+    Figure,
+}
 
 // What a stored figure does when a parent's change is told.
-#[derive(Clone, Copy)]
+#[derive(Clone, Copy, PartialEq, Eq, Debug)]
 pub enum Spread {
     Defer,
     Renew,
@@ -33,108 +41,169 @@ const PARENT_COUNT_AT: usize = field::HEADER_LENGTH + limits::PARENT_COUNT_AT;
 
 const PARENTS_AT: usize = field::HEADER_LENGTH + limits::PARENTS_AT;
 
-pub fn is_figure(s: &[u8], at: usize) -> bool
-    requires { ItemField s.now at }
-    ensures { result ≡ circuit.is_figure (field_item s.now at) }
-{
-    s[at] == FIGURE_TAG
+// The bytes of a sheet, with the offset of each item's field.
+#[derive(Drop)]
+pub struct Sheet<'a> {
+    bytes: &'a [u8],
+    offsets: &'a [usize],
 }
 
-// A figure's operation.
-fn operation(s: &[u8], at: usize) -> rules::Operation
-    requires fact_1 { ItemField s.now at }
-    requires fact_2 { circuit.is_figure (field_item s.now at) ≡ true }
-    ensures { OperationRead (field_item s.now at) result }
-{
-    rules::operation_of(s[at + RULE_AT], field::wide(s[at + PARENT_COUNT_AT]))
+impl<'a> Model for Sheet<'a> {
+    ghost use Rattle.std.specs.Prelude.{List, ℕ};
+    ghost use Rattle.item.specs.Located.{FieldsAt};
+
+    ghost Value = { List ℕ };
+
+    ghost view = { λ s. s.bytes.now };
+
+    ghost invariant = { λ s. FieldsAt s.bytes.now s.offsets.now };
 }
 
-// A figure's value: its rule applied to the values of its parents, in their listed order.
-pub fn evaluate(
-    s: &[u8],
-    at: usize,
-    kinds: &[u8; MAX_PARENTS],
-    numbers: &[i64; MAX_PARENTS],
-    count: usize,
-) -> Value
-    requires fact_1 { ItemField s.now at }
-    requires fact_2 { circuit.is_figure (field_item s.now at) ≡ true }
-    requires fact_3 { count ≡ length (circuit.parents_of (field_item s.now at)) }
-    requires fact_4 { all_well_formed (first_values kinds.now numbers.now count) ≡ true }
-    ensures { Evaluated (field_item s.now at) (first_values kinds.now numbers.now count) result }
-{
-    rules::apply(operation(s, at), kinds, numbers, count)
-}
-
-pub fn is_kept(s: &[u8], at: usize) -> bool
-    requires { ItemField s.now at }
-    ensures { result ≡ circuit.kept_of (field_item s.now at) }
-{
-    if s[at] == FIGURE_TAG {
-        s[at + KEEP_AT] == 1
-    } else {
-        false
+impl<'a> Sheet<'a> {
+    pub fn new(bytes: &'a [u8], offsets: &'a [usize]) -> Sheet<'a>
+        requires located { Located bytes.now offsets.now }
+        requires counted { length offsets.now ≡ circuit.size (sheet_of bytes.now) }
+        ensures { result ≡ bytes.now }
+    {
+        Sheet { bytes, offsets }
     }
-}
 
-pub fn spread_of(s: &[u8], at: usize) -> Spread
-    requires { ItemField s.now at }
-    ensures { spread_meaning result ≡ circuit.spread_of (field_item s.now at) }
-{
-    if s[at] == FIGURE_TAG {
-        match s[at + SPREAD_AT] {
-            1 => Spread::Renew,
-            _ => Spread::Defer,
+    // How many items the sheet has.
+    pub fn len(&self) -> usize
+        ensures { result ≡ circuit.size (sheet_of self.now) }
+    {
+        self.offsets.len()
+    }
+
+    // (An item's number is a usize, held below the size by each contract: a type for it would borrow the sheet once more.)
+    pub fn item(&self, i: usize) -> Item<'a>
+        requires { i < circuit.size (sheet_of self.now) }
+        ensures { result ≡ circuit.item_at (sheet_of self.now) i }
+    {
+        Item {
+            bytes: self.bytes,
+            at: self.offsets[i],
         }
-    } else {
-        Spread::Defer
     }
 }
 
-// 0 for an entry.
-pub fn parent_count(s: &[u8], at: usize) -> usize
-    requires { ItemField s.now at }
-    ensures { CountRead (field_item s.now at) result }
-{
-    if s[at] == FIGURE_TAG {
-        field::wide(s[at + PARENT_COUNT_AT])
-    } else {
-        0
-    }
+// An item: the sheet's bytes, and the offset of its field.
+#[derive(Drop)]
+pub struct Item<'a> {
+    bytes: &'a [u8],
+    at: usize,
 }
 
-pub fn parent(s: &[u8], at: usize, k: usize) -> usize
-    requires fact_1 { ItemField s.now at }
-    requires fact_2 { k < length (circuit.parents_of (field_item s.now at)) }
-    ensures { result ≡ get_or (circuit.parents_of (field_item s.now at)) k 0 }
-{
-    field::u16_at(s, at + PARENTS_AT + PARENT_WIDTH * k)
+impl<'a> Model for Item<'a> {
+    ghost use Rattle.circuit.specs.Sheet as circuit;
+    ghost use Rattle.item.specs.Item.{ItemField, field_item};
+
+    ghost Value = { circuit.Item };
+
+    ghost view = { λ i. field_item i.bytes.now i.at };
+
+    ghost invariant = { λ i. ItemField i.bytes.now i.at };
+}
+
+impl<'a> Item<'a> {
+    pub fn is_figure(&self) -> bool
+        ensures { result ≡ circuit.is_figure self.now }
+    {
+        self.kind() == Kind::Figure
+    }
+
+    pub fn kind(&self) -> Kind
+        ensures { kind_meaning result ≡ circuit.is_figure self.now }
+    {
+        if self.bytes[self.at] == FIGURE_TAG {
+            Kind::Figure
+        } else {
+            Kind::Entry
+        }
+    }
+
+    // Keep 1 and spread 1 are the codes that a sheet's bytes have; each code is read in one place only.
+    pub fn is_kept(&self) -> bool
+        ensures { result ≡ circuit.kept_of self.now }
+    {
+        self.is_figure() && self.bytes[self.at + KEEP_AT] == 1
+    }
+
+    pub fn spread(&self) -> Spread
+        ensures { spread_meaning result ≡ circuit.spread_of self.now }
+    {
+        if self.is_figure() {
+            match self.bytes[self.at + SPREAD_AT] {
+                1 => Spread::Renew,
+                _ => Spread::Defer,
+            }
+        } else {
+            Spread::Defer
+        }
+    }
+
+    // 0 for an entry.
+    pub fn parent_count(&self) -> usize
+        ensures { CountRead self.now result }
+    {
+        if self.is_figure() {
+            usize::from(self.bytes[self.at + PARENT_COUNT_AT])
+        } else {
+            0
+        }
+    }
+
+    // The parents are read by their places, and not as an iterator: one of our own would need its own proofs of what it yields, and a caller
+    // would be no plainer.
+    pub fn parent(&self, k: usize) -> usize
+        requires { k < length (circuit.parents_of self.now) }
+        ensures { result ≡ get_or (circuit.parents_of self.now) k 0 }
+    {
+        field::u16_at(self.bytes, self.at + PARENTS_AT + PARENT_WIDTH * k)
+    }
+
+    // A figure's operation.
+    fn operation(&self) -> rules::Operation
+        requires { circuit.is_figure self.now ≡ true }
+        ensures { OperationRead self.now result }
+    {
+        rules::operation_of(self.bytes[self.at + RULE_AT], self.parent_count()).unwrap()
+    }
+
+    // A figure's value: its rule applied to the values of its parents, in their listed order.
+    pub fn evaluate(&self, values: &[Value]) -> Value
+        requires figure { circuit.is_figure self.now ≡ true }
+        requires counted { length values.now ≡ length (circuit.parents_of self.now) }
+        requires formed { all_well_formed (meanings values.now) ≡ true }
+        ensures { Evaluated self.now (meanings values.now) result }
+    {
+        rules::apply(self.operation(), values)
+    }
 }
 
 // An offset in four bytes, the low one first.
+// (At a place of the whole, and not on a part: the contract says that no other byte changes.)
 fn put_offset(index: &mut [u8], at: usize, offset: usize)
     requires { at + index_width ≤ length index.old }
     ensures { index.new ≡ put_offset index.old at offset }
 {
-    index[at] = (offset % 256) as u8;
-    index[at + 1] = (offset / 256 % 256) as u8;
-    index[at + 2] = (offset / 65536 % 256) as u8;
-    index[at + 3] = (offset / 16777216 % 256) as u8;
+    // The remainder comes before the cast, since a cast loses nothing. is_offset compares with the same one.
+    let low = (offset % 4294967296) as u32;
+    index[at..at + INDEX_WIDTH].copy_from_slice(&low.to_le_bytes());
 }
 
-// The index of the first n offsets.
-pub fn write_index(offsets: &[usize], n: usize, index: &mut [u8])
-    requires { (n ≤ length offsets.now) × (length index.old ≡ index_width * n) }
-    ensures { index.new ≡ offset_bytes (take n offsets.now) }
+// The index of these offsets. Entry by entry at its place: std says nothing of what a slice holds after a loop over chunks_exact_mut.
+pub fn write_index(offsets: &[usize], index: &mut [u8])
+    requires { length index.old ≡ index_width * length offsets.now }
+    ensures { index.new ≡ offset_bytes offsets.now }
 {
-    let mut written = 0;
-    while written < n {
-        put_offset(index, INDEX_WIDTH * written, offsets[written]);
-        written += 1;
+    for (k, offset) in offsets.iter().enumerate() {
+        put_offset(index, INDEX_WIDTH * k, *offset);
     }
 }
 
-// Whether the four bytes are those of an offset. They are compared as one number.
+// Whether the four bytes are those of an offset. They are compared as one number, by u16_at: u32::from_le_bytes wants an
+// array, into which the four bytes would first be copied.
 fn is_offset(index: &[u8], at: usize, offset: usize) -> bool
     requires { at + index_width ≤ length index.now }
     ensures { result ≡ same_bytes (four_at index.now at) (bytes32 offset) }
@@ -144,17 +213,10 @@ fn is_offset(index: &[u8], at: usize, offset: usize) -> bool
     low + 65536 * high == offset % 4294967296
 }
 
-// Whether the index is that of the first n offsets.
-pub fn index_matches(offsets: &[usize], n: usize, index: &[u8]) -> bool
-    requires { (n ≤ length offsets.now) × (length index.now ≡ index_width * n) }
-    ensures { result ≡ same_bytes index.now (offset_bytes (take n offsets.now)) }
+// Whether the index is that of these offsets.
+pub fn index_matches(offsets: &[usize], index: &[u8]) -> bool
+    requires { length index.now ≡ index_width * length offsets.now }
+    ensures { result ≡ same_bytes index.now (offset_bytes offsets.now) }
 {
-    let mut matched = 0;
-    while matched < n {
-        if !is_offset(index, INDEX_WIDTH * matched, offsets[matched]) {
-            return false;
-        }
-        matched += 1;
-    }
-    true
+    (0..offsets.len()).all(|k| is_offset(index, INDEX_WIDTH * k, offsets[k]))
 }

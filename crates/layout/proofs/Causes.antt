@@ -11,10 +11,8 @@ use lib.Dec.{eqb, ltb}
 use lib.ListN.{length, get_or, take, drop}
 use lib.Seq.{get_or-take, get_or-drop}
 use Rattle.layout.specs.Opened.{levels_of}
-use Rattle.field.specs.Field.{cut_at, le16, len_at, header_length}
-use Rattle.field.specs.declared.Cut.{Cut}
-use Rattle.field.specs.declared.Cut.TheVariants.{Field, Short, Absent}
-use Rattle.field.proofs.Cutting.{Cutting, absent, no_header, no_content, whole, cutting, field_iff, content_length}
+use Rattle.field.specs.Field.{Cut, absent, short, field, cut_at, le16, len_at, header_length}
+use Rattle.field.proofs.Cutting.{Cutting, at_end, no_header, no_content, whole, cutting, field_iff, content_length}
 use Rattle.circuit.specs.Calls.{Test, first_cause}
 use Rattle.layout.specs.Layout.{head_tag, entry_tag, figure_tag, level_limit, edition_known, count_allowed, last_tag, head_length}
 use Rattle.layout.specs.Content.{content_at, edition_in, count_in, item_in}
@@ -115,10 +113,10 @@ field_verdict s p at tests f g t = go (cut_at s at) (cutting s at)
     past x = found (cause1 (f x)) (omega arith) (λ j h l d. omega arith)
 
     go : (c : Cut) → Cutting s at c → Lowest s p 1 (judge tests s c)
-    go Absent (absent h) = past (inr (inr h))
-    go Short (no_header h k) = past (inl k)
-    go Short (no_content h k) = past (inr (inl k))
-    go (Field tag start len next) (whole h) = skip s p 1 _ (λ c. not_whole s at h (g (row1 s p c))) (t h)
+    go absent (at_end h) = past (inr (inr h))
+    go short (no_header h k) = past (inl k)
+    go short (no_content h k) = past (inr (inl k))
+    go (field tag start len next) (whole h) = skip s p 1 _ (λ c. not_whole s at h (g (row1 s p c))) (t h)
 
 -- what the content of a whole field has for a length
 pub whole_length : (s : List ℕ) (at : ℕ) → at + header_length + len_at s at ≤ length s → length (content_at s (at + header_length) (len_at s at)) ≡ len_at s at
@@ -250,7 +248,7 @@ levels_none : (s : List ℕ) → levels_of [] ≡ levels_before s 0
 unfolding levels_before
 levels_none s = refl
 
-module _ (s : List ℕ) (edition : ℕ) (is : edition ≡ edition_of s) (head : cut_at s 0 ≡ Field head_tag header_length head_length head_next) where
+module _ (s : List ℕ) (edition : ℕ) (is : edition ≡ edition_of s) (head : cut_at s 0 ≡ field head_tag header_length head_length head_next) where
   stands_one : (k at : ℕ) (ps : List Placed) (x : Extended s edition k at ps) → Standing s k x.before x.earlier → Standing s (suc k) at ps
   unfolding levels_before
   stands_one k at ps x st =
@@ -300,7 +298,7 @@ abbrev pub Finding : List ℕ → SheetRead → Type 0
 Finding s (opens edition ps) = Faultless s
 Finding s (refused k offset) = FirstFault s k offset
 
-module _ (s : List ℕ) (first-sound : Sound s first) (head : cut_at s 0 ≡ Field head_tag header_length head_length head_next) where
+module _ (s : List ℕ) (first-sound : Sound s first) (head : cut_at s 0 ≡ field head_tag header_length head_length head_next) where
   abbrev ed : ℕ
   ed = edition_in (head_content s)
 
@@ -386,9 +384,9 @@ module _ (s : List ℕ) (first-sound : Sound s first) (head : cut_at s 0 ≡ Fie
             everywhere after m = sound_of s after (after_verdict s false eb)
 
         go : (c : Cut) → cut_at s at ≡ c → judge last_tests s c ≡ 0 → Finding s (conclude ed (scan_end s (after_last s c) ps))
-        go Absent ec q = absurd (omega arith)
-        go Short ec q = absurd (omega arith)
-        go (Field tag start len next) ec q =
+        go absent ec q = absurd (omega arith)
+        go short ec q = absurd (omega arith)
+        go (field tag start len next) ec q =
             let f = (field_iff s at tag start len next).0 ec in
             let o = last_offset in
             let l : len ≡ len_at s (offset_of s last) = f.len_is ∙ ap (len_at s) o in
@@ -400,14 +398,14 @@ pub finding : (s : List ℕ) → Finding s (read_sheet s)
 unfolding read_sheet scan_sheet
 finding s = go (judge head_tests s (cut_at s 0)) refl
   where
-    at_last : Sound s first → cut_at s 0 ≡ Field head_tag header_length head_length head_next → (at : ℕ) (ps : List Placed)
+    at_last : Sound s first → cut_at s 0 ≡ field head_tag header_length head_length head_next → (at : ℕ) (ps : List Placed)
         → scan s (edition_in (head_content s)) (count_in (head_content s)) ≡ going at ps
         → (v : ℕ) → judge last_tests s (cut_at s at) ≡ v
         → Finding s (conclude (edition_in (head_content s)) (go_on v at (scan_end s (after_last s (cut_at s at)) ps)))
     at_last f h at ps e zero q = end_finding s f h at ps e q
     at_last f h at ps e (suc v) q = last_finding s f h at ps e v q
 
-    items : Sound s first → cut_at s 0 ≡ Field head_tag header_length head_length head_next → (r : Scan) → scan s (edition_in (head_content s)) (count_in (head_content s)) ≡ r
+    items : Sound s first → cut_at s 0 ≡ field head_tag header_length head_length head_next → (r : Scan) → scan s (edition_in (head_content s)) (count_in (head_content s)) ≡ r
         → Finding s (conclude (edition_in (head_content s)) (scan_last s r))
     items f h (stopped k o) e = item_finding s f h k o (scan_faulted s (edition_in (head_content s)) (count_in (head_content s)) k o e)
     items f h (going at ps) e = at_last f h at ps e (judge last_tests s (cut_at s at)) refl

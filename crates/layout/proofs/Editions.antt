@@ -10,10 +10,8 @@ use lib.Dec.{eqb, leb}
 use lib.ListN.{length, get_or, drop, set, length-set, length-take, length-drop, get_or-eq_default}
 use lib.Seq.{lt-length-set, get_or-set_same, get_or-set_other, drop-set-lt, set-get_or, get_or-drop, drop-drop}
 use borrow.Author.Tests.{le-leb, lt-leb, ne_eqb, eqb-false}
-use Rattle.field.specs.Field.{Bytes, header_length, le16, len_at, cut_at}
-use Rattle.field.specs.declared.Cut.{Cut}
-use Rattle.field.specs.declared.Cut.TheVariants.{Field, Short, Absent}
-use Rattle.field.proofs.Cutting.{le16_of, le16_low, le16_high, Cutting, absent, no_header, no_content, whole, cutting}
+use Rattle.field.specs.Field.{Cut, absent, short, field, Bytes, header_length, le16, len_at, cut_at}
+use Rattle.field.proofs.Cutting.{le16_of, le16_low, le16_high, Cutting, at_end, no_header, no_content, whole, cutting}
 use Rattle.circuit.specs.Calls.{first_cause}
 use Rattle.layout.specs.Layout.{LayoutItem, entry_field, figure_field, Layout, edition_at, head_length, head_next}
 use Rattle.layout.specs.Layout.{edition_known, item_limit, count_allowed, spread_limit, spread_allowed, head_tag, figure_tag}
@@ -136,10 +134,10 @@ module _ (s : List ℕ) (edition : ℕ) where
     where
       go : (c : Cut) → Cutting s at c → (v : ℕ) → Past (go_on v at (place_field s at ps c))
       go c x (suc v) = tt
-      go Absent (absent x) zero = tt
-      go Short (no_header x y) zero = tt
-      go Short (no_content x y) zero = tt
-      go (Field tag start len next) (whole x) zero = omega arith
+      go absent (at_end x) zero = tt
+      go short (no_header x y) zero = tt
+      go short (no_content x y) zero = tt
+      go (field tag start len next) (whole x) zero = omega arith
 
   pub scan_past : (k : ℕ) → Past (scan s edition k)
   unfolding scan
@@ -176,10 +174,10 @@ module _ (s t : List ℕ) (long : length t ≡ length s) (rest : drop head_next 
       where
         go : (c : Cut) → Cutting s at c
             → go_on (judge (item_tests d ps) t c) at (place_field t at ps c) ≡ go_on (judge (item_tests e ps) s c) at (place_field s at ps c)
-        go Absent (absent x) = refl
-        go Short (no_header x y) = refl
-        go Short (no_content x y) = refl
-        go (Field tag start len next) (whole x) =
+        go absent (at_end x) = refl
+        go short (no_header x y) = refl
+        go short (no_content x y) = refl
+        go (field tag start len next) (whole x) =
             rw (after_same (at + header_length) (omega arith), tests_same ps tag (content_at s start len) (same at ps refl))
 
     -- any number of items
@@ -194,10 +192,10 @@ module _ (s t : List ℕ) (long : length t ≡ length s) (rest : drop head_next 
     where
       go : (c : Cut) → Cutting s at c
           → go_on (judge last_tests t c) at (scan_end t (after_last t c) ps) ≡ go_on (judge last_tests s c) at (scan_end s (after_last s c) ps)
-      go Absent (absent x) = refl
-      go Short (no_header x y) = refl
-      go Short (no_content x y) = refl
-      go (Field tag start len next) (whole x) = rw (after_same (at + header_length) (omega arith), long)
+      go absent (at_end x) = refl
+      go short (no_header x y) = refl
+      go short (no_content x y) = refl
+      go (field tag start len next) (whole x) = rw (after_same (at + header_length) (omega arith), long)
 
 -- The first field and the whole sheet, whose edition is changed to d.
 
@@ -228,17 +226,17 @@ module _ (s : List ℕ) (d : ℕ) (said : edition_of (with_edition d s) ≡ d) w
       cut = cut_agrees s (with_edition d s) 0 (edition_length d s) (byte 0 (omega arith)) (ap₂ le16 (byte 1 (omega arith)) (byte 2 (omega arith)))
 
       go : (c : Cut) → Cutting s 0 c → judge head_tests (with_edition d s) c ≡ judge head_tests s c
-      go Absent (absent x) = refl
-      go Short (no_header x y) = refl
-      go Short (no_content x y) = refl
-      go (Field tag start len next) (whole x) =
+      go absent (at_end x) = refl
+      go short (no_header x y) = refl
+      go short (no_content x y) = refl
+      go (field tag start len next) (whole x) =
           let t : List ℕ = with_edition d s in
           head_cause tag (content_at t header_length len) (content_at s header_length len) (simp (length-take, length-drop, edition_length d s))
           (λ e. let n : len ≡ head_length = sym (whole_length s 0 x) ∙ e in
           rw (ap (content_at t header_length) n, ap (content_at s header_length) n, edition_same t, count_same t, edition_same s, count_same s, said, edition_count d s) allowed)
 
   pub reads_same : head_allowed d (item_count s) ≡ head_allowed (edition_of s) (item_count s)
-      → (cut_at s 0 ≡ Field head_tag header_length head_length head_next → scan (with_edition d s) d (item_count s) ≡ scan s (edition_of s) (item_count s))
+      → (cut_at s 0 ≡ field head_tag header_length head_length head_next → scan (with_edition d s) d (item_count s) ≡ scan s (edition_of s) (item_count s))
       → read_sheet (with_edition d s) ≡ reissued d (read_sheet s)
   unfolding read_sheet scan_sheet
   reads_same allowed scans =
@@ -268,7 +266,7 @@ counts_1_2 n h = rw (le-leb n (item_limit 1) h, le-leb n (item_limit 2) (omega a
 
 module _ (s : List ℕ) (one : edition_of s ≡ 1) where
   -- the items below n, where none of them holds it
-  pub scans_1_2 : cut_at s 0 ≡ Field head_tag header_length head_length head_next → (n : ℕ) → ((j : ℕ) → j < n → holds_forget s j ≡ false)
+  pub scans_1_2 : cut_at s 0 ≡ field head_tag header_length head_length head_next → (n : ℕ) → ((j : ℕ) → j < n → holds_forget s j ≡ false)
       → scan (with_edition 2 s) 2 n ≡ scan s 1 n
   scans_1_2 head n none =
       scan_same s (with_edition 2 s) (edition_length 2 s) (edition_after 2 s) 1 2 n

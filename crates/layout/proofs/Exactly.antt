@@ -13,8 +13,7 @@ use lib.Seq.{take_at, drop-append-add, take-append_seam, take-length, get_or-tak
 use borrow.Author.Tests.{eqb-true, leb-true, ltb-false, le-ltb, le-leb, not-false}
 use Rattle.layout.specs.Opened.{levels_of}
 use Rattle.field.specs.Bytes.{Bytes}
-use Rattle.field.specs.Field.{cut_at, field_bytes, header_length}
-use Rattle.field.specs.declared.Cut.TheVariants.{Field}
+use Rattle.field.specs.Field.{field, cut_at, field_bytes, header_length}
 use Rattle.field.proofs.Cutting.{FieldAt, field_iff, cut_field_bytes, cut_back_bytes, content_length, le16_of}
 use Rattle.layout.specs.Layout.{LayoutItem, entry_field, figure_field, Layout, head_tag, figure_tag, last_tag, edition_known, count_allowed, level_limit, keep_allowed, spread_allowed}
 use Rattle.layout.specs.Layout.{rule_allowed, name_allowed, all, head_length, parents_at}
@@ -121,7 +120,7 @@ scan_one s pre post edition k ps it es e w =
     let content : List ℕ = content_of it in
     let es' : s ≡ pre ++ (field_bytes tag content ++ post) = es ∙ ap (λ b. pre ++ (b ++ post)) (item_bytes_field it) in
     let n : length (item_bytes it) ≡ header_length + length content = omega (arith, ap length (item_bytes_field it)) in
-    let c : cut_at s (length pre) ≡ Field tag (length pre + header_length) (length content) (length pre + header_length + length content) =
+    let c : cut_at s (length pre) ≡ field tag (length pre + header_length) (length content) (length pre + header_length + length content) =
     ap (λ t. cut_at t (length pre)) es' ∙ cut_field_bytes pre content post tag in
     let d : content_at s (length pre + header_length) (length content) ≡ content =
     ap (λ t. content_at t (length pre + header_length) (length content)) es' ∙ content_between pre content post tag in
@@ -337,7 +336,7 @@ four_long (a ∷ b ∷ c ∷ d ∷ []) h = refl
 four_long (a ∷ b ∷ c ∷ d ∷ x ∷ xs) h = absurd (omega arith)
 
 -- the first field is that of its edition and item count
-head_written : (s : List ℕ) → Bytes s → cut_at s 0 ≡ Field head_tag header_length head_length head_next
+head_written : (s : List ℕ) → Bytes s → cut_at s 0 ≡ field head_tag header_length head_length head_next
     → take head_next s ≡ field_bytes head_tag (bytes16 (edition_in (head_content s)) ++ bytes16 (count_in (head_content s)))
 head_written s b e =
     let f = (field_iff s 0 head_tag header_length head_length head_next).0 e in

@@ -10,8 +10,7 @@ use native.Mathlib.Decide.{ℕ_discrete}
 use lib.Dec.{eqb}
 use lib.ListN.{take, get_or}
 use borrow.Author.Tests.{eqb-true}
-use Rattle.field.specs.Field.{header_length, len_at, cut_at}
-use Rattle.field.specs.declared.Cut.TheVariants.{Field}
+use Rattle.field.specs.Field.{field, header_length, len_at, cut_at}
 use Rattle.field.proofs.Cutting.{field_iff}
 use Rattle.circuit.specs.Calls.{first_cause}
 use Rattle.layout.specs.Layout.{figure_field, head_length, head_next, head_tag, figure_tag, item_limit, spread_limit, spread_allowed, rule_allowed, keep_allowed}
@@ -50,13 +49,13 @@ module _ (s : List ℕ) (one : edition_of s ≡ 1) (sound : Faultless s) (i : �
 
   -- the sheet opens: its first field, and its items
   record Read : Type 0 where
-    head : cut_at s 0 ≡ Field head_tag header_length head_length head_next
+    head : cut_at s 0 ≡ field head_tag header_length head_length head_next
     judged : judge head_tests s (cut_at s 0) ≡ 0
     few : item_count s ≤ item_limit 1
     earlier : List Placed
     scanned : scan s 1 i ≡ going (offset_of s (item i)) earlier
     next : ℕ
-    whole : cut_at s (offset_of s (item i)) ≡ Field (tag_of s (item i)) (offset_of s (item i) + header_length) (len_at s (offset_of s (item i))) next
+    whole : cut_at s (offset_of s (item i)) ≡ field (tag_of s (item i)) (offset_of s (item i) + header_length) (len_at s (offset_of s (item i))) next
     passed : Passes 1 earlier (tag_of s (item i)) (content_of s (item i))
 
   is_read : Read

@@ -13,9 +13,7 @@ use lib.Dec.{eqb, leb, ltb}
 use lib.ListN.{length, get_or, take, length-append, length-map, get_or-map, get_or-eq_default}
 use lib.Seq.{length-take-le, take-append-le, take_all, get_or_at, get_or-take}
 use borrow.Author.Tests.{eqb-true, leb-true, ltb-true, ltb-false, not-false, eq-eqb, le-ltb}
-use Rattle.field.specs.Field.{cut_at, header_length}
-use Rattle.field.specs.declared.Cut.{Cut}
-use Rattle.field.specs.declared.Cut.TheVariants.{Field, Short, Absent}
+use Rattle.field.specs.Field.{Cut, absent, short, field, cut_at, header_length}
 use Rattle.field.proofs.Cutting.{field_iff, content_length}
 use Rattle.circuit.specs.Calls.{Test, test, first_cause}
 use Rattle.circuit.specs.Circuit.{Listed}
@@ -46,7 +44,7 @@ pub record ItemRead (s : List ℕ) (edition : ℕ) (ps : List Placed) (at : ℕ)
   pub tag : ℕ
   pub start : ℕ
   pub len : ℕ
-  pub whole : cut_at s at ≡ Field tag start len next
+  pub whole : cut_at s at ≡ field tag start len next
   pub item_is : it ≡ item_in tag (content_at s start len)
   pub sound : first_cause (item_tests edition ps tag (content_at s start len)) ≡ 0
 
@@ -63,12 +61,12 @@ module _ (s : List ℕ) (edition : ℕ) where
   field_placed : (k before : ℕ) (earlier : List Placed) → scan s edition k ≡ going before earlier → (c : Cut) → cut_at s before ≡ c
       → (v : ℕ) → judge (item_tests edition earlier) s c ≡ v → (at : ℕ) (ps : List Placed) → go_on v before (place_field s before earlier c) ≡ going at ps
       → Extended s edition k at ps
-  field_placed k b qs ek Absent ec zero ej at ps e = absurd (omega arith)
-  field_placed k b qs ek Absent ec (suc v) ej at ps e = let z : ◌≡◌ {A = ℕ} 0 1 = cc in absurd (omega arith)
-  field_placed k b qs ek Short ec zero ej at ps e = absurd (omega arith)
-  field_placed k b qs ek Short ec (suc v) ej at ps e = let z : ◌≡◌ {A = ℕ} 0 1 = cc in absurd (omega arith)
-  field_placed k b qs ek (Field tag start len next) ec (suc v) ej at ps e = let z : ◌≡◌ {A = ℕ} 0 1 = cc in absurd (omega arith)
-  field_placed k b qs ek (Field tag start len next) ec zero ej at ps e =
+  field_placed k b qs ek absent ec zero ej at ps e = absurd (omega arith)
+  field_placed k b qs ek absent ec (suc v) ej at ps e = let z : ◌≡◌ {A = ℕ} 0 1 = cc in absurd (omega arith)
+  field_placed k b qs ek short ec zero ej at ps e = absurd (omega arith)
+  field_placed k b qs ek short ec (suc v) ej at ps e = let z : ◌≡◌ {A = ℕ} 0 1 = cc in absurd (omega arith)
+  field_placed k b qs ek (field tag start len next) ec (suc v) ej at ps e = let z : ◌≡◌ {A = ℕ} 0 1 = cc in absurd (omega arith)
+  field_placed k b qs ek (field tag start len next) ec zero ej at ps e =
       let n : next ≡ at = cc in
       record {
         before = b;
@@ -185,9 +183,9 @@ pub record Faulted (s : List ℕ) (edition n number offset : ℕ) : Type 0 where
 module _ (s : List ℕ) (edition : ℕ) where
   field_faulted : (k number offset b : ℕ) (qs : List Placed) → scan s edition k ≡ going b qs → (c : Cut) → cut_at s b ≡ c
       → (v : ℕ) → judge (item_tests edition qs) s c ≡ v → go_on v b (place_field s b qs c) ≡ stopped number offset → Faulted s edition (suc k) number offset
-  field_faulted k number offset b qs ek Absent ec zero ej e = absurd (omega arith)
-  field_faulted k number offset b qs ek Short ec zero ej e = absurd (omega arith)
-  field_faulted k number offset b qs ek (Field tag start len next) ec zero ej e = let z : ◌≡◌ {A = ℕ} 0 1 = cc in absurd (omega arith)
+  field_faulted k number offset b qs ek absent ec zero ej e = absurd (omega arith)
+  field_faulted k number offset b qs ek short ec zero ej e = absurd (omega arith)
+  field_faulted k number offset b qs ek (field tag start len next) ec zero ej e = let z : ◌≡◌ {A = ℕ} 0 1 = cc in absurd (omega arith)
   field_faulted k number offset b qs ek c ec (suc v) ej e =
       let n : suc v ≡ number = cc in
       let o : b ≡ offset = cc in
@@ -274,17 +272,17 @@ all_by test (y ∷ ys) f = and_both (test y) (all test ys) (f y (inl refl)) (all
 pub record Opened (s : List ℕ) (edition : ℕ) (ps : List Placed) : Type 0 where
   -- the offset of the last field
   pub at : ℕ
-  pub head : cut_at s 0 ≡ Field head_tag header_length head_length head_next
+  pub head : cut_at s 0 ≡ field head_tag header_length head_length head_next
   pub edition_is : edition_in (head_content s) ≡ edition
   pub edition_fits : edition_known edition ≡ true
   pub count_fits : count_allowed edition (count_in (head_content s)) ≡ true
   pub scanned : scan s edition (count_in (head_content s)) ≡ going at ps
-  pub last : cut_at s at ≡ Field last_tag (at + header_length) 0 (length s)
+  pub last : cut_at s at ≡ field last_tag (at + header_length) 0 (length s)
 
 module _ (s : List ℕ) where
   -- the first field
   pub record HeadRead : Type 0 where
-    pub head : cut_at s 0 ≡ Field head_tag header_length head_length head_next
+    pub head : cut_at s 0 ≡ field head_tag header_length head_length head_next
     pub edition_fits : edition_known (edition_in (head_content s)) ≡ true
     pub count_fits : count_allowed (edition_in (head_content s)) (count_in (head_content s)) ≡ true
 
@@ -293,9 +291,9 @@ module _ (s : List ℕ) where
   head_read e = go (cut_at s 0) refl e
     where
       go : (c : Cut) → cut_at s 0 ≡ c → judge head_tests s c ≡ 0 → HeadRead
-      go Absent ec h = absurd (omega arith)
-      go Short ec h = absurd (omega arith)
-      go (Field tag start len next) ec h =
+      go absent ec h = absurd (omega arith)
+      go short ec h = absurd (omega arith)
+      go (field tag start len next) ec h =
           let a = cause_none 1 _ _ h in
           let b = cause_none 2 _ _ a.1 in
           let c = cause_none 3 _ _ b.1 in
@@ -321,7 +319,7 @@ module _ (s : List ℕ) where
 
   -- the last field, at its offset
   pub last_read : (at : ℕ) (ps : List Placed) (k : ℕ) (qs : List Placed) → scan_last s (going at ps) ≡ going k qs
-      → (cut_at s at ≡ Field last_tag (at + header_length) 0 (length s)) × (ps ≡ qs)
+      → (cut_at s at ≡ field last_tag (at + header_length) 0 (length s)) × (ps ≡ qs)
   unfolding last_tests
   last_read at ps k qs e = go (cut_at s at) refl (judge last_tests s (cut_at s at)) refl e
     where
@@ -330,13 +328,13 @@ module _ (s : List ℕ) where
       end next h false eb x = (omega (arith, ltb-false next (length s) eb), cc)
 
       go : (c : Cut) → cut_at s at ≡ c → (v : ℕ) → judge last_tests s c ≡ v → go_on v at (scan_end s (after_last s c) ps) ≡ going k qs
-          → (cut_at s at ≡ Field last_tag (at + header_length) 0 (length s)) × (ps ≡ qs)
-      go Absent ec zero h x = absurd (omega arith)
-      go Absent ec (suc v) h x = let z : ◌≡◌ {A = ℕ} 0 1 = cc in absurd (omega arith)
-      go Short ec zero h x = absurd (omega arith)
-      go Short ec (suc v) h x = let z : ◌≡◌ {A = ℕ} 0 1 = cc in absurd (omega arith)
-      go (Field tag start len next) ec (suc v) h x = let z : ◌≡◌ {A = ℕ} 0 1 = cc in absurd (omega arith)
-      go (Field tag start len next) ec zero h x =
+          → (cut_at s at ≡ field last_tag (at + header_length) 0 (length s)) × (ps ≡ qs)
+      go absent ec zero h x = absurd (omega arith)
+      go absent ec (suc v) h x = let z : ◌≡◌ {A = ℕ} 0 1 = cc in absurd (omega arith)
+      go short ec zero h x = absurd (omega arith)
+      go short ec (suc v) h x = let z : ◌≡◌ {A = ℕ} 0 1 = cc in absurd (omega arith)
+      go (field tag start len next) ec (suc v) h x = let z : ◌≡◌ {A = ℕ} 0 1 = cc in absurd (omega arith)
+      go (field tag start len next) ec zero h x =
           let a = cause_none 1 _ _ h in
           let b = cause_none 2 _ _ a.1 in
           let f = (field_iff s at tag start len next).0 ec in
@@ -348,7 +346,7 @@ module _ (s : List ℕ) where
           let y0 = y.0 in
           (cc, y.1)
 
-  pub last_scanned : (at : ℕ) (ps : List Placed) → cut_at s at ≡ Field last_tag (at + header_length) 0 (length s) → scan_last s (going at ps) ≡ going (length s) ps
+  pub last_scanned : (at : ℕ) (ps : List Placed) → cut_at s at ≡ field last_tag (at + header_length) 0 (length s) → scan_last s (going at ps) ≡ going (length s) ps
   unfolding last_tests first_cause
   last_scanned at ps e = rw e (simp (le-ltb (length s) (length s) (omega arith)))
 

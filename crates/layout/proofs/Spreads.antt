@@ -11,11 +11,9 @@ use lib.Dec.{eqb, ltb}
 use lib.ListN.{length, get_or, drop, set, length-set, length-take, length-drop, length-map, get_or-eq_default}
 use lib.Seq.{ext_get_or, get_or-take, get_or-drop, get_or-set_same, get_or-set_other}
 use borrow.Author.Tests.{eq-eqb, eqb-true, eqb-false}
-use Rattle.field.specs.Field.{header_length, le16, len_at, cut_at}
-use Rattle.field.specs.declared.Cut.{Cut}
-use Rattle.field.specs.declared.Cut.TheVariants.{Field, Short, Absent}
+use Rattle.field.specs.Field.{Cut, absent, short, field, header_length, le16, len_at, cut_at}
 use Rattle.circuit.specs.Calls.{first_cause}
-use Rattle.field.proofs.Cutting.{Cutting, absent, no_header, no_content, whole, cutting}
+use Rattle.field.proofs.Cutting.{Cutting, at_end, no_header, no_content, whole, cutting}
 use Rattle.layout.specs.Layout.{LayoutItem, entry_field, figure_field, head_length, head_next, head_tag}
 use Rattle.layout.specs.Layout.{figure_tag, spread_at, parents_at, parent_at, spread_limit, spread_allowed, name_allowed}
 use Rattle.layout.specs.Content.{content_at, rule_in, keep_in, spread_in, parent_count_in, parents_in, name_in, item_in}
@@ -273,10 +271,10 @@ module _ (s t : List ℕ) (differ : DifferInSpreads s t) where
       cut = cut_agrees s t 0 differ.long (head_byte 0 (omega arith)) (ap₂ le16 (head_byte 1 (omega arith)) (head_byte 2 (omega arith)))
 
       go : (c : Cut) → Cutting s 0 c → judge head_tests t c ≡ judge head_tests s c
-      go Absent (absent x) = refl
-      go Short (no_header x y) = refl
-      go Short (no_content x y) = refl
-      go (Field tag start len next) (whole x) =
+      go absent (at_end x) = refl
+      go short (no_header x y) = refl
+      go short (no_content x y) = refl
+      go (field tag start len next) (whole x) =
           head_cause tag (content_at t header_length len) (content_at s header_length len) (simp (length-take, length-drop, differ.long))
           (λ e. let n : len ≡ head_length = sym (whole_length s 0 x) ∙ e in
           rw (ap (content_at t header_length) n, ap (content_at s header_length) n, edition_same t, count_same t, edition_same s, count_same s, edition_alike, items_alike))
@@ -315,10 +313,10 @@ module _ (s t : List ℕ) (differ : DifferInSpreads s t) (g : ℕ → ℕ) where
 
         go : (c : Cut) → Cutting s at c
             → SameScan (go_on (judge (item_tests ed ps) s c) at (place_field s at ps c)) (go_on (judge (item_tests ed qs) t c) at (place_field t at qs c))
-        go Absent (absent x) = halted 1 at
-        go Short (no_header x y) = halted 1 at
-        go Short (no_content x y) = halted 1 at
-        go (Field tag start len next) (whole x) =
+        go absent (at_end x) = halted 1 at
+        go short (no_header x y) = halted 1 at
+        go short (no_content x y) = halted 1 at
+        go (field tag start len next) (whole x) =
             let d : List ℕ = content_at t start len in
             let alike : Alike tag (content_at s start len) d = content_alike s t differ j low x in
             let similar : Similar g ed (item_in tag (content_at s start len)) (item_in tag d) =
@@ -330,7 +328,7 @@ module _ (s t : List ℕ) (differ : DifferInSpreads s t) (g : ℕ → ℕ) where
             judged xs ys zero more = goes next xs ys more
             judged xs ys (suc v) more = halted (suc v) at
 
-    scan_alike : cut_at s 0 ≡ Field head_tag header_length head_length head_next → (k : ℕ) → k ≤ item_count s → SameScan (scan s ed k) (scan t ed k)
+    scan_alike : cut_at s 0 ≡ field head_tag header_length head_length head_next → (k : ℕ) → k ≤ item_count s → SameScan (scan s ed k) (scan t ed k)
     unfolding scan
     scan_alike head zero h = goes head_next [] [] refl
     scan_alike head (suc k) h = go (scan s ed k) (scan t ed k) refl (scan_alike head k (omega arith))
@@ -355,10 +353,10 @@ module _ (s t : List ℕ) (differ : DifferInSpreads s t) (g : ℕ → ℕ) where
 
         go : (c : Cut) → Cutting s at c
             → SameScan (go_on (judge last_tests s c) at (scan_end s (after_last s c) ps)) (go_on (judge last_tests t c) at (scan_end t (after_last t c) qs))
-        go Absent (absent x) = halted 1 at
-        go Short (no_header x y) = halted 1 at
-        go Short (no_content x y) = halted 1 at
-        go (Field tag start len next) (whole x) =
+        go absent (at_end x) = halted 1 at
+        go short (no_header x y) = halted 1 at
+        go short (no_content x y) = halted 1 at
+        go (field tag start len next) (whole x) =
             rw (after_last_lem s t differ (at + header_length) (omega arith), differ.long)
             (judged (first_cause (last_tests tag (content_at s start len))) (ltb next (length s)))
           where
@@ -381,7 +379,7 @@ module _ (s t : List ℕ) (differ : DifferInSpreads s t) (g : ℕ → ℕ) where
         concludes _ _ (halted k at) = both_refused k at
         concludes _ _ (goes at ps qs e) = both_open ed ps qs e
 
-        ends : cut_at s 0 ≡ Field head_tag header_length head_length head_next → (r q : Scan) → scan s ed n ≡ r → SameScan r q → SameScan (scan_last s r) (scan_last t q)
+        ends : cut_at s 0 ≡ field head_tag header_length head_length head_next → (r q : Scan) → scan s ed n ≡ r → SameScan r q → SameScan (scan_last s r) (scan_last t q)
         ends head _ _ x (halted k at) = halted k at
         ends head _ _ x (goes at ps qs e) =
             let o : at ≡ offset_of s last = (stands s ed refl head n at ps x).offset_is in

@@ -1,9 +1,7 @@
 -- Reading a sheet: its layout, or the number and the offset of its first fault. The fields are judged in order, each by a
 -- list of tests in the order of their numbers. Assumes nothing.
 use Rattle.std.specs.Prelude.{ℕ, zero, suc, Bool, false, cond, not, ◌&&◌, ◌||◌, List, [], ◌∷◌, ◌++◌, map, eqb, ltb, length, get_or}
-use Rattle.field.specs.Field.{header_length, cut_at}
-use Rattle.field.specs.declared.Cut.{Cut}
-use Rattle.field.specs.declared.Cut.TheVariants.{Field, Short, Absent}
+use Rattle.field.specs.Field.{Cut, absent, short, field, header_length, cut_at}
 use Rattle.circuit.specs.Calls.{Test, test, first_cause}
 use Rattle.layout.specs.Layout.{LayoutItem, entry_field, figure_field, Layout, head_tag, entry_tag, figure_tag, last_tag, head_length, head_next, parents_at, edition_known, count_allowed}
 use Rattle.layout.specs.Layout.{level_limit, keep_allowed, spread_allowed, rule_allowed, name_allowed, all, highest}
@@ -73,9 +71,9 @@ last_tests tag content = test 2 (not (eqb tag last_tag)) ∷ test 3 (not (eqb (l
 -- A field judged: the number of its lowest cause, or 0. A field that is absent or runs past the end has
 -- cause 1, and nothing else of it is looked at.
 abbrev pub judge : (ℕ → List ℕ → List Test) → List ℕ → Cut → ℕ
-judge tests s Absent = 1
-judge tests s Short = 1
-judge tests s (Field tag start len next) = first_cause (tests tag (content_at s start len))
+judge tests s absent = 1
+judge tests s short = 1
+judge tests s (field tag start len next) = first_cause (tests tag (content_at s start len))
 
 -- the reading so far: the offset of the next field and the items read, or the number and offset of the first fault
 pub data Scan : Type 0 where
@@ -86,9 +84,9 @@ abbrev pub place_item : ℕ → List Placed → LayoutItem → List Placed
 place_item at ps it = ps ++ (placed at it (item_level ps it) ∷ [])
 
 abbrev pub place_field : List ℕ → ℕ → List Placed → Cut → Scan
-place_field s at ps Absent = stopped 1 at
-place_field s at ps Short = stopped 1 at
-place_field s at ps (Field tag start len next) =
+place_field s at ps absent = stopped 1 at
+place_field s at ps short = stopped 1 at
+place_field s at ps (field tag start len next) =
     going next (place_item at ps (item_in tag (content_at s start len)))
 
 -- on without a fault, else stopped by it at the field's offset
@@ -107,9 +105,9 @@ scan s edition zero = going head_next []
 scan s edition (suc k) = scan_item s edition (scan s edition k)
 
 abbrev pub after_last : List ℕ → Cut → ℕ
-after_last s Absent = length s
-after_last s Short = length s
-after_last s (Field tag start len next) = next
+after_last s absent = length s
+after_last s short = length s
+after_last s (field tag start len next) = next
 
 -- bytes after the last field have cause 2, at the offset where they begin
 abbrev pub scan_end : List ℕ → ℕ → List Placed → Scan

@@ -1,4 +1,6 @@
 // The tags, places and limits of the layout, each once. The contracts hold the limits to those of the definitions.
+// An edition, a keep and a spread are numbers here, and no enums: bytes of a sheet, which the definitions name by the same numbers (item gives an
+// item's spread as an enum).
 #![tactic(auto)]
 
 ghost use Rattle.std.specs.Prelude.{◌≡◌};
@@ -52,9 +54,10 @@ const LAST_NAME_BYTE: u8 = 126;
 pub fn name_byte(b: u8) -> bool
     ensures { result ≡ name_byte b }
 {
-    FIRST_NAME_BYTE <= b && b <= LAST_NAME_BYTE
+    (FIRST_NAME_BYTE..=LAST_NAME_BYTE).contains(&b)
 }
 
+#[tactic(auto, unfolding(layout::specs::Layout::edition_known))]
 pub fn edition_known(edition: usize) -> bool
     ensures { result ≡ edition_known edition }
 {
@@ -62,6 +65,7 @@ pub fn edition_known(edition: usize) -> bool
 }
 
 // The most items of a sheet of an edition.
+#[tactic(auto, unfolding(layout::specs::Layout::item_limit))]
 pub fn item_limit(edition: usize) -> usize
     ensures { result ≡ item_limit edition }
 {
@@ -72,12 +76,14 @@ pub fn item_limit(edition: usize) -> usize
     }
 }
 
+#[tactic(auto, unfolding(layout::specs::Layout::count_allowed))]
 pub fn count_allowed(edition: usize, n: usize) -> bool
     ensures { result ≡ count_allowed edition n }
 {
-    1 <= n && n <= item_limit(edition)
+    (1..=item_limit(edition)).contains(&n)
 }
 
+#[tactic(auto, unfolding(layout::specs::Layout::keep_allowed))]
 pub fn keep_allowed(keep: u8) -> bool
     ensures { result ≡ keep_allowed keep }
 {
@@ -85,12 +91,14 @@ pub fn keep_allowed(keep: u8) -> bool
 }
 
 // The highest spread of an edition: 0 is defer, 1 renew, and 2 is retired in edition 2.
+#[tactic(auto, unfolding(layout::specs::Layout::spread_limit))]
 fn spread_limit(edition: usize) -> u8
     ensures { result ≡ spread_limit edition }
 {
     if edition == 2 { 1 } else { 2 }
 }
 
+#[tactic(auto, unfolding(layout::specs::Layout::spread_allowed))]
 pub fn spread_allowed(edition: usize, spread: u8) -> bool
     ensures { result ≡ spread_allowed edition spread }
 {

@@ -1,4 +1,3 @@
 pub mod FigureAt
 pub mod Gathering
 pub mod Looking
-pub mod Settling

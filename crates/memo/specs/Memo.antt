@@ -1,15 +1,15 @@
--- What a pass of look-ups remembers: for each item a tag and a number, in two arrays. A tag holds the generation of the
+-- What a pass of look-ups remembers: a note for each item, which has a tag and a number. A tag holds the generation of the
 -- pass, the kind of the value and the flag, so that a new generation starts with nothing remembered. Assumes nothing.
-use Rattle.std.specs.Prelude.{ℕ, ◌+◌, ◌*◌, ◌/◌, ◌%◌, ◌<◌, ◌≤◌, ◌≡◌, Bool, true, false, cond, List, eqb, ℤ, pos, get_or, length}
+use Rattle.std.specs.Prelude.{ℕ, ◌+◌, ◌*◌, ◌/◌, ◌%◌, ◌<◌, ◌≤◌, ◌≡◌, Bool, true, false, cond, List, eqb, ℤ, pos, get_or, set, length}
+use Rattle.std.specs.Prelude as core
 use Rattle.std.proofs.Math.Option.{Option, none, some}
-use Rattle.circuit.specs.Value.{Value, kind_of, of_parts}
+use Rattle.circuit.specs.Value.{Value, kind_of, number_of, of_parts}
 use Rattle.circuit.specs.Sheet.{Sheet, size}
 use Rattle.circuit.specs.Table.{Table, Cell, unk, held, is_notice}
 use Rattle.circuit.specs.Machine.{looked, look_up}
 use Rattle.value.specs.Meaning.{meaning}
 use Rattle.memo.specs.declared.Seen.{Seen}
-use Rattle.memo.specs.declared.Recall.{Recall}
-use Rattle.memo.specs.declared.Recall.TheVariants.{Known, Unknown}
+use Rattle.memo.specs.declared.Note.{Note}
 
 -- what a look-up gives: a value, and whether it is flagged
 pub record Found : Type 0 where
@@ -22,9 +22,9 @@ found v f = record { value = v; flag = f }
 abbrev pub seen_meaning : Seen → Found
 seen_meaning s = found (meaning s.value) s.flag
 
-abbrev pub recall_meaning : Recall → Option Found
-recall_meaning (Known s) = some (seen_meaning s)
-recall_meaning Unknown = none
+abbrev pub recall_meaning : core.Option Seen → Option Found
+recall_meaning (core.Some s) = some (seen_meaning s)
+recall_meaning core.None = none
 
 abbrev pub bit : Bool → ℕ
 bit true = 1
@@ -40,10 +40,37 @@ tag_of generation f = 8 * generation + code_of f
 abbrev pub found_in : ℕ → ℤ → Found
 found_in code z = found (of_parts (code / 2) z) (eqb (code % 2) 1)
 
--- what is remembered of item i in a generation
-unfoldable pub remembered : List ℕ → List ℤ → ℕ → ℕ → Option Found
-remembered tags numbers generation i =
-    cond (eqb (get_or tags i 0 / 8) generation) (some (found_in (get_or tags i 0 % 8) (get_or numbers i (pos 0)))) none
+-- a tag has room for generations below this
+abbrev pub most_generations : ℕ
+most_generations = 2_147_483_648
+
+-- the notes of a pass, and its generation
+pub record Pass : Type 0 where
+  pub notes : List Note
+  pub generation : ℕ
+
+abbrev pub pass : List Note → ℕ → Pass
+pass notes generation = record { notes = notes; generation = generation }
+
+abbrev pub no_note : Note
+no_note = record { tag = 0; number = pos 0 }
+
+abbrev pub note_of : ℕ → Found → Note
+note_of generation f = record { tag = tag_of generation f; number = number_of f.value }
+
+abbrev pub note_at : Pass → ℕ → Note
+note_at m i = get_or m.notes i no_note
+
+abbrev pub found_by : Note → Found
+found_by note = found_in (note.tag % 8) note.number
+
+-- what is remembered of item i
+unfoldable pub remembered : Pass → ℕ → Option Found
+remembered m i = cond (eqb ((note_at m i).tag / 8) m.generation) (some (found_by (note_at m i))) none
+
+-- a pass with one note more
+abbrev pub noted : Pass → ℕ → Found → Pass
+noted m i f = pass (set m.notes i (note_of m.generation f)) m.generation
 
 -- what is known of an item without working it out, by its cell and by what is remembered
 abbrev pub known_of : Cell → Option Found → Option Found
@@ -51,19 +78,15 @@ known_of (held v m) r = some (found v (is_notice m))
 known_of (unk f) r = r
 
 -- The memo is right for the table T: looking up a remembered item gives what is remembered, and changes nothing.
-abbrev pub Remembers : Sheet → Table → List ℕ → List ℤ → ℕ → Type 0
-Remembers S T tags numbers generation =
-    (j : ℕ) (f : Found) → remembered tags numbers generation j ≡ some f → look_up S T j ≡ looked T f.value f.flag
+abbrev pub Remembers : Sheet → Table → Pass → Type 0
+Remembers S T m = (j : ℕ) (f : Found) → remembered m j ≡ some f → look_up S T j ≡ looked T f.value f.flag
 
--- A memo in a generation: both arrays have room for every item, no tag is of a later generation, and what is remembered
--- is right. Generations are few enough for a tag to fit.
-pub record Memo (S : Sheet) (T : Table) (tags : List ℕ) (numbers : List ℤ) (generation : ℕ) : Type 0 where
-  pub tag_room : size S ≤ length tags
-  pub number_room : size S ≤ length numbers
-  pub generations : generation < 2_147_483_648
-  pub young : (j : ℕ) → get_or tags j 0 < 8 * (generation + 1)
-  pub right : Remembers S T tags numbers generation
+-- A memo in a generation: there is room for every item, no tag is of a later generation, and what is remembered is right.
+pub record Right (S : Sheet) (T : Table) (m : Pass) : Type 0 where
+  pub room : size S ≤ length m.notes
+  pub young : (j : ℕ) → (note_at m j).tag < 8 * (m.generation + 1)
+  pub right : Remembers S T m
 
 -- Nothing is remembered at or above item b.
-abbrev pub NoneFrom : ℕ → List ℕ → ℕ → Type 0
-NoneFrom b tags generation = (j : ℕ) → b ≤ j → get_or tags j 0 < 8 * generation
+abbrev pub NoneFrom : ℕ → Pass → Type 0
+NoneFrom b m = (j : ℕ) → b ≤ j → (note_at m j).tag < 8 * m.generation

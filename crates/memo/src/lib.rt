@@ -1,63 +1,111 @@
-// What a pass of look-ups remembers, so that each unstored figure is worked out once in it. Two arrays lent by the call have,
-// for each item, a tag (the generation of the pass, and the value's kind and flag) and a number.
+// What a pass of look-ups remembers, so that each unstored figure is worked out once in it: a note for each item, in an array that
+// is lent by the call.
 #![tactic(auto)]
 
-ghost use Rattle.std.specs.Prelude.{◌≡◌, ◌<◌, length, set};
-ghost use Rattle.circuit.specs.Value.{number_of};
-ghost use Rattle.value.specs.Meaning.{meaning};
-ghost use Rattle.memo.specs.Memo.{seen_meaning, recall_meaning, remembered, tag_of};
+ghost use Rattle.std.specs.Prelude.{◌≡◌, ◌<◌, length};
+ghost use Rattle.memo.specs.Memo.{most_generations, pass, note_of, noted, found_by, seen_meaning, recall_meaning, remembered};
 
+use std::marker::Model;
 use value::Value;
 
 // What looking up an item gives: its value, and whether it is flagged.
-#[derive(Clone, Copy)]
+#[derive(Clone, Copy, PartialEq, Eq, Debug)]
 pub struct Seen {
     pub value: Value,
     pub flag: bool,
 }
 
-#[derive(Clone, Copy)]
-pub enum Recall {
-    Known(Seen),
-    Unknown,
+// What is remembered of an item: a tag (the generation of the pass, and the value's kind and flag) and the value's number.
+// One tag: with a Seen in it a note would take 32 bytes; in 16 its generation would be a u32, cast where Memo's is compared, beside kind and flag.
+#[derive(Clone, Copy, PartialEq, Eq, Debug)]
+pub struct Note {
+    tag: u64,
+    number: i64,
 }
 
-// What is remembered of item i.
-pub fn recalled(tags: &[u64], numbers: &[i64], generation: u64, i: usize) -> Recall
-    requires fact_1 { i < length tags.now }
-    requires fact_2 { i < length numbers.now }
-    ensures { recall_meaning result ≡ remembered tags.now numbers.now generation i }
-{
-    let tag = tags[i];
-    if tag / 8 != generation {
-        return Recall::Unknown;
+impl Note {
+    // No pass has generation 0.
+    pub const NONE: Note = Note { tag: 0, number: 0 };
+
+    fn of(generation: u64, seen: Seen) -> Note
+        requires generation_fits { generation < most_generations }
+        ensures { result ≡ note_of generation (seen_meaning seen) }
+    {
+        let value = seen.value;
+        let code = 2 * u64::from(value.kind()) + u64::from(seen.flag);
+        Note {
+            tag: 8 * generation + code,
+            number: value.number_or_zero(),
+        }
     }
-    let code = tag % 8;
-    let number = numbers[i];
-    Recall::Known(Seen {
-        value: Value::of_parts((code / 2) as u8, number),
-        flag: code % 2 == 1,
-    })
+
+    fn seen(self) -> Seen
+        ensures { seen_meaning result ≡ found_by self }
+    {
+        let code = self.tag % 8;
+        Seen {
+            value: Value::of_parts((code / 2) as u8, self.number),
+            flag: code % 2 == 1,
+        }
+    }
 }
 
-fn tag_of(generation: u64, seen: Seen) -> u64
-    requires { generation < 2_147_483_648 }
-    ensures { result ≡ tag_of generation (seen_meaning seen) }
-{
-    let value = seen.value;
-    let code = 8 * generation + 2 * word::wide(value.kind());
-    if seen.flag { code + 1 } else { code }
+// The notes of a pass, whose generation sets it apart from the passes before: only notes of this generation are remembered.
+#[derive(Drop)]
+pub struct Memo<'a> {
+    notes: &'a mut [Note],
+    generation: u64,
 }
 
-// Item i is remembered.
-pub fn remember(tags: &mut [u64], numbers: &mut [i64], generation: u64, i: usize, seen: Seen)
-    requires fact_1 { i < length tags.old }
-    requires fact_2 { i < length numbers.old }
-    requires fact_3 { generation < 2_147_483_648 }
-    ensures tagged { tags.new ≡ set tags.old i (tag_of generation (seen_meaning seen)) }
-    ensures numbered { numbers.new ≡ set numbers.old i (number_of (meaning seen.value)) }
-{
-    tags[i] = tag_of(generation, seen);
-    let value = seen.value;
-    numbers[i] = value.number_or_zero();
+impl<'a> Model for Memo<'a> {
+    ghost use Rattle.std.specs.Prelude.{◌<◌};
+    ghost use Rattle.memo.specs.Memo.{Pass, pass, most_generations};
+
+    ghost Value = { Pass };
+
+    ghost view = { λ m. pass m.notes.now m.generation };
+
+    // a tag has room for the generation
+    ghost invariant = { λ m. m.generation < most_generations };
+}
+
+impl<'a> Memo<'a> {
+    pub fn new(notes: &'a mut [Note]) -> Memo<'a>
+        ensures { result ≡ pass notes.entry.now 1 }
+    {
+        Memo {
+            notes,
+            generation: 1,
+        }
+    }
+
+    // A pass of the generation begins.
+    pub fn begin(&mut self, generation: u64)
+        requires generation_fits { generation < most_generations }
+        ensures { self.new ≡ pass self.old.notes generation }
+    {
+        self.generation = generation;
+    }
+
+    // What is remembered of item i.
+    #[tactic(auto, unfolding(crate::specs::Memo::remembered))]
+    pub fn recalled(&self, i: usize) -> Option<Seen>
+        requires within { i < length self.now.notes }
+        ensures { recall_meaning result ≡ remembered self.now i }
+    {
+        let generation = self.generation;
+        let note = self.notes[i];
+        if note.tag / 8 != generation {
+            return None;
+        }
+        Some(note.seen())
+    }
+
+    // Item i is remembered.
+    pub fn remember(&mut self, i: usize, seen: Seen)
+        requires within { i < length self.old.notes }
+        ensures { self.new ≡ noted self.old i (seen_meaning seen) }
+    {
+        self.notes[i] = Note::of(self.generation, seen);
+    }
 }

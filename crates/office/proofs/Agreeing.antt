@@ -38,9 +38,7 @@ use Rattle.layout.specs.Opened.{sheet_from, sheet_of, sheet_read}
 use Rattle.layout.specs.Index.{index_bytes}
 use Rattle.layout.proofs.Scan.{opened_ordered}
 use Rattle.layout.proofs.IndexLaws.{index_length}
-use Rattle.field.specs.Field.{cut_at}
-use Rattle.field.specs.declared.Cut.{Cut}
-use Rattle.field.specs.declared.Cut.TheVariants.{Field, Short, Absent}
+use Rattle.field.specs.Field.{Cut, absent, short, field, cut_at}
 use Rattle.table.specs.Rows.{row}
 use Rattle.table.specs.Record.{width, kind_in, mark_in, number_in}
 use Rattle.table.specs.Bytes.{encode_table, Holdable}
@@ -63,9 +61,9 @@ go_on_positive zero at next h = h
 go_on_positive (suc k) at next h = λ e. omega arith
 
 place_positive : (s : List ℕ) (at : ℕ) (ps : List Placed) (c : Cut) → Positive (place_field s at ps c)
-place_positive s at ps Absent = λ e. omega arith
-place_positive s at ps Short = λ e. omega arith
-place_positive s at ps (Field tag start len next) = tt
+place_positive s at ps absent = λ e. omega arith
+place_positive s at ps short = λ e. omega arith
+place_positive s at ps (field tag start len next) = tt
 
 item_positive : (s : List ℕ) (edition : ℕ) (x : Scan) → Positive x → Positive (scan_item s edition x)
 item_positive s edition (stopped k at) h = h

@@ -1,5 +1,5 @@
 -- The pass over the items, highest first: what it leaves in the array, and that this is which items are owed. Assumes nothing.
-use Prim.Native.Nat.{ℕ, zero, suc, ◌*◌, ◌<◌, ◌≤◌}
+use Prim.Native.Nat.{ℕ, zero, suc, ◌<◌, ◌≤◌}
 use native.Mathlib.Omega.{arith}
 use mathlib.Core.Path.{◌≡◌, refl, sym, ap, subst, ◌∙◌}
 use mathlib.Core.Bool.{Bool, true, false, not}
@@ -8,32 +8,16 @@ use mathlib.Core.Logic.{inl, inr}
 use lib.Dec.{eqb}
 use lib.ListN.{length, get_or, set, length-set}
 use lib.Seq.{get_or-set_same, get_or-set_other}
-use borrow.Author.Tests.{eqb-true, eqb-false, ne_eqb}
+use borrow.Author.Tests.{eqb-true, eqb-false}
 use Rattle.circuit.specs.Circuit.{Listed}
-use Rattle.circuit.specs.Sheet.{Sheet, size, parents, parents_of, Ordered}
+use Rattle.circuit.specs.Sheet.{Sheet, Item, size, item_at, parents, parents_of, Ordered}
 use Rattle.circuit.specs.Table.{Table}
 use Rattle.circuit.specs.Owed.{leaning, owed, leans}
 use Rattle.circuit.proofs.Closure.{parent_within}
 use Rattle.circuit.proofs.Owed.{Child, owed_child, owed_finds}
 use Rattle.circuit.proofs.View.{never}
-use Rattle.layout.specs.Opened.{sheet_of, Located}
-use Rattle.item.specs.Item.{field_item}
-use Rattle.item.proofs.Located.{sheet_ordered, located_item}
-use Rattle.table.specs.Record.{width, owed_code, decode_cell}
-use Rattle.table.specs.Bytes.{decode_table}
-use Rattle.table.proofs.Cases.{kind_read_lem}
-use Rattle.owing.specs.Owing.{says_owed, Blank, OwedIs, owe_each}
-
--- ---- whether an item leans, by its kind and its byte
-
-module _ (t : List ℕ) (bytes : List ℕ) (c : ℕ) where
-  pub stored_leans : (get_or t (c * width) 0 ≡ 0 → ⊥) → true ≡ leaning (decode_table t c) (says_owed bytes c)
-  unfolding decode_cell
-  stored_leans h = rw (kind_read_lem t c, ne_eqb (get_or t (c * width) 0) 0 h)
-
-  pub unk_leans : get_or t (c * width) 0 ≡ 0 → not (eqb (get_or bytes c 0) 0) ≡ leaning (decode_table t c) (says_owed bytes c)
-  unfolding decode_cell
-  unk_leans h = rw (kind_read_lem t c, h)
+use Rattle.table.specs.Record.{owed_code}
+use Rattle.owing.specs.Owing.{says_owed, OwedIs, owe_each}
 
 -- ---- the parents of one item
 
@@ -41,10 +25,6 @@ pub each_length : (bytes ps : List ℕ) (k : ℕ) → length (owe_each bytes ps 
 unfolding owe_each
 each_length bytes ps zero = refl
 each_length bytes ps (suc k) = length-set (owe_each bytes ps k) (get_or ps k 0) 1 ∙ each_length bytes ps k
-
--- a parent that was read in its place has a byte
-pub place_low : (ps : List ℕ) {h : ℕ} → ((k : ℕ) → k < length ps → get_or ps k 0 < h) → (k p n : ℕ) → p ≡ get_or ps k 0 → n ≡ length ps → k < n → p < h
-place_low ps below k p n is counts low = rw is (below k (omega arith))
 
 -- the byte of i: 1 where i stands in some place, else as it was
 data Put (bytes ps : List ℕ) (k i b : ℕ) : Type 0 where
@@ -113,13 +93,14 @@ pub record Passed (S : Sheet) (T : Table) (room c : ℕ) (bytes : List ℕ) : Ty
   pub says : (i : ℕ) → i < size S → Says S T c i (get_or bytes i 0)
 
 module _ (S : Sheet) (ordered : Ordered S) (T : Table) (room : ℕ) where
-  pub passed_start : (c : ℕ) (bytes : List ℕ) → c ≡ size S → length bytes ≡ room → Blank c bytes → Passed S T room c bytes
-  passed_start c bytes all kept blank =
+  pub passed_start : (c : ℕ) (bytes : List ℕ) → c ≡ size S → length bytes ≡ room → size S ≤ room → ((i : ℕ) → i < size S → get_or bytes i 0 ≡ 0)
+      → Passed S T room c bytes
+  passed_start c bytes all kept fits blank =
       record {
         within = omega arith;
-        fits = omega (arith, blank.room);
+        fits = fits;
         kept = kept;
-        says = λ i h. none (λ d from listed leant. omega (arith, parent_within S i d listed)) (blank.none i (omega arith));
+        says = λ i h. none (λ d from listed leant. omega (arith, parent_within S i d listed)) (blank i h);
       }
 
   pub passed_done : (c : ℕ) (bytes : List ℕ) → Passed S T room c bytes → c ≡ 0 → OwedIs S T bytes
@@ -167,22 +148,9 @@ module _ (S : Sheet) (ordered : Ordered S) (T : Table) (room : ℕ) where
         go i (none without was) (still nowhere is) =
             none (none_here i (λ l leant. nowhere_listed (parents S k) i nowhere l) without) (is ∙ was)
 
--- ---- the items of a sheet in bytes
-
-module _ (s offsets : List ℕ) (located : Located s offsets) (k : ℕ) (low : k < size (sheet_of s)) where
-  -- the parents of item k, by its field
-  abbrev field_parents : List ℕ
-  field_parents = parents_of (field_item s (get_or offsets k 0))
-
-  parents_are : field_parents ≡ parents (sheet_of s) k
-  parents_are = ap parents_of (located_item s offsets located k low)
-
-  pub parents_low : (bytes : List ℕ) → size (sheet_of s) ≤ length bytes → (j : ℕ) → j < length field_parents → get_or field_parents j 0 < length bytes
-  parents_low bytes room j h =
-      let listed : j < length (parents (sheet_of s) k) = subst (λ ps. j < length ps) parents_are h in
-      let below = sheet_ordered s k (get_or (parents (sheet_of s) k) j 0) (place_listed (parents (sheet_of s) k) j listed) in
-      rw parents_are (omega arith)
-
-  pub passed_field : (T : Table) (room : ℕ) (bytes bytes₂ : List ℕ) → bytes₂ ≡ owe_each bytes field_parents (length field_parents)
-      → Passed (sheet_of s) T room k (owe_each bytes (parents (sheet_of s) k) (length (parents (sheet_of s) k))) → Passed (sheet_of s) T room k bytes₂
-  passed_field T room bytes bytes₂ e p = rw (e, parents_are) p
+-- each parent of item k has a byte
+pub parents_low : (S : Sheet) → Ordered S → (k : ℕ) (it : Item) → it ≡ item_at S k → (room : ℕ) → size S ≤ room → k < size S → (j : ℕ) → j < length (parents_of it)
+    → get_or (parents_of it) j 0 < room
+parents_low S ordered k it is room fits low j h =
+    let listed : j < length (parents S k) = rw (← is) h in
+    rw is (omega (arith, ordered k (get_or (parents S k) j 0) (place_listed (parents S k) j listed)))

@@ -2,14 +2,13 @@
 -- are those of the table's encoding. Assumes nothing.
 use Prim.Native.Nat.{ℕ, zero, suc, ◌+◌, ◌*◌, ◌<◌, ◌≤◌}
 use native.Mathlib.Omega.{arith}
-use native.Mathlib.Numerals.{add-one}
 use mathlib.Core.Path.{◌≡◌, refl, sym, ap, subst, ◌∙◌, fun_ext}
 use mathlib.Core.Bool.{Bool, true, false}
 use mathlib.Core.List.{List}
 use lib.Dec.{eqb}
 use lib.ListN.{length, get_or, set, take, length-set, length-take, length-drop}
 use lib.Seq.{get_or-set_same, get_or-set_other, get_or-take, ext_get_or}
-use borrow.Author.Tests.{eqb-true, eqb-false, eq-eqb}
+use borrow.Author.Tests.{eqb-true, eqb-false}
 use Rattle.field.specs.Bytes.{Bytes}
 use Rattle.circuit.specs.Sheet.{Sheet, size, item_at, is_figure}
 use Rattle.circuit.specs.Owed.{owed}
@@ -20,43 +19,32 @@ use Rattle.table.proofs.Rows.{get_d_row, below_same, below_true, true_below}
 use Rattle.table.proofs.Records.{decode_front, form_front}
 use Rattle.table.proofs.Tables.{encoded_as}
 use Rattle.owing.specs.Owing.{OwedIs, owe_rows}
-
--- the first i bytes of an array are 0
-pub record Blanked (n room i : ℕ) (bytes : List ℕ) : Type 0 where
-  pub within : i ≤ n
-  pub kept : length bytes ≡ room
-  pub zeros : (j : ℕ) → j < i → get_or bytes j 0 ≡ 0
-
-pub blanked_next : (n room i : ℕ) (bytes : List ℕ) → n ≤ room → i < n → Blanked n room i bytes → Blanked n room (i + 1) (set bytes i 0)
-blanked_next n room i bytes fits low b =
-    record { within = omega arith; kept = length-set bytes i 0 ∙ b.kept; zeros = λ j h. go j h (eqb j i) refl }
-  where
-    go : (j : ℕ) → j < i + 1 → (q : Bool) → eqb j i ≡ q → get_or (set bytes i 0) j 0 ≡ 0
-    go j h true e = rw (eqb-true j i e) (get_or-set_same bytes i 0 0 (omega (arith, b.kept)))
-    go j h false e =
-        let other : (j ≡ i → ⊥) = eqb-false j i e in
-        get_or-set_other bytes i j 0 0 other ∙ b.zeros j (omega arith)
+use Rattle.std.specs.Bool.{MatchBool}
+use Rattle.std.specs.List.{AllWithin, HoldsAt, range_with_len}
+use Rattle.std.proofs.lemmas.List.FromFn.{length-range_with_len, get_or-range_with_len}
 
 -- ---- reading owed bytes
-
-pub owed_read : (t : List ℕ) (i : ℕ) → owed_in (row width t i) ≡ get_or t (i * width + owed_place) 0
-owed_read t i = get_d_row width t i owed_place (omega arith) ∙ ap (λ (k : ℕ). get_or t k 0) (omega arith)
 
 -- the owed byte of item i is that of the array
 abbrev pub matches : List ℕ → List ℕ → ℕ → Bool
 matches t bytes i = eqb (owed_in (row width t i)) (get_or bytes i 0)
 
-module _ (t bytes : List ℕ) (i : ℕ) where
-  pub match_next : get_or t (i * width + owed_place) 0 ≡ get_or bytes i 0 → all_below (matches t bytes) i ≡ true → all_below (matches t bytes) (i + 1) ≡ true
-  unfolding all_below
-  match_next same h = rw (add-one i, h, owed_read t i) (eq-eqb _ _ same)
+place : (n i : ℕ) → i < n → get_or (range_with_len 0 n) i 0 ≡ i
+place n i h = get_or-range_with_len 0 n i 0 h ∙ omega arith
 
-  pub match_not : (n : ℕ) → i < n → (get_or t (i * width + owed_place) 0 ≡ get_or bytes i 0 → ⊥) → false ≡ all_below (matches t bytes) n
-  match_not n low other = go (all_below (matches t bytes) n) refl
-    where
-      go : (b : Bool) → all_below (matches t bytes) n ≡ b → false ≡ b
-      go false e = refl
-      go true e = absurd (other (sym (owed_read t i) ∙ eqb-true _ _ (below_true (matches t bytes) n e i low)))
+-- a search over the items for one that fails a test finds whether all pass
+pub all_found : (p : ℕ → Bool) (n : ℕ) (r : Bool) → MatchBool r (AllWithin (λ i. p i ≡ true) (range_with_len 0 n) 0 (length (range_with_len 0 n)))
+    ((k : ℕ) × (k < length (range_with_len 0 n)) × HoldsAt (λ i. p i ≡ false) (range_with_len 0 n) k) → r ≡ all_below p n
+all_found p n true m =
+    sym (true_below p n (λ i h. rw (place n i h) at (m i 0 (omega arith) (omega (arith, length-range_with_len 0 n)))))
+all_found p n false m = go (all_below p n) refl
+  where
+    go : (b : Bool) → all_below p n ≡ b → false ≡ b
+    go false e = refl
+    go true e =
+        let low : m.0 < n = omega (arith, m.1, length-range_with_len 0 n) in
+        let fails : p m.0 ≡ false = rw (place n m.0 low) at (m.2 0) in
+        sym fails ∙ below_true p n e m.0 low
 
 pub matches_true : (S : Sheet) (t bytes : List ℕ) (n : ℕ) → n ≡ size S → OwedIs S (decode_table t) bytes → all_below (matches t bytes) n ≡ owed_true S t
 unfolding owed_true
@@ -64,18 +52,16 @@ matches_true S t bytes n n_is o =
     ap (all_below (matches t bytes)) n_is ∙ below_same (matches t bytes) (owed_true_at S t) (size S) (λ i h. ap (eqb (owed_in (row width t i))) (o.byte_is i h))
 
 -- the first i bytes of an array are the owed bytes of a table
-pub record Copied (t : List ℕ) (n room i : ℕ) (bytes : List ℕ) : Type 0 where
-  pub within : i ≤ n
+pub record Copied (t : List ℕ) (room i : ℕ) (bytes : List ℕ) : Type 0 where
   pub kept : length bytes ≡ room
   pub copies : (j : ℕ) → j < i → get_or bytes j 0 ≡ owed_in (row width t j)
 
-pub copied_next : (t : List ℕ) (n room i : ℕ) (bytes : List ℕ) → n ≤ room → i < n → Copied t n room i bytes
-    → Copied t n room (i + 1) (set bytes i (get_or t (i * width + owed_place) 0))
-copied_next t n room i bytes fits low c =
-    record { within = omega arith; kept = length-set bytes i _ ∙ c.kept; copies = λ j h. go j h (eqb j i) refl }
+pub copied_next : (t : List ℕ) (room i : ℕ) (bytes : List ℕ) (b : ℕ) → i < room → b ≡ owed_in (row width t i) → Copied t room i bytes → Copied t room (i + 1) (set bytes i b)
+copied_next t room i bytes b low is c =
+    record { kept = length-set bytes i _ ∙ c.kept; copies = λ j h. go j h (eqb j i) refl }
   where
-    go : (j : ℕ) → j < i + 1 → (b : Bool) → eqb j i ≡ b → get_or (set bytes i (get_or t (i * width + owed_place) 0)) j 0 ≡ owed_in (row width t j)
-    go j h true q = rw (eqb-true j i q) (get_or-set_same bytes i _ 0 (omega (arith, c.kept)) ∙ sym (owed_read t i))
+    go : (j : ℕ) → j < i + 1 → (q : Bool) → eqb j i ≡ q → get_or (set bytes i b) j 0 ≡ owed_in (row width t j)
+    go j h true q = rw (eqb-true j i q) (get_or-set_same bytes i _ 0 (omega (arith, c.kept)) ∙ is)
     go j h false q =
         let other : (j ≡ i → ⊥) = eqb-false j i q in
         get_or-set_other bytes i j _ 0 other ∙ c.copies j (omega arith)

@@ -9,11 +9,6 @@ use Rattle.table.specs.Record.{width, owed_place, owed_code}
 abbrev pub says_owed : List ℕ → ℕ → Bool
 says_owed bytes i = not (eqb (get_or bytes i 0) 0)
 
--- room for n items, of which it says that none is owed
-pub record Blank (n : ℕ) (bytes : List ℕ) : Type 0 where
-  pub room : n ≤ length bytes
-  pub none : (i : ℕ) → i < n → get_or bytes i 0 ≡ 0
-
 -- the array says which items are owed on the table T
 pub record OwedIs (S : Sheet) (T : Table) (bytes : List ℕ) : Type 0 where
   pub room : size S ≤ length bytes

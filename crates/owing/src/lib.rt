@@ -6,137 +6,99 @@
 ghost use Rattle.std.specs.Prelude.{◌≡◌, true, ℕ, ◌+◌, ◌*◌, ◌<◌, ◌≤◌, eqb, length, get_or};
 ghost use Rattle.circuit.specs.Sheet.{size, parents_of};
 ghost use Rattle.circuit.specs.Owed.{leaning};
-ghost use Rattle.layout.specs.Opened.{sheet_of, Located};
-ghost use Rattle.item.specs.Item.{ItemField, field_item};
+ghost use Rattle.layout.specs.Opened.{sheet_of};
 ghost use Rattle.table.specs.Rows.{row, all_below};
 ghost use Rattle.table.specs.Record.{width, owed_in};
 ghost use Rattle.table.specs.Bytes.{encode_table, decode_table, table_form, owed_true};
-ghost use Rattle.owing.specs.Owing.{says_owed, Blank, OwedIs, owe_each, owe_rows};
+ghost use Rattle.owing.specs.Owing.{says_owed, OwedIs, owe_each, owe_rows};
 
-// Where a record's owed byte stands.
-const OWED_PLACE: usize = 10;
+use item::{Item, Sheet};
+use table::{OWED_PLACE, WIDTH};
 
 // Whether item c leans on its parents: it is stored, or the array says that it is owed.
 fn leans(table: &[u8], owed: &[u8], c: usize) -> bool
-    requires fact_1 { width * c + width ≤ length table.now }
-    requires fact_2 { c < length owed.now }
+    requires recorded { width * c + width ≤ length table.now }
+    requires roomy { c < length owed.now }
     ensures { result ≡ leaning (decode_table table.now c) (says_owed owed.now c) }
 {
-    if table[c * table::WIDTH] != 0 {
-        return true;
-    }
-    owed[c] != 0
+    table::is_stored(table, c) || owed[c] != 0
 }
 
 // Each parent of an item is owed.
-fn owe_parents(s: &[u8], at: usize, owed: &mut [u8])
-    requires fact_1 { ItemField s.now at }
-    requires fact_2 { ((k : ℕ) → k < length (parents_of (field_item s.now at)) → get_or (parents_of (field_item s.now at)) k 0 < length owed.old) }
-    ensures { owed.new ≡ owe_each owed.old (parents_of (field_item s.now at)) (length (parents_of (field_item s.now at))) }
+fn owe_parents(item: &Item<'_>, owed: &mut [u8])
+    requires { ((k : ℕ) → k < length (parents_of item.now) → get_or (parents_of item.now) k 0 < length owed.old) }
+    ensures { owed.new ≡ owe_each owed.old (parents_of item.now) (length (parents_of item.now)) }
 {
-    let count = item::parent_count(s, at);
-    let mut k = 0;
-    while k < count {
-        owed[item::parent(s, at, k)] = 1;
-        k += 1;
+    for k in 0..item.parent_count() {
+        owed[item.parent(k)] = 1;
     }
 }
 
-// Blanks the bytes of n items.
-fn blank(owed: &mut [u8], n: usize)
-    requires { n ≤ length owed.old }
-    ensures { Blank n owed.new }
+// Which items are owed, whatever the array has.
+fn owe(sheet: &Sheet<'_>, table: &[u8], owed: &mut [u8])
+    requires recorded { length table.now ≡ width * size (sheet_of sheet.now) }
+    requires roomy { size (sheet_of sheet.now) ≤ length owed.old }
+    ensures { OwedIs (sheet_of sheet.now) (decode_table table.now) owed.new }
 {
-    let mut i = 0;
-    while i < n {
-        owed[i] = 0;
-        i += 1;
-    }
-}
-
-// Which of the n items are owed, in an array that is blank.
-fn owe(s: &[u8], offsets: &[usize], n: usize, table: &[u8], owed: &mut [u8])
-    requires fact_1 { Located s.now offsets.now }
-    requires fact_2 { n ≡ size (sheet_of s.now) }
-    requires fact_3 { n ≤ length offsets.now }
-    requires fact_4 { length table.now ≡ width * n }
-    requires fact_5 { Blank n owed.old }
-    ensures { OwedIs (sheet_of s.now) (decode_table table.now) owed.new }
-{
-    let mut c = n;
-    while c > 0 {
-        c -= 1;
+    owed.fill(0);
+    for c in (0..sheet.len()).rev() {
         if leans(table, owed, c) {
-            owe_parents(s, offsets[c], owed);
+            owe_parents(&sheet.item(c), owed);
         }
     }
 }
 
-// Whether the owed bytes of the n items are those of the array.
-fn owed_matches(table: &[u8], n: usize, owed: &[u8]) -> bool
-    requires fact_1 { width * n ≤ length table.now }
-    requires fact_2 { n ≤ length owed.now }
-    ensures { result ≡ all_below (λ i. eqb (owed_in (row width table.now i)) (get_or owed.now i 0)) n }
+// The three walks over the records stay three, since no step is common to them: one tests, one stores, one copies.
+
+// Whether the owed bytes of a table are those of the array.
+fn owed_matches(table: &[u8], owed: &[u8]) -> bool
+    requires { width * length owed.now ≤ length table.now }
+    ensures { result ≡ all_below (λ i. eqb (owed_in (row width table.now i)) (get_or owed.now i 0)) (length owed.now) }
 {
-    let mut i = 0;
-    while i < n {
-        if table[i * table::WIDTH + OWED_PLACE] != owed[i] {
-            return false;
-        }
-        i += 1;
-    }
-    true
+    (0..owed.len()).all(|i| table::owed_byte(table, i) == owed[i])
 }
 
 // Whether every owed byte of a table is the true one.
-pub fn owed_true(s: &[u8], offsets: &[usize], n: usize, table: &[u8], owed: &mut [u8]) -> bool
-    requires fact_1 { Located s.now offsets.now }
-    requires fact_2 { n ≡ size (sheet_of s.now) }
-    requires fact_3 { (n ≤ length offsets.now) × (n ≤ length owed.old) }
-    requires fact_4 { length table.now ≡ width * n }
-    ensures { result ≡ owed_true (sheet_of s.now) table.now }
+pub fn owed_true(sheet: &Sheet<'_>, table: &[u8], owed: &mut [u8]) -> bool
+    requires recorded { length table.now ≡ width * size (sheet_of sheet.now) }
+    requires roomy { size (sheet_of sheet.now) ≤ length owed.old }
+    ensures { result ≡ owed_true (sheet_of sheet.now) table.now }
 {
-    blank(owed, n);
-    owe(s, offsets, n, table, owed);
-    owed_matches(table, n, owed)
+    let owed = &mut owed[..sheet.len()];
+    owe(sheet, table, owed);
+    owed_matches(table, owed)
 }
 
-// Writes the owed bytes of the n items, and changes no other byte.
-fn write_owed(table: &mut [u8], n: usize, owed: &[u8])
-    requires fact_1 { width * n ≤ length table.old }
-    requires fact_2 { n ≤ length owed.now }
-    ensures { table.new ≡ owe_rows table.old owed.now n }
+// Writes the owed bytes of the array's items, and changes no other byte. Record by record at its place: std says nothing of what a slice
+// holds after a loop over chunks_exact_mut.
+fn write_owed(table: &mut [u8], owed: &[u8])
+    requires { width * length owed.now ≤ length table.old }
+    ensures { table.new ≡ owe_rows table.old owed.now (length owed.now) }
 {
-    let mut i = 0;
-    while i < n {
-        table[i * table::WIDTH + OWED_PLACE] = owed[i];
-        i += 1;
+    for (i, byte) in owed.iter().enumerate() {
+        table[i * WIDTH + OWED_PLACE] = *byte;
     }
 }
 
 // Settles a table whose cells were stored: its owed bytes become the true ones. Every owed byte is written here.
-pub fn settle(s: &[u8], offsets: &[usize], n: usize, table: &mut [u8], owed: &mut [u8])
-    requires fact_1 { Located s.now offsets.now }
-    requires fact_2 { n ≡ size (sheet_of s.now) }
-    requires fact_3 { (n ≤ length offsets.now) × (n ≤ length owed.old) }
-    requires fact_4 { length table.old ≡ width * n }
-    requires fact_5 { table_form (sheet_of s.now) table.old ≡ true }
-    ensures { table.new ≡ encode_table (sheet_of s.now) (decode_table table.old) }
+pub fn settle(sheet: &Sheet<'_>, table: &mut [u8], owed: &mut [u8])
+    requires recorded { length table.old ≡ width * size (sheet_of sheet.now) }
+    requires roomy { size (sheet_of sheet.now) ≤ length owed.old }
+    requires formed { table_form (sheet_of sheet.now) table.old ≡ true }
+    ensures { table.new ≡ encode_table (sheet_of sheet.now) (decode_table table.old) }
 {
-    blank(owed, n);
-    owe(s, offsets, n, table, owed);
-    write_owed(table, n, owed);
+    let owed = &mut owed[..sheet.len()];
+    owe(sheet, table, owed);
+    write_owed(table, owed);
 }
 
-// Copies the owed bytes of a table's n items, for the tellings of a call.
-pub fn copy_owed(table: &[u8], n: usize, owed: &mut [u8])
-    requires fact_1 { width * n ≤ length table.now }
-    requires fact_2 { n ≤ length owed.old }
-    ensures { (i : ℕ) → i < n → get_or owed.new i 0 ≡ owed_in (row width table.now i) }
+// Copies the owed bytes of a table's records, for the tellings of a call. The array has a byte for each record.
+pub fn copy_owed(table: &[u8], owed: &mut [u8])
+    ensures { (i : ℕ) → i < length owed.new → width * i + width ≤ length table.now → get_or owed.new i 0 ≡ owed_in (row width table.now i) }
 {
-    let mut i = 0;
-    while i < n {
-        owed[i] = table[i * table::WIDTH + OWED_PLACE];
-        i += 1;
+    let n = (table.len() / WIDTH).min(owed.len());
+    // By number: std says nothing of what a slice holds after a loop over an adapter of iter_mut.
+    for i in 0..n {
+        owed[i] = table::owed_byte(table, i);
     }
 }

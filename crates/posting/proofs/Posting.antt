@@ -14,11 +14,10 @@ use Rattle.layout.specs.Opened.{sheet_of}
 use Rattle.table.specs.Rows.{row, set_row}
 use Rattle.table.specs.Record.{width, encode_cell, decode_cell, may_hold}
 use Rattle.table.specs.Bytes.{encode_table, decode_table, Holdable, table_form, owed_true}
-use Rattle.table.proofs.Tables.{length-encode_table, bytes-encode_table, encoded_table_form, encoded_owed_true}
+use Rattle.table.proofs.Tables.{decoded_holdable, length-encode_table, bytes-encode_table, encoded_table_form, encoded_owed_true}
 use Rattle.office.proofs.Holdable.{post_holdable}
 use Rattle.office.proofs.Bridge.{posting_within, decoded_beyond, decode_within}
 use Rattle.looking.specs.Pass.{Lent}
-use Rattle.looking.proofs.Looking.{lent_holdable}
 use Rattle.admission.proofs.Admitting.{stored_encoded}
 
 -- an entry is stored before and after a posting, so that no owed byte changes
@@ -31,25 +30,26 @@ posted_stored false (held w m) v e h = go (same w v)
     go true = refl
     go false = refl
 
-module _ {s offsets t : List ℕ} (lent : Lent s offsets t) (bytes : Bytes t) (owes : owed_true (sheet_of s) t ≡ true) (i : ℕ) (low : i < size (sheet_of s))
+module _ {s t : List ℕ} (lent : Lent s t) (bytes : Bytes t) (owes : owed_true (sheet_of s) t ≡ true) (i : ℕ) (low : i < size (sheet_of s))
     (entry : is_figure (item_at (sheet_of s) i) ≡ false) (v : Value) (t' : List ℕ) (stored : t' ≡ set_row width t i (encode_cell (post_cell (decode_cell (row width t i)) v))) where
+  holds : Holdable (sheet_of s) (decode_table t)
+  holds = decoded_holdable (sheet_of s) t lent.formed
+
   -- the bytes of the machine's table
   pub posting_encoded : t' ≡ encode_table (sheet_of s) (store_posting (decode_table t) i v)
   unfolding store_posting
   posting_encoded =
       stored
-      ∙ stored_encoded lent bytes owes i _ low (posted_stored (is_figure (item_at (sheet_of s) i)) (decode_table t i) v entry (lent_holdable lent i low))
+      ∙ stored_encoded lent bytes owes i _ low (posted_stored (is_figure (item_at (sheet_of s) i)) (decode_table t i) v entry (holds i low))
 
   -- A posting of a value of the range, not OUT, leaves what the next one is lent.
   module _ (formed : well_formed v ≡ true) (inside : is_out v ≡ false) where
     holdable : Holdable (sheet_of s) (store_posting (decode_table t) i v)
-    holdable = post_holdable (sheet_of s) (decode_table t) i v formed inside (lent_holdable lent)
+    holdable = post_holdable (sheet_of s) (decode_table t) i v formed inside holds
 
-    pub posting_lent : Lent s offsets t'
+    pub posting_lent : Lent s t'
     posting_lent =
         record {
-          located = lent.located;
-          room = lent.room;
           length_is = ap length posting_encoded ∙ length-encode_table (sheet_of s) _;
           formed = subst (λ u. table_form (sheet_of s) u ≡ true) (sym posting_encoded) (encoded_table_form (sheet_of s) _ holdable);
         }

@@ -16,20 +16,14 @@ fn posted_cell(cell: Cell, value: Value) -> Cell
     ensures { cell_meaning result ≡ machine.post_cell (cell_meaning cell) (meaning value) }
 {
     match cell {
-        Cell::Unk(_) => Cell::Held(value, Mark::Notice),
-        Cell::Held(old, mark) => {
-            if Value::same(old, value) {
-                Cell::Held(old, mark)
-            } else {
-                Cell::Held(value, Mark::Notice)
-            }
-        }
+        Cell::Held(old, _) if old.same(value) => cell,
+        _ => Cell::Held(value, Mark::Notice),
     }
 }
 
 // Stores the posting of a value in the record of item i, and changes no other byte.
 pub fn store_posting(table: &mut [u8], i: usize, value: Value)
-    requires { width * i + width ≤ length table.old }
+    requires record_there { width * i + width ≤ length table.old }
     ensures { table.new ≡ set_row width table.old i (encode_cell (machine.post_cell (decode_cell (row width table.old i)) (meaning value))) }
 {
     let cell = posted_cell(table::read_cell(table, i), value);

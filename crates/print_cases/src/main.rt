@@ -5,12 +5,10 @@ ghost use Rattle.std.specs.Prelude.{◌≡◌, ◌≤◌, length};
 ghost use Rattle.printer.specs.Printing.{part_of};
 ghost use Rattle.field.specs.Bytes.{over};
 
-use printer::Printed;
 use value::LIMIT;
 
-fn line(rt: &impl Print, text: &[u8])
-    ensures { text.now ≡ text.now }
-{
+// (A wrapper of its own: a crate for the three programs that have one would be longer than they are.)
+fn line(rt: &impl Print, text: &[u8]) {
     let _ = rt.write_all(text);
     let _ = rt.write_all(b"\n");
 }
@@ -22,29 +20,30 @@ fn show(rt: &impl Print, kind: u64, number: i64) {
     line(rt, part);
 }
 
-// The worker's answer, and then all the scratch bytes.
+// print_into's answer, and then all the scratch bytes.
 fn show_all(rt: &impl Print, kind: u64, number: i64, scratch: &mut [u8])
     ensures { scratch.new ≡ over (part_of kind number (length scratch.old)) scratch.old }
 {
     match printer::print_into(kind, number, scratch) {
-        Printed::Length(n) => {
+        Ok(n) => {
             let _ = print!(rt; "length {n} ");
         }
-        Printed::Refused(cause) => {
+        Err(cause) => {
+            let cause = cause.number();
             let _ = print!(rt; "refused {cause} ");
         }
     }
     line(rt, scratch);
 }
 
-// In scratch that is long enough, and in scratch that is one byte too short.
-fn in_twenty(rt: &impl Print, kind: u64, number: i64) {
-    let mut scratch = [b'.'; printer::LEAST_SCRATCH];
-    show_all(rt, kind, number, &mut scratch);
-}
+// One byte of scratch too few.
+const TOO_FEW: usize = printer::LEAST_SCRATCH - 1;
 
-fn in_nineteen(rt: &impl Print, kind: u64, number: i64) {
-    let mut scratch = [b'.'; printer::LEAST_SCRATCH - 1];
+// The same in so many bytes of scratch.
+fn show_in<const BYTES: usize>(rt: &impl Print, kind: u64, number: i64)
+    requires { BYTES ≤ 20 }
+{
+    let mut scratch = [b'.'; BYTES];
     show_all(rt, kind, number, &mut scratch);
 }
 
@@ -56,73 +55,60 @@ fn show_digits(rt: &impl Print, m: u64) {
     line(rt, &bytes);
 }
 
-// Both sides of a power of ten.
-fn about(rt: &impl Print, power: u64)
-    requires { 1 ≤ power }
-{
-    show_digits(rt, power - 1);
-    show_digits(rt, power);
-}
-
+// Both sides of each power of ten, and the digits' most.
 fn all_lengths(rt: &impl Print) {
-    about(rt, 1);
-    about(rt, 10);
-    about(rt, 100);
-    about(rt, 1_000);
-    about(rt, 10_000);
-    about(rt, 100_000);
-    about(rt, 1_000_000);
-    about(rt, 10_000_000);
-    about(rt, 100_000_000);
-    about(rt, 1_000_000_000);
-    about(rt, 10_000_000_000);
-    about(rt, 100_000_000_000);
-    about(rt, 1_000_000_000_000);
-    about(rt, 10_000_000_000_000);
-    about(rt, 100_000_000_000_000);
-    about(rt, 1_000_000_000_000_000);
-    about(rt, 10_000_000_000_000_000);
-    about(rt, 100_000_000_000_000_000);
-    about(rt, 1_000_000_000_000_000_000);
-    about(rt, 10_000_000_000_000_000_000);
+    for k in 0..20 {
+        let power = 10u64.pow(k);
+        show_digits(rt, power - 1);
+        show_digits(rt, power);
+    }
     show_digits(rt, 9_876_543_210);
-    show_digits(rt, 18_446_744_073_709_551_615);
+    show_digits(rt, u64::MAX);
 }
 
-fn numbers(rt: &impl Print) {
-    show(rt, 3, 0);
-    show(rt, 3, 1);
-    show(rt, 3, -1);
-    show(rt, 3, 9);
-    show(rt, 3, -9);
-    show(rt, 3, 10);
-    show(rt, 3, 99);
-    show(rt, 3, 100);
-    show(rt, 3, -100);
-    show(rt, 3, 1_024);
-    show(rt, 3, 987_654_321);
-    show(rt, 3, LIMIT - 1);
-    show(rt, 3, LIMIT);
-    show(rt, 3, 1 - LIMIT);
-    show(rt, 3, 0 - LIMIT);
-}
+const NUMBERS: [i64; 15] = [
+    0,
+    1,
+    -1,
+    9,
+    -9,
+    10,
+    99,
+    100,
+    -100,
+    1_024,
+    987_654_321,
+    LIMIT - 1,
+    LIMIT,
+    1 - LIMIT,
+    -LIMIT,
+];
+
+// The kinds and numbers of calls that are taken, and of calls that are turned back.
+const PRINTED: [(u64, i64); 10] = [
+    (3, -120),
+    (3, -LIMIT),
+    (1, 0),
+    (2, 0),
+    (0, 0),
+    (4, 0),
+    (1, 1),
+    (2, -1),
+    (3, LIMIT + 1),
+    (3, -1 - LIMIT),
+];
 
 fn main(rt: HostRuntime) {
-    numbers(&rt);
-    show(&rt, 1, 0);
-    show(&rt, 2, 0);
-    show(&rt, 0, 0);
-    in_twenty(&rt, 3, -120);
-    in_twenty(&rt, 3, 0 - LIMIT);
-    in_twenty(&rt, 1, 0);
-    in_twenty(&rt, 2, 0);
-    in_twenty(&rt, 0, 0);
-    in_twenty(&rt, 4, 0);
-    in_twenty(&rt, 1, 1);
-    in_twenty(&rt, 2, -1);
-    in_twenty(&rt, 3, LIMIT + 1);
-    in_twenty(&rt, 3, -1 - LIMIT);
-    in_nineteen(&rt, 3, 5);
-    in_nineteen(&rt, 0, 0);
+    for number in NUMBERS {
+        show(&rt, 3, number);
+    }
+    for kind in [1, 2, 0] {
+        show(&rt, kind, 0);
+    }
+    for (kind, number) in PRINTED {
+        show_in::<{ printer::LEAST_SCRATCH }>(&rt, kind, number);
+    }
+    show_in::<TOO_FEW>(&rt, 3, 5);
+    show_in::<TOO_FEW>(&rt, 0, 0);
     all_lengths(&rt);
 }

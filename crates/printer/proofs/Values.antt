@@ -15,35 +15,30 @@ use mir.Syntax.{w64}
 use mir.Val.{SFits}
 use Rattle.circuit.specs.Calls.{first_cause}
 use Rattle.circuit.specs.Value.{Value}
-use Rattle.value.specs.Meaning.{amount_meaning, meaning, parts_of, parts_meaning}
-use Rattle.value.specs.declared.Amount.{Amount}
-use Rattle.value.specs.declared.Parts.{Parts}
-use Rattle.value.specs.declared.Parts.TheVariants.{Formed, Unformed}
+use Rattle.value.specs.Meaning.{meaning, parts_of, parts_meaning}
 use Rattle.value.specs.declared.Value as code
-use Rattle.printer.specs.declared.Printed.{Printed}
-use Rattle.printer.specs.declared.Printed.TheVariants.{Length, Refused}
+use Rattle.cause.specs.declared.Cause.{Cause}
+use Rattle.cause.specs.declared.Cause.TheVariants.{Form, Scratch}
+use Rattle.std.specs.Prelude.{Some, None, Ok, Err, Result}
+use Rattle.std.specs.Prelude as std
 use Rattle.decimal.specs.Decimal.{digits, decimal, minus}
 use Rattle.decimal.specs.Contract.{WithDigits}
 use Rattle.decimal.proofs.Digits.{length_at_most}
 use Rattle.printer.specs.Printing.{printed, text_of, least_scratch, print_cause, part_of}
-use Rattle.printer.specs.Contract.{answer_of, Front, Prints}
+use Rattle.printer.specs.Contract.{written, refused, answer_meaning, answer_of, Front, Prints}
 use Rattle.printer.proofs.Answers.{length_of}
 
 -- ---- the values of the code
 
 -- the value of a kind and a number, by the answer r for the number x that was read
-module _ {x z : ℤ} {r : Parts} (kind : ℕ) (read : x ≡ z) (answer : parts_meaning r ≡ parts_of kind x) where
-  pub formed : {v : code.Value} → r ≡ Formed v → parts_of kind z ≡ some (meaning v)
+module _ {x z : ℤ} {r : std.Option code.Value} (kind : ℕ) (read : x ≡ z) (answer : parts_meaning r ≡ parts_of kind x) where
+  pub formed : {v : code.Value} → r ≡ Some v → parts_of kind z ≡ some (meaning v)
   formed e = ap (λ y. parts_of kind y) (sym read) ∙ sym answer ∙ ap parts_meaning e
 
-  pub unformed : r ≡ Unformed → parts_of kind z ≡ none
+  pub unformed : r ≡ None → parts_of kind z ≡ none
   unformed e = ap (λ y. parts_of kind y) (sym read) ∙ sym answer ∙ ap parts_meaning e
 
 -- ---- what is written
-
--- the text of an amount
-pub of_amount : {a b : Amount} (s : List ℕ) (n : ℕ) (s' : List ℕ) → a ≡ b → Front (printed (amount_meaning b)) s n s' → Front (printed (amount_meaning a)) s n s'
-of_amount s n s' e f = rw e f
 
 -- the magnitude of a signed number of 64 bits has at most 19 digits
 pub magnitude_fits : (z : ℤ) → SFits w64 z → length (digits (nat_abs z)) ≤ 19
@@ -78,31 +73,31 @@ number_above (negsuc a) s₀ s m n h e w = absurd (let c : ◌≡◌ {A = ℕ} 0
 -- ---- the calls
 
 -- no value: 10, whatever the scratch
-pub refused_value : (kind : ℕ) (z : ℤ) (s : List ℕ) → parts_of kind z ≡ none → Prints kind z s (Refused 10) s
+pub refused_value : (kind : ℕ) (z : ℤ) (s : List ℕ) → parts_of kind z ≡ none → Prints kind z s (Err Form) s
 unfolding first_cause
 refused_value kind z s e = record { answers = rw e; bytes = rw e }
 
 module _ (kind : ℕ) (z : ℤ) (v : Value) (e : parts_of kind z ≡ some v) where
-  pub refused_scratch : (s : List ℕ) → length s < least_scratch → Prints kind z s (Refused 15) s
+  pub refused_scratch : (s : List ℕ) → length s < least_scratch → Prints kind z s (Err Scratch) s
   unfolding first_cause
   refused_scratch s h = record { answers = rw (e, lt-ltb (length s) least_scratch h); bytes = rw (e, lt-ltb (length s) least_scratch h) }
 
-  pub accepted : (s s' : List ℕ) (n : ℕ) → least_scratch ≤ length s → Front (printed v) s n s' → Prints kind z s (Length n) s'
+  pub accepted : (s s' : List ℕ) (n : ℕ) → least_scratch ≤ length s → Front (printed v) s n s' → Prints kind z s (Ok n) s'
   unfolding first_cause
   accepted s s' n h f =
-      record { answers = rw (e, le-ltb (length s) least_scratch h) (ap Length f.size); bytes = rw (e, le-ltb (length s) least_scratch h) f.bytes }
+      record { answers = rw (e, le-ltb (length s) least_scratch h) (ap written f.size); bytes = rw (e, le-ltb (length s) least_scratch h) f.bytes }
 
 -- the part is as long as the answer says, and stands at the front
 length_answered : (kind : ℕ) (z : ℤ) (count : ℕ) → length_of (answer_of kind z count) ≡ length (part_of kind z count)
 length_answered kind z count = go (eqb (print_cause kind z count) 0) (text_of (parts_of kind z))
   where
-    go : (b : Bool) (text : List ℕ) → length_of (cond b (Length (length (cond b text []))) (Refused (print_cause kind z count))) ≡ length (cond b text [])
+    go : (b : Bool) (text : List ℕ) → length_of (cond b (written (length (cond b text []))) (refused (print_cause kind z count))) ≡ length (cond b text [])
     go true text = refl
     go false text = refl
 
-module _ (kind : ℕ) (z : ℤ) (s : List ℕ) (a : Printed) (s' : List ℕ) (p : Prints kind z s a s') where
-  pub part_length : length_of a ≡ length (part_of kind z (length s))
+module _ (kind : ℕ) (z : ℤ) (s : List ℕ) (a : Result ℕ Cause) (s' : List ℕ) (p : Prints kind z s a s') where
+  pub part_length : length_of (answer_meaning a) ≡ length (part_of kind z (length s))
   part_length = ap length_of p.answers ∙ length_answered kind z (length s)
 
-  pub part_front : take (length_of a) s' ≡ part_of kind z (length s)
-  part_front = ap (λ l. take (length_of a) l) p.bytes ∙ take_at (part_of kind z (length s)) _ (length_of a) (sym part_length)
+  pub part_front : take (length_of (answer_meaning a)) s' ≡ part_of kind z (length s)
+  part_front = ap (λ l. take (length_of (answer_meaning a)) l) p.bytes ∙ take_at (part_of kind z (length s)) _ (length_of (answer_meaning a)) (sym part_length)

@@ -1,37 +1,24 @@
 // Printing a value at the front of lent scratch bytes.
 #![tactic(auto)]
 
-ghost use Rattle.std.specs.Prelude.{◌≡◌, ◌≤◌, length, nat_abs};
+ghost use Rattle.std.specs.Prelude.{◌≡◌, ◌≤◌, length};
 ghost use Rattle.value.specs.Meaning.{meaning};
 ghost use Rattle.decimal.specs.Decimal.{decimal};
 ghost use Rattle.printer.specs.Printing.{printed, least_scratch, part_of};
 ghost use Rattle.printer.specs.Contract.{Front, Prints, PrintsCode};
 
-use value::{Amount, Parts, Value};
-
-// The printer's answer: the length of the part that it has written, or the number of what turned it back.
-#[derive(Clone, Copy)]
-pub enum Printed {
-    Length(usize),
-    Refused(u64),
-}
+use cause::Cause;
+use value::{Amount, Value};
 
 // The fewest bytes of scratch that the printer takes.
 pub const LEAST_SCRATCH: usize = 20;
-
-// The magnitude of z. Below 0 it is 1 more than -1 - z, which fits.
-fn magnitude(z: i64) -> u64
-    ensures { result ≡ nat_abs z }
-{
-    if z < 0 { (-1 - z) as u64 + 1 } else { z as u64 }
-}
 
 // Writes a number at the front: at most a sign and 19 digits.
 fn put_number(z: i64, scratch: &mut [u8]) -> usize
     requires { least_scratch ≤ length scratch.old }
     ensures { Front (decimal z) scratch.old result scratch.new }
 {
-    let m = magnitude(z);
+    let m = z.unsigned_abs();
     if z < 0 {
         scratch[0] = b'-';
         return decimal::put_digits(m, 1, scratch);
@@ -44,12 +31,10 @@ fn put_mark(mark: &[u8], scratch: &mut [u8]) -> usize
     requires { length mark.now ≤ length scratch.old }
     ensures { Front mark.now scratch.old result scratch.new }
 {
-    let mut k: usize = 0;
-    while k < mark.len() {
-        scratch[k] = mark[k];
-        k += 1;
+    for (k, byte) in mark.iter().enumerate() {
+        scratch[k] = *byte;
     }
-    k
+    mark.len()
 }
 
 // Writes a value.
@@ -57,27 +42,24 @@ fn put_value(v: Value, scratch: &mut [u8]) -> usize
     requires { least_scratch ≤ length scratch.old }
     ensures { Front (printed (meaning v)) scratch.old result scratch.new }
 {
-    let a = v.amount;
-    match a {
+    match v.amount {
         Amount::Null => put_mark(b"-", scratch),
         Amount::Out => put_mark(b"OUT", scratch),
         Amount::Number(n) => put_number(n, scratch),
     }
 }
 
-// Writes a value at the front of the scratch bytes; the bytes after it stay. Turned back, it writes nothing.
-pub fn print_into(kind: u64, number: i64, scratch: &mut [u8]) -> Printed
+// Writes a value at the front of the scratch bytes, and gives the length of the written part; the bytes after it stay. Turned
+// back, it writes nothing.
+// (A kind and a number, and no Value: it is the printer's form in C, and a pair that is no value is turned back here. Who has a Value takes it apart.)
+pub fn print_into(kind: u64, number: i64, scratch: &mut [u8]) -> Result<usize, Cause>
     ensures { Prints kind number scratch.old result scratch.new }
 {
-    match Value::from_parts(kind, number) {
-        Parts::Unformed => Printed::Refused(10),
-        Parts::Formed(v) => {
-            if scratch.len() < LEAST_SCRATCH {
-                return Printed::Refused(15);
-            }
-            Printed::Length(put_value(v, scratch))
-        }
+    let v = Value::from_parts(kind, number).ok_or(Cause::Form)?;
+    if scratch.len() < LEAST_SCRATCH {
+        return Err(Cause::Scratch);
     }
+    Ok(put_value(v, scratch))
 }
 
 // The printer: writes a value at the front of the scratch bytes, and hands back the written part. Turned back, the part
@@ -85,18 +67,16 @@ pub fn print_into(kind: u64, number: i64, scratch: &mut [u8]) -> Printed
 pub fn print(kind: u64, number: i64, scratch: &mut [u8]) -> &mut [u8]
     ensures { result.now ≡ part_of kind number (length scratch.old) }
 {
-    match print_into(kind, number, scratch) {
-        Printed::Length(n) => &mut scratch[..n],
-        Printed::Refused(_) => &mut scratch[..0],
-    }
+    let n = print_into(kind, number, scratch).unwrap_or(0);
+    &mut scratch[..n]
 }
 
-// The worker with its answer in one number: the part's length, or the number of what turned it back, negated.
+// print_into with its answer in one number, the C form of it: the part's length, or the number of what turned it back, negated.
 pub fn print_code(kind: u64, number: i64, scratch: &mut [u8]) -> i64
     ensures { PrintsCode kind number scratch.old result scratch.new }
 {
     match print_into(kind, number, scratch) {
-        Printed::Length(n) => n as i64,
-        Printed::Refused(cause) => 0 - (cause as i64),
+        Ok(n) => n as i64,
+        Err(cause) => -(cause.number() as i64),
     }
 }

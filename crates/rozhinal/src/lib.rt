@@ -1,5 +1,6 @@
 // The functions that a C program calls: the openings, the eight calls and the printer, with numbers and byte slices. A slice is a
-// pointer and a length in C; include/rozhinal.h declares them. Each is one call of the function that does the work.
+// pointer and a length in C; include/rozhinal.h declares them. Each is one call of the function that does the
+// work, whose Result it hands out in the numbers that C takes.
 #![tactic(auto)]
 
 ghost use Rattle.circuit.specs.Call as call;
@@ -18,14 +19,14 @@ use call_ask::Reading;
 pub extern "C" fn rozhinal_open_bare(sheet: &[u8], index: &mut [u8], table: &mut [u8]) -> Answer
     ensures { Opened (open_on bare sheet.now (keeping index.old table.old)) result index.new table.new }
 {
-    calls::open_bare(sheet, index, table)
+    Answer::from(calls::open_bare(sheet, index, table))
 }
 
 #[unsafe(no_mangle)]
 pub extern "C" fn rozhinal_open_full(sheet: &[u8], index: &mut [u8], table: &mut [u8]) -> Answer
     ensures { Opened (open_on full sheet.now (keeping index.old table.old)) result index.new table.new }
 {
-    calls::open_full(sheet, index, table)
+    Answer::from(calls::open_full(sheet, index, table))
 }
 
 #[unsafe(no_mangle)]
@@ -39,7 +40,7 @@ pub extern "C" fn rozhinal_post(
 ) -> Answer
     ensures { Answered (call_on sheet.now (keeping index.now table.old) (call.post item kind number)) result table.new }
 {
-    calls::post(sheet, index, table, item, kind, number)
+    Answer::from(calls::post(sheet, index, table, item, kind, number))
 }
 
 #[unsafe(no_mangle)]
@@ -53,35 +54,35 @@ pub extern "C" fn rozhinal_swap(
 ) -> Answer
     ensures { Answered (call_on sheet.now (keeping index.now table.old) (call.swap giver taker quantity)) result table.new }
 {
-    calls::swap(sheet, index, table, giver, taker, quantity)
+    Answer::from(calls::swap(sheet, index, table, giver, taker, quantity))
 }
 
 #[unsafe(no_mangle)]
 pub extern "C" fn rozhinal_keep(sheet: &[u8], index: &[u8], table: &mut [u8], item: u64) -> Answer
     ensures { Answered (call_on sheet.now (keeping index.now table.old) (call.keep item)) result table.new }
 {
-    calls::keep(sheet, index, table, item)
+    Answer::from(calls::keep(sheet, index, table, item))
 }
 
 #[unsafe(no_mangle)]
 pub extern "C" fn rozhinal_drop(sheet: &[u8], index: &[u8], table: &mut [u8], item: u64) -> Answer
     ensures { Answered (call_on sheet.now (keeping index.now table.old) (call.drop item)) result table.new }
 {
-    calls::drop_figure(sheet, index, table, item)
+    Answer::from(calls::drop_figure(sheet, index, table, item))
 }
 
 #[unsafe(no_mangle)]
 pub extern "C" fn rozhinal_step(sheet: &[u8], index: &[u8], table: &mut [u8], item: u64) -> Answer
     ensures { Answered (call_on sheet.now (keeping index.now table.old) (call.step item)) result table.new }
 {
-    calls::step(sheet, index, table, item)
+    Answer::from(calls::step(sheet, index, table, item))
 }
 
 #[unsafe(no_mangle)]
 pub extern "C" fn rozhinal_ask(sheet: &[u8], index: &[u8], table: &mut [u8], item: u64) -> Reading
     ensures { Asked (call_on sheet.now (keeping index.now table.old) (call.ask item)) result table.new }
 {
-    calls::ask(sheet, index, table, item)
+    Reading::from(calls::ask(sheet, index, table, item))
 }
 
 #[unsafe(no_mangle)]
@@ -94,14 +95,14 @@ pub extern "C" fn rozhinal_board(
 ) -> Answer
     ensures { BoardShown (call_on sheet.now (keeping index.now table.old) (call.board items.now results.old)) result results.new table.new }
 {
-    calls::board(sheet, index, table, items, results)
+    Answer::from(calls::board(sheet, index, table, items, results))
 }
 
 #[unsafe(no_mangle)]
 pub extern "C" fn rozhinal_close(sheet: &[u8], index: &[u8], table: &mut [u8]) -> Answer
     ensures { Answered (call_on sheet.now (keeping index.now table.old) call.close) result table.new }
 {
-    calls::close(sheet, index, table)
+    Answer::from(calls::close(sheet, index, table))
 }
 
 #[unsafe(no_mangle)]

@@ -1,71 +1,71 @@
 -- An operation applied to the parents' values. Assumes nothing.
 use Prim.Native.Nat.{ℕ, ◌≤◌, ◌<◌}
-use mathlib.Core.Bool.{Bool, true, false}
+use mathlib.Core.Bool.{true}
 use mathlib.Core.List.{List, [], ◌∷◌}
-use mathlib.Core.Option.{some}
-use mathlib.Core.Path.{◌≡◌, sym, ap, subst, ◌∙◌}
+use mathlib.Core.Path.{◌≡◌, refl, sym, ap, ◌∙◌}
 use native.Mathlib.Omega.{arith}
 use borrow.Author.Tests.{eqb-true, leb-true}
 use lib.Dec.{leb, eqb}
-use lib.IntN.{ℤ}
+use lib.ListN.{length, get_or}
+use Rattle.std.proofs.lemmas.List.{length-map}
 use Rattle.circuit.proofs.RuleLaws.{apply-well_formed, and_right}
 use Rattle.circuit.specs.Rules as rules
 use Rattle.circuit.specs.Value as circuit
 use Rattle.circuit.specs.WellFormed.{all_well_formed}
-use Rattle.value.specs.Meaning.{meaning, value_at, first_values}
-use Rattle.rules.specs.Operations.{operation_meaning, allows, Applied}
-use Rattle.rules.specs.declared.Operation.{Operation}
-use Rattle.rules.specs.declared.Operation.TheVariants.{Refused}
+use Rattle.value.specs.Meaning.{meaning, meanings}
 use Rattle.value.specs.declared.Value.{Value}
-use Rattle.value.proofs.Parents.{value_at-well_formed}
+use Rattle.value.proofs.Parents.{nothing, meaning_at, at-well_formed}
+use Rattle.rules.specs.Operations.{operation_meaning, Applied}
+use Rattle.rules.specs.declared.Operation.{Operation}
 
-first_two : (ks : List ℕ) (zs : List ℤ) (n : ℕ) → n ≡ 2 → first_values ks zs n ≡ (value_at ks zs 0 ∷ value_at ks zs 1 ∷ [])
-unfolding first_values
-first_two ks zs n e = rw e
+two : (vs : List circuit.Value) → length vs ≡ 2 → (rules.nth vs 0 ∷ rules.nth vs 1 ∷ []) ≡ vs
+two [] e = absurd (omega arith)
+two (a ∷ []) e = absurd (omega arith)
+two (a ∷ b ∷ []) e = refl
+two (a ∷ b ∷ c ∷ vs) e = absurd (omega arith)
 
-first_three : (ks : List ℕ) (zs : List ℤ) (n : ℕ) → n ≡ 3 → first_values ks zs n ≡ (value_at ks zs 0 ∷ value_at ks zs 1 ∷ value_at ks zs 2 ∷ [])
-unfolding first_values
-first_three ks zs n e = rw e
+three : (vs : List circuit.Value) → length vs ≡ 3 → (rules.nth vs 0 ∷ rules.nth vs 1 ∷ rules.nth vs 2 ∷ []) ≡ vs
+three [] e = absurd (omega arith)
+three (a ∷ []) e = absurd (omega arith)
+three (a ∷ b ∷ []) e = absurd (omega arith)
+three (a ∷ b ∷ c ∷ []) e = refl
+three (a ∷ b ∷ c ∷ d ∷ vs) e = absurd (omega arith)
 
--- the operation is o, and takes n parents, whose values are well formed
-module _ (op v : Operation) (told : op ≡ v) (o : rules.Operation) (is : operation_meaning v ≡ some o) (ks : List ℕ) (zs : List ℤ) (n : ℕ)
-    (takes : allows (operation_meaning op) n ≡ true) (formed : all_well_formed (first_values ks zs n) ≡ true) where
-  means : operation_meaning op ≡ some o
-  means = ap operation_meaning told ∙ is
+-- the operation is v and takes the values vs, which are well formed
+module _ (op v : Operation) (is : op ≡ v) (vs : List Value) (takes : rules.count_allowed (operation_meaning op) (length vs) ≡ true)
+    (formed : all_well_formed (meanings vs) ≡ true) where
+  takes_count : rules.count_allowed (operation_meaning v) (length vs) ≡ true
+  takes_count = rw is at takes
 
-  takes_count : rules.count_allowed o n ≡ true
-  takes_count = rw means at takes
+  pub few : rules.count_allowed (operation_meaning v) (length vs) ≡ rules.one_or_more (length vs) → length vs ≤ rules.max_parents
+  unfolding rules.one_or_more
+  few e = leb-true (length vs) rules.max_parents (and_right (leb 1 (length vs)) (leb (length vs) rules.max_parents) (sym e ∙ takes_count))
 
-  pub many_ask : rules.count_allowed o n ≡ rules.one_or_more n → (n ≤ rules.max_parents) × (all_well_formed (first_values ks zs n) ≡ true)
-  unfolding rules.one_or_more rules.max_parents
-  many_ask e = (leb-true n 16 (and_right (leb 1 n) (leb n 16) (sym e ∙ takes_count)), formed)
-
-  pub applied_all : (r : Value) → meaning r ≡ rules.apply o (first_values ks zs n) → Applied op (first_values ks zs n) r
+  pub applied_all : (r : Value) → meaning r ≡ rules.apply (operation_meaning v) (meanings vs) → Applied op (meanings vs) r
   applied_all r e =
       record {
-        result = rw (means, e);
-        formed = rw e (apply-well_formed o (first_values ks zs n) formed);
+        result = rw (is, e);
+        formed = rw e (apply-well_formed (operation_meaning v) (meanings vs) formed);
       }
 
-  -- the values that two arrays hold, read one by one
-  module _ (e : rules.count_allowed o n ≡ eqb n 2) where
-    two : n ≡ 2
-    two = eqb-true n 2 (sym e ∙ takes_count)
+  -- the rules of two and three parents read the values by their places
+  module _ (e : rules.count_allowed (operation_meaning v) (length vs) ≡ eqb (length vs) 2) where
+    both : length vs ≡ 2
+    both = eqb-true (length vs) 2 (sym e ∙ takes_count)
 
-    pub formed_at_lem : (k : ℕ) → k < 2 → (v : circuit.Value) → v ≡ value_at ks zs k → circuit.well_formed v ≡ true
-    formed_at_lem k h v q = rw q (value_at-well_formed ks zs n k (omega (arith, two)) formed)
+    pub formed_at : (k : ℕ) → k < 2 → circuit.well_formed (meaning (get_or vs k nothing)) ≡ true
+    formed_at k h = rw (sym (meaning_at vs k)) (at-well_formed (meanings vs) k circuit.null (rw length-map (omega (arith, both))) formed)
 
-    pub applied_two : (r : Value) (a b : circuit.Value) → a ≡ value_at ks zs 0 → b ≡ value_at ks zs 1 → meaning r ≡ rules.apply o (a ∷ b ∷ []) → Applied op (first_values ks zs n) r
-    applied_two r a b ea eb q = applied_all r (q ∙ rw (ea, eb, first_two ks zs n two))
+    pub applied_two : (r : Value) → meaning r ≡ rules.apply (operation_meaning v) (meaning (get_or vs 0 nothing) ∷ meaning (get_or vs 1 nothing) ∷ []) → Applied op (meanings vs) r
+    applied_two r q =
+        applied_all r (q ∙ ap (rules.apply (operation_meaning v)) (rw (sym (meaning_at vs 0), sym (meaning_at vs 1)) (two (meanings vs) (rw length-map both))))
 
-  pub applied_three : rules.count_allowed o n ≡ eqb n 3 → (r : Value) (a b c : circuit.Value) → a ≡ value_at ks zs 0 → b ≡ value_at ks zs 1 → c ≡ value_at ks zs 2
-      → meaning r ≡ rules.apply o (a ∷ b ∷ c ∷ []) → Applied op (first_values ks zs n) r
-  applied_three e r a b c ea eb ec q =
-      applied_all r (q ∙ rw (ea, eb, ec, first_three ks zs n (eqb-true n 3 (sym e ∙ takes_count))))
+  pub applied_three : rules.count_allowed (operation_meaning v) (length vs) ≡ eqb (length vs) 3 → (r : Value)
+      → meaning r ≡ rules.apply (operation_meaning v) (meaning (get_or vs 0 nothing) ∷ meaning (get_or vs 1 nothing) ∷ meaning (get_or vs 2 nothing) ∷ []) → Applied op (meanings vs) r
+  applied_three e r q =
+      applied_all r
+      (q ∙ ap (rules.apply (operation_meaning v)) (rw (sym (meaning_at vs 0), sym (meaning_at vs 1), sym (meaning_at vs 2))
+      (three (meanings vs) (rw length-map (eqb-true (length vs) 3 (sym e ∙ takes_count))))))
 
--- a refusal takes no parents
-pub takes_none : (op : Operation) (n : ℕ) → op ≡ Refused → allows (operation_meaning op) n ≡ true → ⊥
-takes_none op n e h = clash (rw e at h)
-  where
-    clash : false ≡ true → ⊥
-    clash q = subst (λ (b : Bool). lib.Dec.T (mathlib.Core.Bool.not b)) q tt
+-- what `apply` hands its rules, and what the rules for any number of parents give
+pub ruleset applied = (few, applied_all, formed_at)

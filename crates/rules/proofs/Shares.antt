@@ -1,38 +1,28 @@
 -- A share: the quotient by the whole in two parts, neither of which grows beyond the number that is shared, and rounding
 -- down on both sides of 0. Assumes nothing.
-use Prim.Native.Nat.{ℕ, zero, suc, ◌+◌, ◌*◌, ◌/◌, ◌%◌, ◌^◌, ◌≤◌, ◌<◌}
-use mathlib.Core.Bool.{Bool, true, false, cond, ◌&&◌}
+use Prim.Native.Nat.{ℕ, zero, suc, ◌+◌, ◌*◌, ◌/◌, ◌%◌, ◌≤◌, ◌<◌}
+use mathlib.Core.Bool.{true, false}
 use mathlib.Core.Path.{◌≡◌, refl, sym, ap, ◌∙◌}
-use native.Mathlib.Nat.{mul_comm, mul_assoc, add-mul, mul-le-mul_left, mul-le-mul, le_of_lt, le_trans, div-add-mod', div-mul-le_self, mod-lt, mul-add-div_right, div-lt_iff_lt-mul, suc-mul}
+use native.Mathlib.Nat.{mul_comm, mul_assoc, add-mul, mul-le-mul_left, div-add-mod', mul-add-div_right, div-lt_iff_lt-mul, suc-mul}
 use native.Mathlib.Omega.{arith}
-use borrow.Author.Tests.{leb-true, ltb-true, ltb-false, le-leb, lt-leb}
-use lib.Dec.{T, lit<, leb-zero}
+use borrow.Author.Tests.{leb-true, ltb-true}
+use lib.Dec.{lit<, leb-zero}
 use lib.IntN.{ℤ, pos, negsuc, nat_abs, neg_ℤ, ◌-ℤ◌, ◌*ℤ◌, +ℤ_idl}
-use lib.Signed.{le_z, lt_z, non_neg}
+use lib.Signed.{le_z, lt_z}
 use mir.Syntax.{w64}
-use mir.Val.{Fits, SFits, to_z}
+use mir.Val.{SFits, to_z}
 use mir.ValLaws.{to_z_pos}
 use Rattle.circuit.proofs.RuleLaws.{in_range-size, neg_size}
-use Rattle.circuit.specs.Rules.{floor_div, whole, share_of}
+use Rattle.circuit.specs.Rules.{floor_div, whole}
 use Rattle.circuit.specs.Value as circuit
 use Rattle.circuit.specs.Rules.{max_parents}
-use Rattle.value.proofs.Signed.{limit_small, fits, back, read}
+use Rattle.value.proofs.Signed.{fits, back, read}
 
 whole_pos : 0 < whole
 unfolding whole
 whole_pos = lit< tt
 
 -- ---- the two parts of the quotient
-
-pub high_size : (m p : ℕ) → p ≤ whole → m / whole * p ≤ m
-high_size m p h = le_trans (mul-le-mul_left (m / whole) h) (div-mul-le_self m whole)
-
-pub low_size : (m p : ℕ) → p ≤ whole → m % whole * p ≤ whole * whole
-low_size m p h = mul-le-mul (le_of_lt (mod-lt m whole_pos)) h
-
-pub low_fits : (m p e : ℕ) → p ≤ whole → e < whole → m % whole * p + e < 2 ^ 63
-unfolding whole
-low_fits m p e h l = omega (arith, low_size m p h)
 
 pub two_parts : (m p e : ℕ) → m / whole * p + (m % whole * p + e) / whole ≡ (m * p + e) / whole
 two_parts m p e = sym (mul-add-div_right whole_pos (m / whole * p) (m % whole * p + e)) ∙ ap (λ (k : ℕ). k / whole) joined
@@ -91,27 +81,9 @@ not_less z f e = go z (rw (back z f) at e)
     go (pos n) e = leb-zero n
     go (negsuc n) e = cc
 
--- 0 less a number below 0 is its size
-pub negated : (z : ℤ) → SFits w64 z → lt_z (read z) (pos 0) ≡ true → (pos 0 -ℤ read z) ≡ pos (nat_abs z)
-negated z f e = rw (back z f) (go z (rw (back z f) at e))
-  where
-    go : (z : ℤ) → lt_z z (pos 0) ≡ true → (pos 0 -ℤ z) ≡ pos (nat_abs z)
-    go (pos n) e = absurd (below_zero n (ltb-true n 0 e))
-      where
-        below_zero : (n : ℕ) → n < 0 → ⊥
-        below_zero n h = omega arith
-    go (negsuc n) e = +ℤ_idl (pos (suc n))
-
--- what a cast of such a number asks
-pub cast_size : (z : ℤ) (k : ℕ) → z ≡ pos k → k < 2 ^ 63 → T (non_neg z) × Fits w64 (nat_abs z)
-cast_size z k e h = rw e (tt, record { fits = omega arith })
-
 pub pos_fits : (k : ℕ) → k ≤ circuit.limit → SFits w64 (pos k)
 unfolding max_parents
 pos_fits k h = fits (pos k) (omega arith)
-
-pub size_fits : (z : ℤ) → circuit.in_range z ≡ true → nat_abs z < 2 ^ 63
-size_fits z e = omega (arith, in_range-size z e, limit_small)
 
 pub parts_size : (p : ℤ) → le_z (pos 0) p ≡ true → le_z p (pos whole) ≡ true → nat_abs p ≤ whole
 parts_size (pos k) e h = leb-true k whole h
@@ -120,27 +92,16 @@ parts_size (negsuc k) e h = absurd (false_true e)
     false_true : false ≡ true → ⊥
     false_true q = let z : ◌≡◌ {A = ℕ} 0 1 = cc in omega arith
 
-pub parts_fit : (p : ℤ) → le_z (pos 0) p ≡ true → le_z p (pos whole) ≡ true → nat_abs p < 2 ^ 63
-unfolding whole
-parts_fit p e h = omega (arith, parts_size p e h)
-
--- the difference from 0, as it is stored and read back
-pub negative_size_fits : (x : ℤ) → circuit.in_range x ≡ true → {d : ℤ} → d ≡ pos (nat_abs x) → SFits w64 d
-negative_size_fits x e q = rw q (pos_fits (nat_abs x) (in_range-size x e))
-
-pub back_size : (x : ℤ) → circuit.in_range x ≡ true → {d : ℤ} → d ≡ pos (nat_abs x) → read d ≡ pos (nat_abs x)
-back_size x e {d} q = back d (negative_size_fits x e q) ∙ q
-
 -- ---- the share itself, r being what the unsigned quotient gave
 
 module _ (x p : ℤ) (e : circuit.in_range x ≡ true) (fx : SFits w64 x) (fp : SFits w64 p) (low : le_z (pos 0) p ≡ true) (high : le_z p (pos whole) ≡ true) where
   -- the sizes that the quotient is asked of
-  pub sizes : (z : ℤ) → z ≡ pos (nat_abs x) → (nat_abs z ≤ circuit.limit) × (nat_abs (read p) ≤ whole)
-  sizes z q = rw (q, not_below p fp low) (in_range-size x e, parts_size p low high)
+  pub sizes : (m : ℕ) → m ≡ nat_abs (read x) → (m ≤ circuit.limit) × (nat_abs (read p) ≤ whole)
+  sizes m q = rw (q, back x fx, not_below p fp low) (in_range-size x e, parts_size p low high)
 
-  module _ (z : ℤ) (is : z ≡ pos (nat_abs x)) (r c : ℕ) (l : c < whole) (q : r ≡ (nat_abs z * nat_abs (read p) + c) / whole) where
+  module _ (m : ℕ) (is : m ≡ nat_abs (read x)) (r c : ℕ) (l : c < whole) (q : r ≡ (m * nat_abs (read p) + c) / whole) where
     plain : r ≡ (nat_abs x * nat_abs p + c) / whole
-    plain = q ∙ rw (is, not_below p fp low)
+    plain = q ∙ rw (is, back x fx, not_below p fp low)
 
     small : r ≤ circuit.limit
     small = omega (arith, quotient_size (nat_abs x) (nat_abs p) c (parts_size p low high) l, in_range-size x e, plain)
@@ -172,52 +133,3 @@ module _ (x p : ℤ) (e : circuit.in_range x ≡ true) (fx : SFits w64 x) (fp : 
         go (pos m) (negsuc k) a b = cc
         go (negsuc m) (pos k) a b = cc
         go (negsuc m) (negsuc k) a b = cc
-
--- ---- the parts of a share
-
-share_by : (x p : ℤ) (s t : Bool) → le_z (pos 0) p ≡ s → le_z p (pos whole) ≡ t → cond (s && t) (circuit.ranged (floor_div (x *ℤ p) whole)) circuit.out ≡ share_of x p
-share_by x p s t e f = rw (e, f)
-
-less_not : (p : ℤ) → lt_z p (pos 0) ≡ true → le_z (pos 0) p ≡ false
-less_not (pos n) e = absurd (below_none n (ltb-true n 0 e))
-  where
-    below_none : (n : ℕ) → n < 0 → ⊥
-    below_none n h = omega arith
-less_not (negsuc n) e = refl
-
-above_not : (k : ℕ) (p : ℤ) → lt_z (pos k) p ≡ true → (le_z p (pos k) ≡ false) × (le_z (pos 0) p ≡ true)
-above_not k (pos n) e = (lt-leb n k (ltb-true k n e), leb-zero n)
-above_not k (negsuc n) e = absurd (false_true e)
-  where
-    false_true : false ≡ true → ⊥
-    false_true q = let z : ◌≡◌ {A = ℕ} 0 1 = cc in omega arith
-
-not_above : (k : ℕ) (p : ℤ) → lt_z (pos k) p ≡ false → le_z p (pos k) ≡ true
-not_above k (pos n) e = le-leb n k (ltb-false k n e)
-not_above k (negsuc n) e = refl
-
-module _ (x p : ℤ) (f : SFits w64 p) where
-  pub parts_below : lt_z (read p) (pos 0) ≡ true → circuit.out ≡ share_of x p
-  parts_below e =
-      let k : le_z (pos 0) p ≡ false = less_not p (rw (back p f) at e) in
-      rw k
-
-  pub parts_above : lt_z (pos whole) (read p) ≡ true → circuit.out ≡ share_of x p
-  parts_above e =
-      let k = above_not whole p (rw (back p f) at e) in
-      share_by x p true false k.1 k.0
-
-  module _ (e : circuit.in_range x ≡ true) (g : SFits w64 x) (low : lt_z (read p) (pos 0) ≡ false) (high : lt_z (pos whole) (read p) ≡ false) where
-    from_zero_parts : le_z (pos 0) p ≡ true
-    from_zero_parts = not_less p f low
-
-    up_to_whole : le_z p (pos whole) ≡ true
-    up_to_whole = not_above whole p (rw (back p f) at high)
-
-    pub part_asks : (circuit.in_range (read x) ≡ true) × ((le_z (pos 0) (read p) ≡ true) × (le_z (read p) (pos whole) ≡ true))
-    part_asks = rw (back x g, back p f) (e, (from_zero_parts, up_to_whole))
-
-    pub part_gives : (d : ℤ) (r : circuit.Value) → SFits w64 d → d ≡ floor_div (read x *ℤ read p) whole → r ≡ circuit.ranged (read d) → r ≡ share_of x p
-    part_gives d r h ed er =
-        let k : read d ≡ floor_div (x *ℤ p) whole = rw (back d h, ed, back x g, back p f) in
-        er ∙ ap circuit.ranged k ∙ share_by x p true true from_zero_parts up_to_whole

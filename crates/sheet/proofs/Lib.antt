@@ -1,8 +1,6 @@
 pub mod Lists
-pub mod Names
 pub mod Levels
-pub mod Content
-pub mod Operations
+pub mod Names
 pub mod Judging
 pub mod Fields
 pub mod Scanned

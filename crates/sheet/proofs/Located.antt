@@ -11,8 +11,8 @@ use Rattle.layout.specs.Read.{Placed, going, scan, head_content, SheetRead, open
 use Rattle.layout.specs.Content.{count_in}
 use Rattle.layout.specs.Opened.{placed_from, items_of, sheet_from, sheet_of, offsets_of, Located}
 use Rattle.field.specs.Bytes.{over}
+use Rattle.sheet.specs.Check as check
 use Rattle.sheet.specs.Check.{checked_of, sound_items, read_so_far}
-use Rattle.sheet.specs.declared.Checked.TheVariants.{Opens, Refused}
 use Rattle.layout.proofs.Scan.{HeadRead, head_judged, opened}
 use Rattle.sheet.proofs.Scanned.{sound_more}
 
@@ -46,11 +46,11 @@ pub record Opening (s : List ℕ) (edition count : ℕ) : Type 0 where
   pub count_is : count ≡ size (sheet_of s)
   pub items_count : count ≡ length (items_of s)
 
-pub opening : (s : List ℕ) (edition count : ℕ) → Opens edition count ≡ checked_of (read_sheet s) → Opening s edition count
+pub opening : (s : List ℕ) (edition count : ℕ) → check.opens edition count ≡ checked_of (read_sheet s) → Opening s edition count
 unfolding items_of sheet_of
 opening s edition count e = go (read_sheet s) refl e
   where
-    go : (r : SheetRead) → read_sheet s ≡ r → Opens edition count ≡ checked_of r → Opening s edition count
+    go : (r : SheetRead) → read_sheet s ≡ r → check.opens edition count ≡ checked_of r → Opening s edition count
     go (refused k at) q x = let z : ◌≡◌ {A = ℕ} 0 1 = cc in absurd (omega arith)
     go (opens ed ps) q x =
         let a : ed ≡ edition = cc in
@@ -64,9 +64,9 @@ opening s edition count e = go (read_sheet s) refl e
         }
 
 -- an answer that it is refused
-pub refusal : (s : List ℕ) (number offset : ℕ) → Refused number offset ≡ checked_of (read_sheet s) → read_sheet s ≡ refused number offset
+pub refusal : (s : List ℕ) (number offset : ℕ) → check.refused number offset ≡ checked_of (read_sheet s) → read_sheet s ≡ refused number offset
 refusal s number offset e = go (read_sheet s) refl e
   where
-    go : (r : SheetRead) → read_sheet s ≡ r → Refused number offset ≡ checked_of r → read_sheet s ≡ refused number offset
+    go : (r : SheetRead) → read_sheet s ≡ r → check.refused number offset ≡ checked_of r → read_sheet s ≡ refused number offset
     go (opens ed ps) q x = let z : ◌≡◌ {A = ℕ} 0 1 = cc in absurd (omega arith)
     go (refused k at) q x = cc

@@ -1,23 +1,24 @@
 -- The check of a whole sheet, from its first field and its items. Assumes nothing.
-use mathlib.Core.Path.{◌≡◌, refl, sym, ap, ◌∙◌}
+use mathlib.Core.Path.{◌≡◌, refl, ap, ap₂, ◌∙◌}
 use mathlib.Core.List.{List}
-use Prim.Native.Nat.{ℕ, zero, suc, ◌+◌, ◌≤◌}
-use native.Mathlib.Omega.{arith}
-use lib.ListN.{length}
-use Rattle.field.specs.Field.{cut_at, le16_at, header_length}
-use Rattle.field.specs.declared.Cut.TheVariants.{Field}
-use Rattle.field.proofs.Cutting.{field_iff}
-use Rattle.layout.specs.Layout.{edition_at, count_at, head_length}
-use Rattle.layout.specs.Content.{edition_in, count_in}
+use Prim.Native.Nat.{ℕ, zero, suc, ◌-◌, ◌≤◌}
+use lib.ListN.{take, drop}
+use Rattle.std.specs.Prelude.{Result, Err}
+use Rattle.cause.specs.Cause.{number_of}
+use Rattle.cause.specs.declared.Fault.{Fault}
+use Rattle.cause.proofs.Numbers.{number_some}
+use Rattle.field.specs.Field.{cut_at, header_length}
+use Rattle.field.specs.declared.Field.{Field}
+use Rattle.layout.specs.Layout.{head_length}
+use Rattle.layout.specs.Content.{content_at, edition_in, count_in}
 use Rattle.layout.specs.Read.{head_content, head_tests, judge, scan, scan_last, scan_sheet, conclude, read_sheet}
 use Rattle.layout.specs.Opened.{offsets_of, levels_of}
 use Rattle.layout.specs.Room.{room_for}
 use Rattle.field.specs.Bytes.{over}
-use Rattle.sheet.specs.Check.{checked_of, sound_items, read_so_far}
-use Rattle.sheet.specs.declared.Checked.{Checked}
-use Rattle.sheet.specs.declared.Checked.TheVariants.{Refused}
-use Rattle.sheet.proofs.Content.{content16}
-use Rattle.layout.proofs.Scan.{HeadRead, head_read}
+use Rattle.sheet.specs.declared.Opened.{Opened}
+use Rattle.sheet.specs.Check.{Checked, refused, checked_of, checked_meaning, Whole, sound_items, read_so_far}
+use Rattle.sheet.proofs.Fields.{content_is}
+use Rattle.layout.proofs.Scan.{head_read}
 use Rattle.layout.proofs.Rooms as rooms
 
 -- what the check answers and leaves in its arrays
@@ -27,32 +28,33 @@ Checks s r offsets offsets₀ levels levels₀ =
     × ((offsets ≡ over (offsets_of (read_so_far s)) offsets₀) × (levels ≡ over (levels_of (read_so_far s)) levels₀))
 
 -- the first field is at fault
-pub head_refused : (s : List ℕ) (k : ℕ) (offsets levels : List ℕ) → (k ≡ 0 → ⊥) → judge head_tests s (cut_at s 0) ≡ k
-    → Checks s (Refused k 0) offsets offsets levels levels
+head_by : (s : List ℕ) (k at : ℕ) (offsets levels : List ℕ) → (k ≡ 0 → ⊥) → at ≡ 0 → judge head_tests s (cut_at s 0) ≡ k → Checks s (refused k at) offsets offsets levels levels
 unfolding read_sheet scan_sheet read_so_far
-head_refused s zero offsets levels n e = absurd (n refl)
-head_refused s (suc k) offsets levels n e = rw e (refl, (refl, refl))
+head_by s zero at offsets levels n z e = absurd (n refl)
+head_by s (suc k) at offsets levels n z e = rw (z, e) (refl, (refl, refl))
+
+pub head_refused : (s : List ℕ) {r : Result Opened Fault} {f : Fault} (offsets levels : List ℕ) → r ≡ Err f → f.offset ≡ 0
+    → judge head_tests s (cut_at s 0) ≡ number_of f.cause → Checks s (checked_meaning r) offsets offsets levels levels
+head_refused s {r} {f} offsets levels is place e =
+    rw is (head_by s (number_of f.cause) f.offset offsets levels (number_some f.cause) place e)
 
 -- it is not
-module _ (s : List ℕ) (tag start len next : ℕ) (cut : cut_at s 0 ≡ Field tag start len next) (e : judge head_tests s (cut_at s 0) ≡ 0) where
-  read : HeadRead s
-  read = head_read s e
+module _ {s : List ℕ} {f : Field} (w : Whole s 0 f) (e : judge head_tests s (cut_at s 0) ≡ 0) where
+  head_content_is : take (f.next - f.start) (drop f.start s) ≡ head_content s
+  head_content_is =
+      let h = (head_read s e).head in
+      let c = w.cut_is in
+      let start : f.start ≡ header_length = cc in
+      let len : f.len ≡ head_length = cc in
+      content_is w ∙ ap₂ (content_at s) start len
 
-  placed_at : (start ≡ header_length) × (len ≡ head_length)
-  placed_at = let h = read.head in (cc, cc)
-
-  pub head_room : start + head_length ≤ length s
-  head_room =
-      let f = (field_iff s 0 tag start len next).0 cut in
-      let p = placed_at in
-      omega arith
-
-  module _ (edition count : ℕ) (e₁ : edition ≡ le16_at s start) (e₂ : count ≡ le16_at s (start + count_at)) where
+  module _ (edition count : ℕ) (e₁ : edition ≡ edition_in (take (f.next - f.start) (drop f.start s)))
+      (e₂ : count ≡ count_in (take (f.next - f.start) (drop f.start s))) where
     edition_found : edition ≡ edition_in (head_content s)
-    edition_found = e₁ ∙ ap (le16_at s) placed_at.0 ∙ sym (content16 s header_length head_length edition_at (omega arith))
+    edition_found = e₁ ∙ ap edition_in head_content_is
 
     count_found : count ≡ count_in (head_content s)
-    count_found = e₂ ∙ ap (λ k. le16_at s (k + count_at)) placed_at.0 ∙ sym (content16 s header_length head_length count_at (omega arith))
+    count_found = e₂ ∙ ap count_in head_content_is
 
     pub count_room : count ≤ room_for s
     count_room = rw count_found (rooms.head_room s e)

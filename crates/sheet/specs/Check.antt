@@ -1,25 +1,68 @@
 -- What the check of a sheet answers, and what it leaves in its two scratch arrays. Assumes nothing.
-use Rattle.std.specs.Prelude.{ℕ, zero, suc, ◌+◌, ◌*◌, ◌≡◌, cond, List, [], ◌∷◌, ◌++◌, map, ltb, length, get_or, take}
+use Rattle.std.specs.Prelude.{ℕ, zero, suc, ◌+◌, ◌≤◌, ◌≡◌, cond, List, [], map, ltb, length, get_or, take, Option, Some, None, Result, Ok, Err}
+use Rattle.cause.specs.Cause.{number_of}
+use Rattle.cause.specs.declared.Cause.{Cause}
+use Rattle.cause.specs.declared.Fault.{Fault}
 use Rattle.layout.specs.Opened.{levels_of}
-use Rattle.field.specs.Field.{cut_at, le16_at}
-use Rattle.circuit.specs.Calls.{first_cause}
-use Rattle.layout.specs.Layout.{all, highest, parent_width}
-use Rattle.layout.specs.Read.{Placed, Scan, going, stopped, scan, SheetRead, opens, refused, judge, head_tests, item_tests, item_level, head_content}
+use Rattle.field.specs.Field.{cut_at, field}
+use Rattle.field.specs.declared.Field.{Field}
+use Rattle.circuit.specs.Calls.{Test, first_cause}
+use Rattle.layout.specs.Layout.{all, highest}
+use Rattle.layout.specs.Read as read
+use Rattle.layout.specs.Read.{Placed, Scan, going, stopped, scan, SheetRead, judge, head_tests, item_tests, item_level, head_content}
 use Rattle.layout.specs.Content.{item_in, edition_in, count_in}
-use Rattle.sheet.specs.declared.Checked.{Checked}
-use Rattle.sheet.specs.declared.Checked.TheVariants.{Opens, Refused}
-use Rattle.sheet.specs.declared.Judged.{Judged}
-use Rattle.sheet.specs.declared.Judged.TheVariants.{Sound, Fault}
+use Rattle.sheet.specs.declared.Opened.{Opened}
+
+-- what the check of a sheet gives: its edition and its item count, or the number and the offset of its first fault
+pub data Checked : Type 0 where
+  opens : (edition count : ℕ) → Checked
+  refused : (number offset : ℕ) → Checked
 
 -- the check's answer: the case holds 01's number and offset itself
 abbrev pub checked_of : SheetRead → Checked
-checked_of (opens edition ps) = Opens edition (length ps)
-checked_of (refused k at) = Refused k at
+checked_of (read.opens edition ps) = opens edition (length ps)
+checked_of (read.refused k at) = refused k at
+
+-- what the code gives for it
+abbrev pub checked_meaning : Result Opened Fault → Checked
+checked_meaning (Ok o) = opens o.edition o.count
+checked_meaning (Err f) = refused (number_of f.cause) f.offset
+
+-- what the check of an item's field gives: the item's level, or the number of its lowest cause
+pub data Judged : Type 0 where
+  sound : (level : ℕ) → Judged
+  at_fault : (number : ℕ) → Judged
 
 -- a field's answer: its level, or the number of its lowest cause
 abbrev pub judged_of : ℕ → ℕ → Judged
-judged_of zero level = Sound level
-judged_of (suc k) level = Fault (suc k)
+judged_of zero level = sound level
+judged_of (suc k) level = at_fault (suc k)
+
+-- what the code gives for it
+abbrev pub judged_meaning : Result ℕ Cause → Judged
+judged_meaning (Ok level) = sound level
+judged_meaning (Err c) = at_fault (number_of c)
+
+-- a field that is there whole, with its content in the bytes
+pub record Whole (s : List ℕ) (at : ℕ) (f : Field) : Type 0 where
+  pub cut_is : cut_at s at ≡ field f.tag f.start f.len f.next
+  pub next_is : f.start + f.len ≡ f.next
+  pub next_in : f.next ≤ length s
+
+-- one that is absent or runs past the end, which has cause 1 whatever its tests are
+pub record NotWhole (s : List ℕ) (at : ℕ) (f : Fault) : Type 0 where
+  pub number_is : number_of f.cause ≡ 1
+  pub offset_is : f.offset ≡ at
+  pub judged : (tests : ℕ → List ℕ → List Test) → judge tests s (cut_at s at) ≡ 1
+
+abbrev pub WholeField : List ℕ → ℕ → Result Field Fault → Type 0
+WholeField s at (Ok f) = Whole s at f
+WholeField s at (Err e) = NotWhole s at e
+
+-- a cause at the offset of its field
+abbrev pub cause_at : {A : Type 0} → ℕ → Result A Cause → Result A Fault
+cause_at at (Ok a) = Ok a
+cause_at at (Err c) = Err (record { cause = c; offset = at })
 
 -- the answer for the field of item number `length ps`, after the items ps
 abbrev pub judged_item : ℕ → List Placed → ℕ → List ℕ → Judged
@@ -47,12 +90,7 @@ unfoldable pub read_so_far : List ℕ → List Placed
 read_so_far s =
     after_head (judge head_tests s (cut_at s 0)) (sound_items s (edition_in (head_content s)) (count_in (head_content s)))
 
--- the p numbers of two bytes from an offset on
-unfoldable pub numbers_at : List ℕ → ℕ → ℕ → List ℕ
-numbers_at s at zero = []
-numbers_at s at (suc p) = numbers_at s at p ++ (le16_at s (at + parent_width * p) ∷ [])
-
--- one more than the highest of the parents' levels, or 0 where a parent is not below item i
-unfoldable pub level_over : ℕ → List ℕ → List ℕ → ℕ
+-- one more than the highest of the parents' levels, or none where a parent is not below item i
+unfoldable pub level_over : ℕ → List ℕ → List ℕ → Option ℕ
 level_over i levels parents =
-    cond (all (λ p. ltb p i) parents) (suc (highest (map (λ p. get_or levels p 0) parents))) 0
+    cond (all (λ p. ltb p i) parents) (Some (suc (highest (map (λ p. get_or levels p 0) parents)))) None

@@ -1,263 +1,219 @@
 // Sheets: the check of a sheet's bytes.
 #![tactic(auto)]
 
-ghost use Rattle.std.specs.Prelude.{◌≡◌, ◌&&◌, List, ◌+◌, ◌*◌, ◌≤◌, max, length};
+ghost use Rattle.std.specs.Prelude.{◌≡◌, ◌&&◌, List, ◌*◌, ◌≤◌, length, IfOk};
+ghost use Rattle.cause.specs.Cause.{number_in};
 ghost use Rattle.circuit.specs.Calls.{first_cause};
-ghost use Rattle.layout.specs.Layout.{figure_tag, parent_width, rule_allowed, keep_allowed, spread_allowed, name_allowed};
-ghost use Rattle.layout.specs.Read.{Placed, head_tests, going, scan, scan_last, conclude, read_sheet};
-ghost use Rattle.layout.specs.Content.{content_at};
+ghost use Rattle.layout.specs.Layout.{figure_tag, parent_at, rule_allowed, keep_allowed, spread_allowed, name_allowed};
+ghost use Rattle.layout.specs.Read.{Placed, head_tests, last_tests, going, scan, scan_last, conclude, read_sheet};
+ghost use Rattle.layout.specs.Content.{edition_in, count_in, rule_in, keep_in, spread_in, parents_in};
 ghost use Rattle.layout.specs.Opened.{offsets_of, levels_of};
 ghost use Rattle.layout.specs.Room.{count_said, room_for, Room};
 ghost use Rattle.field.specs.Bytes.{over};
-ghost use Rattle.sheet.specs.Check.{checked_of, judged_item, LevelsAt, sound_items, read_so_far, numbers_at, level_over};
+ghost use Rattle.sheet.specs.Check.{checked_of, checked_meaning, judged_item, judged_meaning, WholeField, cause_at, LevelsAt, sound_items, read_so_far, level_over};
 
-use field::Cut;
+use cause::{Cause, Fault};
+use field::Field;
 use limits::{
     COUNT_AT, ENTRY_TAG, FIGURE_TAG, HEAD_LENGTH, HEAD_TAG, KEEP_AT, LAST_TAG, LEVEL_LIMIT,
     NAME_LIMIT, PARENT_COUNT_AT, PARENT_WIDTH, PARENTS_AT, RULE_AT, SPREAD_AT,
 };
-use rules::Operation;
 
-// What the check of a sheet gives: its edition and item count, or the number and the offset of its first fault.
-#[derive(Clone, Copy)]
-pub enum Checked {
-    Opens { edition: usize, count: usize },
-    Refused { number: u64, offset: usize },
+// What the first field of a sheet without a fault in it says: the sheet's edition and its item count.
+// (The edition is a number, as in limits.)
+#[derive(Clone, Copy, PartialEq, Eq, Debug)]
+pub struct Opened {
+    pub edition: usize,
+    pub count: usize,
 }
 
-// What the check of an item's field gives: the item's level, or the number of the lowest cause.
-#[derive(Clone, Copy)]
-pub enum Judged {
-    Sound { level: u8 },
-    Fault { number: u64 },
-}
-
-fn greater(a: usize, b: usize) -> usize
-    ensures { result ≡ max a b }
+// Whether the bytes are a name.
+#[tactic(auto, using(crate::proofs::Names::name_empty, crate::proofs::Names::name_long), unfolding(layout::specs::Layout::name_limit))]
+fn name_allowed(name: &[u8]) -> bool
+    ensures { result ≡ name_allowed name.now }
 {
-    if a < b { b } else { a }
+    match name.len() {
+        1..=NAME_LIMIT => name.iter().all(|b| limits::name_byte(*b)),
+        _ => false,
+    }
 }
 
-// Whether the len bytes from an offset are a name.
-fn name_allowed(s: &[u8], at: usize, len: usize) -> bool
-    requires { at + len ≤ length s.now }
-    ensures { result ≡ name_allowed (content_at s.now at len) }
+// One more than the highest level of the p parents that a figure's content lists; none where one is not below item i.
+fn level_over(content: &[u8], p: usize, i: usize, levels: &[u8]) -> Option<usize>
+    requires listed { parent_at p ≤ length content.now }
+    requires leveled { i ≤ length levels.now }
+    ensures { result ≡ level_over i levels.now (parents_in content.now p) }
 {
-    if len == 0 {
-        return false;
-    }
-    if NAME_LIMIT < len {
-        return false;
-    }
-    for k in 0..len {
-        if !limits::name_byte(s[at + k]) {
-            return false;
-        }
-    }
-    true
-}
-
-// One more than the highest level of the p parents that stand from an offset on, or 0 where one is not below item i.
-fn level_over(s: &[u8], at: usize, p: usize, i: usize, levels: &[u8]) -> usize
-    requires { (at + parent_width * p ≤ length s.now) × (i ≤ length levels.now) }
-    ensures { (result ≡ level_over i levels.now (numbers_at s.now at p)) × (result ≤ 256) }
-{
-    let mut highest = 0;
+    let mut highest: usize = 0;
+    // By number, and not by chunks: the parents' part of the content would have to be cut out first, which is no shorter.
     for k in 0..p {
-        let parent = field::u16_at(s, at + PARENT_WIDTH * k);
+        let parent = field::u16_at(content, PARENTS_AT + PARENT_WIDTH * k);
         if i <= parent {
-            return 0;
+            return None;
         }
-        highest = greater(highest, field::wide(levels[parent]));
+        highest = highest.max(usize::from(levels[parent]));
     }
-    highest + 1
+    Some(highest + 1)
 }
 
-// Whether a figure's rule, keep and spread are allowed, with p parents.
-fn figure_allowed(edition: usize, rule: u8, keep: u8, spread: u8, p: usize) -> bool
-    ensures { result ≡ (rule_allowed rule p && keep_allowed keep && spread_allowed edition spread) }
+// Whether the rule, keep and spread of a figure's content are allowed, with p parents.
+fn figure_allowed(edition: usize, content: &[u8], p: usize) -> bool
+    requires { parent_at 0 ≤ length content.now }
+    ensures { result ≡ (rule_allowed (rule_in content.now) p && keep_allowed (keep_in content.now) && spread_allowed edition (spread_in content.now)) }
 {
-    let operation = rules::operation_of(rule, p);
-    if let Operation::Refused = operation {
-        return false;
-    }
-    limits::keep_allowed(keep) && limits::spread_allowed(edition, spread)
+    rules::operation_of(content[RULE_AT], p).is_some()
+        && limits::keep_allowed(content[KEEP_AT])
+        && limits::spread_allowed(edition, content[SPREAD_AT])
 }
 
-// The field of a figure, item number i, with its content of len bytes from start.
-fn judge_figure(
-    s: &[u8],
-    edition: usize,
-    start: usize,
-    len: usize,
-    i: usize,
-    levels: &[u8],
-) -> Judged
-    requires { (start + len ≤ length s.now) × (i ≤ length levels.now) }
-    ensures { (ps : List Placed) → length ps ≡ i → LevelsAt levels.now ps → result ≡ judged_item edition ps figure_tag (content_at s.now start len) }
+// The content of a figure, item number i: its level, or its lowest cause.
+#[tactic(auto, using(crate::proofs::Judging::figure_short, crate::proofs::Judging::figure_narrow, crate::proofs::Judging::figure_unnamed, crate::proofs::Judging::figure_unruled))]
+fn judge_figure(content: &[u8], edition: usize, i: usize, levels: &[u8]) -> Result<u8, Cause>
+    requires { i ≤ length levels.now }
+    ensures { (ps : List Placed) → length ps ≡ i → LevelsAt levels.now ps → judged_meaning result ≡ judged_item edition ps figure_tag content.now }
 {
-    if len < PARENTS_AT {
-        return Judged::Fault { number: 3 };
+    // Two tests of one cause: the second needs the parent count, which the first makes sure of.
+    if content.len() < PARENTS_AT {
+        return Err(Cause::LengthOrName);
     }
-    let p = field::wide(s[start + PARENT_COUNT_AT]);
+    let p = usize::from(content[PARENT_COUNT_AT]);
     let before = PARENTS_AT + PARENT_WIDTH * p;
-    if len < before {
-        return Judged::Fault { number: 3 };
+    if content.len() < before || !name_allowed(&content[before..]) {
+        return Err(Cause::LengthOrName);
     }
-    if !name_allowed(s, start + before, len - before) {
-        return Judged::Fault { number: 3 };
+    if !figure_allowed(edition, content, p) {
+        return Err(Cause::Rule);
     }
-    if !figure_allowed(
-        edition,
-        s[start + RULE_AT],
-        s[start + KEEP_AT],
-        s[start + SPREAD_AT],
-        p,
-    ) {
-        return Judged::Fault { number: 5 };
-    }
-    let level = level_over(s, start + PARENTS_AT, p, i, levels);
-    if level == 0 {
-        return Judged::Fault { number: 6 };
-    }
+    let level = level_over(content, p, i, levels).ok_or(Cause::Parent)?;
     if LEVEL_LIMIT < level {
-        return Judged::Fault { number: 7 };
+        return Err(Cause::Level);
     }
-    Judged::Sound { level: level as u8 }
+    Ok(level as u8)
 }
 
-// The field of item number i, with its tag and its content of len bytes from start.
-fn judge_item(
-    s: &[u8],
-    edition: usize,
-    tag: u8,
-    start: usize,
-    len: usize,
-    i: usize,
-    levels: &[u8],
-) -> Judged
-    requires { (start + len ≤ length s.now) × (i ≤ length levels.now) }
-    ensures { (ps : List Placed) → length ps ≡ i → LevelsAt levels.now ps → result ≡ judged_item edition ps tag (content_at s.now start len) }
+// The tag and the content of the field of item number i: the item's level, or its lowest cause.
+#[tactic(auto, using(crate::proofs::Judging::entry_judged, crate::proofs::Judging::other_judged))]
+fn judge_item(tag: u8, content: &[u8], edition: usize, i: usize, levels: &[u8]) -> Result<u8, Cause>
+    requires { i ≤ length levels.now }
+    ensures { (ps : List Placed) → length ps ≡ i → LevelsAt levels.now ps → judged_meaning result ≡ judged_item edition ps tag content.now }
 {
     if tag == FIGURE_TAG {
-        return judge_figure(s, edition, start, len, i, levels);
+        return judge_figure(content, edition, i, levels);
     }
     if tag != ENTRY_TAG {
-        return Judged::Fault { number: 2 };
+        return Err(Cause::Tag);
     }
-    if name_allowed(s, start, len) {
-        Judged::Sound { level: 0 }
-    } else {
-        Judged::Fault { number: 3 }
+    if !name_allowed(content) {
+        return Err(Cause::LengthOrName);
     }
+    Ok(0)
 }
 
-// The lowest cause of the first field, with its tag and its content of len bytes from start; 0 where it has none.
-fn head_cause(s: &[u8], tag: u8, start: usize, len: usize) -> u64
-    requires { start + len ≤ length s.now }
-    ensures { result ≡ first_cause (head_tests tag (content_at s.now start len)) }
+// The tag and the content of the first field: what it says, or its lowest cause.
+#[tactic(auto, unfolding(layout::specs::Read::head_tests, circuit::specs::Calls::first_cause))]
+fn judge_head(tag: u8, content: &[u8]) -> Result<Opened, Cause>
+    ensures number { number_in result ≡ first_cause (head_tests tag content.now) }
+    ensures edition { IfOk result (λ o. o.edition ≡ edition_in content.now) }
+    ensures count { IfOk result (λ o. o.count ≡ count_in content.now) }
 {
     if tag != HEAD_TAG {
-        return 2;
+        return Err(Cause::Tag);
     }
-    if len != HEAD_LENGTH {
-        return 3;
+    if content.len() != HEAD_LENGTH {
+        return Err(Cause::LengthOrName);
     }
-    let edition = field::u16_at(s, start);
-    let count = field::u16_at(s, start + COUNT_AT);
-    if !limits::edition_known(edition) {
-        return 4;
+    let edition = field::u16_at(content, 0);
+    let count = field::u16_at(content, COUNT_AT);
+    if !limits::edition_known(edition) || !limits::count_allowed(edition, count) {
+        return Err(Cause::EditionOrCount);
     }
-    if !limits::count_allowed(edition, count) {
-        return 4;
+    Ok(Opened { edition, count })
+}
+
+// The tag and the content of the last field: its lowest cause, if it has one.
+#[tactic(auto, unfolding(layout::specs::Read::last_tests, circuit::specs::Calls::first_cause))]
+fn judge_last(tag: u8, content: &[u8]) -> Result<(), Cause>
+    ensures { number_in result ≡ first_cause (last_tests tag content.now) }
+{
+    if tag != LAST_TAG {
+        return Err(Cause::Tag);
     }
-    0
+    if !content.is_empty() {
+        return Err(Cause::LengthOrName);
+    }
+    Ok(())
+}
+
+// The field at an offset, which has to be there whole (1).
+#[tactic(auto, using(crate::proofs::Fields::whole, crate::proofs::Fields::not_whole))]
+fn whole_field(s: &[u8], at: usize) -> Result<Field, Fault>
+    ensures { WholeField s.now at result }
+{
+    field::field_at(s, at).map_err(|_| Fault {
+        cause: Cause::Cut,
+        offset: at,
+    })
+}
+
+// A cause at the offset of its field.
+fn at_field<T>(judged: Result<T, Cause>, offset: usize) -> Result<T, Fault>
+    ensures { result ≡ cause_at offset judged }
+{
+    judged.map_err(|cause| Fault { cause, offset })
 }
 
 // The last field, at an offset, after as many items as the first field says.
-fn check_last(s: &[u8], at: usize, edition: usize, count: usize) -> Checked
-    ensures { (ps : List Placed) → length ps ≡ count → result ≡ checked_of (conclude edition (scan_last s.now (going at ps))) }
+fn check_last(s: &[u8], at: usize, opened: Opened) -> Result<Opened, Fault>
+    ensures { (ps : List Placed) → length ps ≡ opened.count → checked_meaning result ≡ checked_of (conclude opened.edition (scan_last s.now (going at ps))) }
 {
-    let Cut::Field {
-        tag,
-        start: _,
-        len,
-        next,
-    } = field::field_at(s, at)
-    else {
-        return Checked::Refused {
-            number: 1,
-            offset: at,
-        };
-    };
-    if tag != LAST_TAG {
-        return Checked::Refused {
-            number: 2,
-            offset: at,
-        };
+    let last = whole_field(s, at)?;
+    at_field(judge_last(last.tag, &s[last.start..last.next]), at)?;
+    if last.next < s.len() {
+        return Err(Fault {
+            cause: Cause::Tag,
+            offset: last.next,
+        });
     }
-    if len != 0 {
-        return Checked::Refused {
-            number: 3,
-            offset: at,
-        };
-    }
-    if next < s.len() {
-        return Checked::Refused {
-            number: 2,
-            offset: next,
-        };
-    }
-    Checked::Opens { edition, count }
+    Ok(opened)
 }
 
 // The items and the last field.
 fn check_items(
     s: &[u8],
-    edition: usize,
-    count: usize,
+    opened: Opened,
     offsets: &mut [usize],
     levels: &mut [u8],
-) -> Checked
-    requires { (count ≤ length offsets.old) × (count ≤ length levels.old) }
-    ensures answer { result ≡ checked_of (conclude edition (scan_last s.now (scan s.now edition count))) }
-    ensures found { offsets.new ≡ over (offsets_of (sound_items s.now edition count)) offsets.old }
-    ensures leveled { levels.new ≡ over (levels_of (sound_items s.now edition count)) levels.old }
+) -> Result<Opened, Fault>
+    requires { (opened.count ≤ length offsets.old) × (opened.count ≤ length levels.old) }
+    ensures answer { checked_meaning result ≡ checked_of (conclude opened.edition (scan_last s.now (scan s.now opened.edition opened.count))) }
+    ensures found { offsets.new ≡ over (offsets_of (sound_items s.now opened.edition opened.count)) offsets.old }
+    ensures leveled { levels.new ≡ over (levels_of (sound_items s.now opened.edition opened.count)) levels.old }
 {
     let mut at = limits::HEAD_NEXT;
-    for i in 0..count {
-        let Cut::Field {
-            tag,
-            start,
-            len,
-            next,
-        } = field::field_at(s, at)
-        else {
-            return Checked::Refused {
-                number: 1,
-                offset: at,
-            };
-        };
-        match judge_item(s, edition, tag, start, len, i, levels) {
-            Judged::Fault { number } => {
-                return Checked::Refused { number, offset: at };
-            }
-            Judged::Sound { level } => {
-                offsets[i] = at;
-                levels[i] = level;
-                at = next;
-            }
-        }
+    // By number, and not over the arrays: judging an item reads the levels of the items before it.
+    for i in 0..opened.count {
+        let found = whole_field(s, at)?;
+        let content = &s[found.start..found.next];
+        let level = at_field(
+            judge_item(found.tag, content, opened.edition, i, levels),
+            at,
+        )?;
+        offsets[i] = at;
+        levels[i] = level;
+        at = found.next;
     }
-    check_last(s, at, edition, count)
+    check_last(s, at, opened)
 }
 
 // Where a sheet has its item count.
 const SAID_AT: usize = field::HEADER_LENGTH + COUNT_AT;
 
-// The item count that the first field says, 0 where the sheet ends before it. Nothing else of the sheet is looked at.
+// The item count that the first field says. Nothing else of the sheet is looked at. 0 where the sheet ends before it, and not None: the
+// definition has 0 there.
+#[tactic(auto, using(layout::proofs::Causes::count_same), unfolding(layout::specs::Room::count_said))]
 pub fn count_said(s: &[u8]) -> usize
-    ensures { (result ≡ count_said s.now) × (result ≤ 65535) }
+    ensures said { result ≡ count_said s.now }
+    ensures small { result ≤ 65535 }
 {
     if s.len() < limits::HEAD_NEXT {
         return 0;
@@ -266,41 +222,22 @@ pub fn count_said(s: &[u8]) -> usize
 }
 
 // The room that the sheet's items need in an array.
+#[tactic(auto, unfolding(layout::specs::Room::room_for, layout::specs::Layout::most_items, layout::specs::Layout::item_limit))]
 pub fn room_for(s: &[u8]) -> usize
     ensures { result ≡ room_for s.now }
 {
-    let count = count_said(s);
-    if count <= limits::ITEM_LIMIT {
-        count
-    } else {
-        limits::ITEM_LIMIT
-    }
+    count_said(s).min(limits::ITEM_LIMIT)
 }
 
-// The check of a sheet: its answer, and the offset and the level of each item read before the first fault.
-pub fn check(s: &[u8], offsets: &mut [usize], levels: &mut [u8]) -> Checked
+// The check of a sheet: its answer, and the offset and the level of each item read before the first fault. Two arrays, and not one of
+// pairs: the memory is lent, the offsets go on as a slice in item::Sheet, and the levels' bytes then serve for the owed bytes.
+pub fn check(s: &[u8], offsets: &mut [usize], levels: &mut [u8]) -> Result<Opened, Fault>
     requires { Room s.now offsets.old levels.old }
-    ensures answer { result ≡ checked_of (read_sheet s.now) }
+    ensures answer { checked_meaning result ≡ checked_of (read_sheet s.now) }
     ensures found { offsets.new ≡ over (offsets_of (read_so_far s.now)) offsets.old }
     ensures leveled { levels.new ≡ over (levels_of (read_so_far s.now)) levels.old }
 {
-    let Cut::Field {
-        tag,
-        start,
-        len,
-        next: _,
-    } = field::field_at(s, 0)
-    else {
-        return Checked::Refused {
-            number: 1,
-            offset: 0,
-        };
-    };
-    let number = head_cause(s, tag, start, len);
-    if number != 0 {
-        return Checked::Refused { number, offset: 0 };
-    }
-    let edition = field::u16_at(s, start);
-    let count = field::u16_at(s, start + COUNT_AT);
-    check_items(s, edition, count, offsets, levels)
+    let head = whole_field(s, 0)?;
+    let opened = judge_head(head.tag, &s[head.start..head.next])?;
+    check_items(s, opened, offsets, levels)
 }

@@ -1,9 +1,7 @@
 -- The cases of standard input, and what the check of their sheets leaves in the two lent arrays. Assumes nothing.
 use Rattle.std.specs.Prelude.{ℕ, ◌≡◌, List, length}
 use Rattle.std.proofs.Math.Option.{Option, none, some}
-use Rattle.field.specs.Field.{cut_at}
-use Rattle.field.specs.declared.Cut.{Cut}
-use Rattle.field.specs.declared.Cut.TheVariants.{Field, Short, Absent}
+use Rattle.field.specs.Field.{Cut, absent, short, field, cut_at}
 use Rattle.layout.specs.Content.{content_at}
 use Rattle.layout.specs.Opened.{offsets_of, levels_of}
 use Rattle.field.specs.Bytes.{over}
@@ -16,14 +14,14 @@ pub record Case : Type 0 where
 
 -- the sheet is the content of the second field
 abbrev pub second_in : List ℕ → Cut → Option Case
-second_in cases Absent = none
-second_in cases Short = none
-second_in cases (Field tag start len next) = some (record { sheet = content_at cases start len; next = next })
+second_in cases absent = none
+second_in cases short = none
+second_in cases (field tag start len next) = some (record { sheet = content_at cases start len; next = next })
 
 abbrev pub case_in : List ℕ → Cut → Option Case
-case_in cases Absent = none
-case_in cases Short = none
-case_in cases (Field tag start len next) = second_in cases (cut_at cases next)
+case_in cases absent = none
+case_in cases short = none
+case_in cases (field tag start len next) = second_in cases (cut_at cases next)
 
 -- the case at an offset: two fields, a label and a sheet
 abbrev pub case_at : List ℕ → ℕ → Option Case

@@ -3,12 +3,10 @@
 // A case is two fields: a label and a sheet. What standard output does not take is left out.
 #![tactic(auto)]
 
-ghost use Rattle.std.specs.Prelude.{◌≡◌, ◌≤◌, ◌<◌, length};
+ghost use Rattle.std.specs.Prelude.{◌≤◌, ◌<◌, length};
 ghost use Rattle.layout.specs.Layout.{most_items};
 ghost use Rattle.sheet_cases.specs.Cases.{case_at, Checks, Runs};
 
-use field::Cut;
-use sheet::Checked;
 use std::io::{Read, Write};
 
 const SHOWN: usize = 8;
@@ -25,29 +23,15 @@ fn write_place(rt: &HostRuntime, offset: usize, level: u8) {
     let _ = print!(rt; "/{level}");
 }
 
-fn write_item(rt: &HostRuntime, offsets: &[usize], levels: &[u8], i: usize, count: usize)
-    ensures { (offsets.now ≡ offsets.now) × (levels.now ≡ levels.now) }
-{
-    if count <= i {
-        return;
+// The places of the first eight items, and of the last where there are more.
+fn write_places(rt: &HostRuntime, offsets: &[usize], levels: &[u8]) {
+    for (offset, level) in offsets.iter().zip(levels.iter()).take(SHOWN) {
+        write_place(rt, *offset, *level);
     }
-    if offsets.len() <= i {
-        return;
-    }
-    if levels.len() <= i {
-        return;
-    }
-    write_place(rt, offsets[i], levels[i]);
-}
-
-fn write_items(rt: &HostRuntime, offsets: &[usize], levels: &[u8], count: usize)
-    ensures { (offsets.now ≡ offsets.now) × (levels.now ≡ levels.now) }
-{
-    for i in 0..SHOWN {
-        write_item(rt, offsets, levels, i, count);
-    }
-    if SHOWN < count {
-        write_item(rt, offsets, levels, count - 1, count);
+    if SHOWN < offsets.len() {
+        if let (Some(offset), Some(level)) = (offsets.last(), levels.last()) {
+            write_place(rt, *offset, *level);
+        }
     }
 }
 
@@ -56,21 +40,23 @@ fn write_answer(rt: &HostRuntime, s: &[u8], offsets: &mut [usize], levels: &mut 
     ensures { Checks s.now offsets.old levels.old offsets.new levels.new }
 {
     match sheet::check(s, offsets, levels) {
-        Checked::Opens { edition, count } => {
+        Ok(opened) => {
             let _ = print!(rt; ": OPENS");
-            write_number(rt, edition);
-            write_number(rt, count);
-            write_items(rt, offsets, levels, count);
+            write_number(rt, opened.edition);
+            write_number(rt, opened.count);
+            write_places(rt, &offsets[..opened.count], &levels[..opened.count]);
         }
-        Checked::Refused { number, offset } => {
+        Err(fault) => {
+            let number = fault.cause.number();
             let _ = print!(rt; ": REFUSED {number}");
-            write_number(rt, offset);
+            write_number(rt, fault.offset);
         }
     }
     let _ = println!(rt);
 }
 
 // The case at an offset. Gives the offset after it; where there is no whole case, the length.
+// (The length, and no None: run ends at it, as it does after the last case.)
 fn run_case(
     rt: &HostRuntime,
     cases: &[u8],
@@ -82,41 +68,29 @@ fn run_case(
     ensures onward { at < result }
     ensures left { Runs cases.now offsets.old levels.old result offsets.new levels.new (case_at cases.now at) }
 {
-    let Cut::Field {
-        tag: _,
-        start,
-        len: _,
-        next,
-    } = field::field_at(cases, at)
-    else {
+    let Ok(label) = field::field_at(cases, at) else {
         return cases.len();
     };
-    let Cut::Field {
-        tag: _,
-        start: sheet,
-        len: _,
-        next: after,
-    } = field::field_at(cases, next)
-    else {
+    let Ok(sheet) = field::field_at(cases, label.next) else {
         return cases.len();
     };
-    let _ = rt.stdout().write_all(&cases[start..next]);
-    write_answer(rt, &cases[sheet..after], offsets, levels);
-    after
+    let _ = rt.stdout().write_all(&cases[label.start..label.next]);
+    write_answer(rt, &cases[sheet.start..sheet.next], offsets, levels);
+    sheet.next
 }
 
-fn run(rt: &HostRuntime, cases: &[u8])
-    ensures { cases.now ≡ cases.now }
-{
+fn run(rt: &HostRuntime, cases: &[u8]) {
     let mut offsets = [0usize; limits::ITEM_LIMIT];
     let mut levels = [0u8; limits::ITEM_LIMIT];
     let mut at = 0;
+    // Case by case: where the next one begins is what the case says.
     while at < cases.len() {
         at = run_case(rt, cases, at, &mut offsets, &mut levels);
     }
 }
 
 // The next bytes of standard input, into the front of the room for them. A read that fails gives none, as at the end.
+// (As in day_main, which reads a file: one of both would be generic over Read, in a crate of its own for two short functions.)
 fn read_some(rt: &HostRuntime, bytes: &mut [u8]) -> usize
     ensures { result ≤ length bytes.new }
 {
@@ -124,10 +98,12 @@ fn read_some(rt: &HostRuntime, bytes: &mut [u8]) -> usize
 }
 
 // Reads until there is no more room, or until the input ends or a read fails.
+// (A length, and no part: the array stays the caller's, who cuts it.)
 fn fill(rt: &HostRuntime, bytes: &mut [u8]) -> usize
     ensures { result ≤ length bytes.new }
 {
     let mut done = 0;
+    // Read by read: how far one comes is what it gives.
     while done < bytes.len() {
         let more = read_some(rt, &mut bytes[done..]);
         if more == 0 {

@@ -1,4 +1,3 @@
-pub mod Clearing
 pub mod Starting
 pub mod Stepping
 pub mod Ascending

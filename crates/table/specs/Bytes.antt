@@ -1,6 +1,6 @@
 -- The work table in bytes: a record for each item of the sheet, in order, with its owed byte. Decoding does not read the owed bytes: they
 -- follow from the cells. Assumes nothing.
-use Rattle.std.specs.Prelude.{ℕ, ◌*◌, ◌<◌, ◌≤◌, ◌≡◌, Bool, true, false, List, [], ◌∷◌, ◌++◌, eqb}
+use Rattle.std.specs.Prelude.{ℕ, ◌*◌, ◌<◌, ◌≤◌, ◌≡◌, Bool, true, false, List, [], ◌∷◌, ◌++◌, eqb, Option, Some, None}
 use Rattle.circuit.specs.Sheet.{Sheet, size, item_at, is_figure}
 use Rattle.circuit.specs.Table.{Table, is_marked}
 use Rattle.circuit.specs.Owed.{owed}
@@ -48,3 +48,8 @@ pub record LowestMarked (T : Table) (n k : ℕ) : Type 0 where
   pub within : k ≤ n
   pub none_below : (i : ℕ) → i < k → is_marked (T i) ≡ false
   pub marked : k < n → is_marked (T k) ≡ true
+
+-- what a search finds: that item, or none where none is marked
+abbrev pub LowestFound : Table → ℕ → Option ℕ → Type 0
+LowestFound T n None = LowestMarked T n n
+LowestFound T n (Some k) = (k < n) × LowestMarked T n k

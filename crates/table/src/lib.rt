@@ -1,13 +1,15 @@
 // The work table in bytes, a record for each item: kind, mark, number and owed. The form of the first three, and reading and storing one cell.
+// The functions take the bytes, and say that record i is in them: the bytes are lent by C, and what is left in them is promised byte for
+// byte. A struct that borrows them would need in each contract that it still holds the same.
 #![tactic(auto)]
 
 ghost use Rattle.std.specs.Prelude.{◌≡◌, ◌+◌, ◌*◌, ◌≤◌, length};
 ghost use Rattle.std.proofs.lemmas.List.Edits.{sets};
-ghost use Rattle.circuit.specs.Table.{value_in, mark_of, is_marked, is_notice};
+ghost use Rattle.circuit.specs.Table.{value_in, mark_of, is_stored, is_marked, is_notice};
 ghost use Rattle.value.specs.Meaning.{meaning};
 ghost use Rattle.table.specs.Rows.{row, set_row};
-ghost use Rattle.table.specs.Record.{width, record_of, mark_code, mark_coded, cell_coded, encode_cell, decode_cell, codes_form, number_form, record_form};
-ghost use Rattle.table.specs.Bytes.{decode_table, LowestMarked};
+ghost use Rattle.table.specs.Record.{width, owed_in, record_of, mark_code, mark_coded, cell_coded, encode_cell, decode_cell, codes_form, number_form, record_form};
+ghost use Rattle.table.specs.Bytes.{decode_table, LowestFound};
 ghost use Rattle.table.specs.Meaning.{mark_meaning, cell_meaning};
 
 use value::Value;
@@ -15,38 +17,52 @@ use value::Value;
 // How many bytes an item has.
 pub const WIDTH: usize = 11;
 
-#[derive(Clone, Copy)]
+// Where a record's parts stand.
+const KIND_PLACE: usize = 0;
+
+const MARK_PLACE: usize = 1;
+
+const NUMBER_PLACE: usize = 2;
+
+pub const OWED_PLACE: usize = 10;
+
+#[derive(Clone, Copy, PartialEq, Eq, Debug)]
 pub enum Mark {
     Unmarked,
     Refresh,
     Notice,
 }
 
-#[derive(Clone, Copy)]
+#[derive(Clone, Copy, PartialEq, Eq, Debug)]
 pub enum Cell {
-    // UNK: nothing stored; true if its mark is notice.
+    // UNK: nothing stored; true if its mark is notice. The other two marks would be the same cell, so this is no Mark.
     Unk(bool),
     Held(Value, Mark),
 }
 
-// 0 none, 1 refresh, 2 notice.
-fn mark_code(m: Mark) -> u8
-    ensures { result ≡ mark_code (mark_meaning m) }
-{
-    match m {
-        Mark::Unmarked => 0,
-        Mark::Refresh => 1,
-        Mark::Notice => 2,
+// 0 none, 1 refresh, 2 notice: the codes by which a mark stands in the bytes.
+impl From<Mark> for u8 {
+    ghost from_gives = { λ m code. code ≡ mark_code (mark_meaning m) };
+
+    fn from(m: Mark) -> u8 {
+        match m {
+            Mark::Unmarked => 0,
+            Mark::Refresh => 1,
+            Mark::Notice => 2,
+        }
     }
 }
 
-fn mark_coded(code: u8) -> Mark
-    ensures { mark_meaning result ≡ mark_coded code }
-{
-    match code {
-        1 => Mark::Refresh,
-        2 => Mark::Notice,
-        _ => Mark::Unmarked,
+// A code above 2 counts as 0.
+impl From<u8> for Mark {
+    ghost from_gives = { λ code m. mark_meaning m ≡ mark_coded code };
+
+    fn from(code: u8) -> Mark {
+        match code {
+            1 => Mark::Refresh,
+            2 => Mark::Notice,
+            _ => Mark::Unmarked,
+        }
     }
 }
 
@@ -54,20 +70,34 @@ fn mark_coded(code: u8) -> Mark
 fn cell_coded(kind: u8, mark: u8, number: i64) -> Cell
     ensures { cell_meaning result ≡ cell_coded kind mark number }
 {
+    let mark = Mark::from(mark);
     if kind == 0 {
-        Cell::Unk(mark == 2)
+        Cell::Unk(mark == Mark::Notice)
     } else {
-        Cell::Held(Value::of_parts(kind, number), mark_coded(mark))
+        Cell::Held(Value::of_parts(kind, number), mark)
     }
 }
 
+// The record of item i.
+fn record(table: &[u8], i: usize) -> &[u8]
+    requires { width * i + width ≤ length table.now }
+    ensures { result.now ≡ row width table.now i }
+{
+    &table[i * WIDTH..i * WIDTH + WIDTH]
+}
+
 // The cell of item i.
+#[tactic(auto, unfolding(crate::specs::Record::decode_cell))]
 pub fn read_cell(table: &[u8], i: usize) -> Cell
     requires { width * i + width ≤ length table.now }
     ensures { cell_meaning result ≡ decode_cell (row width table.now i) }
 {
-    let at = i * WIDTH;
-    cell_coded(table[at], table[at + 1], word::read_i64(table, at + 2))
+    let r = record(table, i);
+    cell_coded(
+        r[KIND_PLACE],
+        r[MARK_PLACE],
+        word::read_i64(r, NUMBER_PLACE),
+    )
 }
 
 // The value of a stored cell, and NULL for UNK.
@@ -80,49 +110,71 @@ pub fn value_in(cell: Cell) -> Value
     }
 }
 
+// The value that item i holds, and NULL where nothing is stored.
+// (Not inlined: within a loop LLVM would read a value's case out of a table of words, and the library is without constants.)
+#[inline(never)]
+pub fn value_at(table: &[u8], i: usize) -> Value
+    requires { width * i + width ≤ length table.now }
+    ensures { meaning result ≡ value_in (decode_cell (row width table.now i)) }
+{
+    value_in(read_cell(table, i))
+}
+
 // Whether item i is marked, by its kind and its mark.
+#[tactic(auto, unfolding(crate::specs::Record::decode_cell))]
 pub fn is_marked(table: &[u8], i: usize) -> bool
     requires { width * i + width ≤ length table.now }
     ensures { result ≡ is_marked (decode_cell (row width table.now i)) }
 {
-    let at = i * WIDTH;
-    match table[at + 1] {
-        1 => table[at] != 0,
-        2 => true,
-        _ => false,
+    let r = record(table, i);
+    match Mark::from(r[MARK_PLACE]) {
+        Mark::Unmarked => false,
+        Mark::Refresh => r[KIND_PLACE] != 0,
+        Mark::Notice => true,
     }
 }
 
 // Whether item i has a notice.
+#[tactic(auto, unfolding(crate::specs::Record::decode_cell))]
 pub fn is_noticed(table: &[u8], i: usize) -> bool
     requires { width * i + width ≤ length table.now }
     ensures { result ≡ is_notice (mark_of (decode_cell (row width table.now i))) }
 {
-    table[i * WIDTH + 1] == 2
+    Mark::from(record(table, i)[MARK_PLACE]) == Mark::Notice
 }
 
-// The lowest of the first n items that is marked, n if none is.
-pub fn lowest_marked(table: &[u8], n: usize) -> usize
+// Whether a value is stored for item i.
+#[tactic(auto, unfolding(crate::specs::Record::decode_cell))]
+pub fn is_stored(table: &[u8], i: usize) -> bool
+    requires { width * i + width ≤ length table.now }
+    ensures { result ≡ is_stored (decode_cell (row width table.now i)) }
+{
+    record(table, i)[KIND_PLACE] != 0
+}
+
+// The owed byte of item i.
+pub fn owed_byte(table: &[u8], i: usize) -> u8
+    requires { width * i + width ≤ length table.now }
+    ensures { result ≡ owed_in (row width table.now i) }
+{
+    record(table, i)[OWED_PLACE]
+}
+
+// The lowest of the first n items that is marked.
+pub fn lowest_marked(table: &[u8], n: usize) -> Option<usize>
     requires { width * n ≤ length table.now }
-    ensures { LowestMarked (decode_table table.now) n result }
+    ensures { LowestFound (decode_table table.now) n result }
 {
-    let mut i = 0;
-    while i < n {
-        if is_marked(table, i) {
-            return i;
-        }
-        i += 1;
-    }
-    n
+    (0..n).find(|i| is_marked(table, *i))
 }
 
-fn store_record(table: &mut [u8], at: usize, kind: u8, mark: u8, number: i64)
-    requires { at + width ≤ length table.old }
-    ensures { table.new ≡ sets table.old at (record_of kind mark number) }
+fn store_record(record: &mut [u8], kind: u8, mark: Mark, number: i64)
+    requires { length record.old ≡ width }
+    ensures { record.new ≡ sets record.old 0 (record_of kind (mark_code (mark_meaning mark)) number) }
 {
-    table[at] = kind;
-    table[at + 1] = mark;
-    word::write_i64(table, at + 2, number);
+    record[KIND_PLACE] = kind;
+    record[MARK_PLACE] = u8::from(mark);
+    word::write_i64(record, NUMBER_PLACE, number);
 }
 
 // Stores the cell of item i, and changes no other byte. Every store of a cell is made here; owed bytes are written by crate owing.
@@ -130,41 +182,28 @@ pub fn store_cell(table: &mut [u8], i: usize, cell: Cell)
     requires { width * i + width ≤ length table.old }
     ensures { table.new ≡ set_row width table.old i (encode_cell (cell_meaning cell)) }
 {
-    let at = i * WIDTH;
+    let record = &mut table[i * WIDTH..i * WIDTH + WIDTH];
     match cell {
-        Cell::Unk(noticed) => {
-            if noticed {
-                store_record(table, at, 0, 2, 0);
-            } else {
-                store_record(table, at, 0, 0, 0);
-            }
-        }
-        Cell::Held(v, m) => {
-            store_record(table, at, v.kind(), mark_code(m), v.number_or_zero());
-        }
+        Cell::Unk(true) => store_record(record, 0, Mark::Notice, 0),
+        Cell::Unk(false) => store_record(record, 0, Mark::Unmarked, 0),
+        Cell::Held(v, m) => store_record(record, v.kind(), m, v.number_or_zero()),
     }
 }
 
-// Whether a record may have this kind and this mark.
+// Whether a record may have this kind and this mark. By numbers, since the bytes tested may be no codes.
+#[tactic(auto, unfolding(crate::specs::Record::codes_form))]
 fn codes_formed(figure: bool, kind: u8, mark: u8) -> bool
     ensures { result ≡ codes_form figure kind mark }
 {
-    if kind > 3 {
-        return false;
-    }
-    if mark > 2 {
-        return false;
-    }
-    if figure {
-        if kind != 0 { true } else { mark != 1 }
+    let allowed = if figure {
+        kind != 0 || mark != 1
     } else {
-        match kind {
-            0 | 2 => false,
-            _ => mark != 1,
-        }
-    }
+        kind != 0 && kind != 2 && mark != 1
+    };
+    kind <= 3 && mark <= 2 && allowed
 }
 
+#[tactic(auto, unfolding(crate::specs::Record::number_form))]
 fn number_formed(kind: u8, number: i64) -> bool
     ensures { result ≡ number_form kind number }
 {
@@ -175,16 +214,14 @@ fn number_formed(kind: u8, number: i64) -> bool
     }
 }
 
-// Whether the record of item i is in form; figure says whether the item is a figure or an entry.
+// Whether the record of item i is in form; figure says whether the item is a figure or an entry. It is a bool since the records know no items:
+// Item::is_figure gives it, and the definition takes it.
+#[tactic(auto, unfolding(crate::specs::Record::record_form))]
 pub fn record_formed(table: &[u8], i: usize, figure: bool) -> bool
     requires { width * i + width ≤ length table.now }
     ensures { result ≡ record_form figure (row width table.now i) }
 {
-    let at = i * WIDTH;
-    let kind = table[at];
-    if codes_formed(figure, kind, table[at + 1]) {
-        number_formed(kind, word::read_i64(table, at + 2))
-    } else {
-        false
-    }
+    let r = record(table, i);
+    codes_formed(figure, r[KIND_PLACE], r[MARK_PLACE])
+        && number_formed(r[KIND_PLACE], word::read_i64(r, NUMBER_PLACE))
 }

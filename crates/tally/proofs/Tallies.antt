@@ -10,16 +10,12 @@ use borrow.Author.Tests.{eqb-true, eq-eqb, ne_eqb}
 use lib.Dec.{eqb}
 use lib.IntN.{ℤ, pos, nat_abs, ◌+ℤ◌}
 use lib.ListN.{length}
-use mir.Syntax.{w64}
-use mir.Val.{SFits, to_z}
-use mir.ValLaws.{to_z_pos}
 use Rattle.circuit.proofs.RuleLaws.{add_size, in_range-size, and_left, and_right}
 use Rattle.circuit.specs.Rules.{max_parents, sum, smallest, largest, count, apply, any_out, numbers, of_numbers, strict, total, least, greatest, lesser, greater, how_many}
 use Rattle.circuit.specs.Value.{Value, null, out, num, limit, well_formed, ranged}
 use Rattle.circuit.specs.WellFormed.{all_well_formed}
 use Rattle.tally.specs.Tally.{Room, empty, counted, taken, taken_all, rule_result}
 use Rattle.tally.specs.declared.Tally.{Tally}
-use Rattle.value.proofs.Signed.{back, read}
 
 -- one more value at the end
 pub taken_all_snoc : (vs : List Value) (t : Tally) (v : Value) → taken_all t (vs ++ (v ∷ [])) ≡ taken (taken_all t vs) v
@@ -141,40 +137,30 @@ fresh (num z ∷ vs) t e = go (further vs first refl)
 
 -- ---- the rules for any number of parents
 
-module _ (vs : List Value) (t : Tally) (is : t ≡ taken_all empty vs) where
-  -- the rule of f, where z is what f makes of the numbers
-  rule_is : (f : ℤ → List ℤ → ℤ) (z : ℤ) → ((y : ℤ) (ys : List ℤ) → Tallied t y ys → z ≡ f y ys)
-      → rule_result t z ≡ strict (λ vs. of_numbers f (numbers vs)) vs
-  rule_is f z q = rw out_is (ap (cond (any_out vs) out) (go {zs = numbers vs} all))
-    where
-      all : Fresh t (numbers vs)
-      all = rw is (fresh vs empty refl)
+-- the rule of f, where z is what f makes of the numbers
+rule_is : (vs : List Value) (f : ℤ → List ℤ → ℤ) (z : ℤ) → ((y : ℤ) (ys : List ℤ) → Tallied (taken_all empty vs) y ys → z ≡ f y ys)
+    → rule_result (taken_all empty vs) z ≡ strict (λ vs. of_numbers f (numbers vs)) vs
+rule_is vs f z q = rw (taken_all-out vs empty) (ap (cond (any_out vs) out) (go {zs = numbers vs} (fresh vs empty refl)))
+  where
+    go : {zs : List ℤ} → Fresh (taken_all empty vs) zs → cond (eqb (taken_all empty vs).count 0) null (ranged z) ≡ of_numbers f zs
+    go (none e) = rw (eq-eqb (taken_all empty vs).count 0 e)
+    go (some y ys r) = rw (ne_eqb (taken_all empty vs).count 0 (λ e. omega (arith, r.count)), q y ys r)
 
-      out_is : t.out ≡ any_out vs
-      out_is = rw is (taken_all-out vs empty)
+pub sum_is : (vs : List Value) → rule_result (taken_all empty vs) (taken_all empty vs).total ≡ apply sum vs
+unfolding apply
+sum_is vs = rule_is vs total _ (λ y ys r. r.total)
 
-      go : {zs : List ℤ} → Fresh t zs → cond (eqb t.count 0) null (ranged z) ≡ of_numbers f zs
-      go (none e) = rw (eq-eqb t.count 0 e)
-      go (some y ys r) = rw (ne_eqb t.count 0 (λ e. omega (arith, r.count)), q y ys r)
+pub smallest_is : (vs : List Value) → rule_result (taken_all empty vs) (taken_all empty vs).least ≡ apply smallest vs
+unfolding apply
+smallest_is vs = rule_is vs least _ (λ y ys r. r.least)
 
-  pub sum_is : SFits w64 t.total → rule_result t (read t.total) ≡ apply sum vs
-  unfolding apply
-  sum_is f = rule_is total (read t.total) (λ y ys r. back t.total f ∙ r.total)
+pub largest_is : (vs : List Value) → rule_result (taken_all empty vs) (taken_all empty vs).greatest ≡ apply largest vs
+unfolding apply
+largest_is vs = rule_is vs greatest _ (λ y ys r. r.greatest)
 
-  pub smallest_is : SFits w64 t.least → rule_result t (read t.least) ≡ apply smallest vs
-  unfolding apply
-  smallest_is f = rule_is least (read t.least) (λ y ys r. back t.least f ∙ r.least)
+pub count_is : (vs : List Value) → rule_result (taken_all empty vs) (pos (taken_all empty vs).count) ≡ apply count vs
+unfolding apply
+count_is vs = rule_is vs how_many _ (λ y ys r. ap pos r.count)
 
-  pub largest_is : SFits w64 t.greatest → rule_result t (read t.greatest) ≡ apply largest vs
-  unfolding apply
-  largest_is f = rule_is greatest (read t.greatest) (λ y ys r. back t.greatest f ∙ r.greatest)
-
-  -- the count as a signed number
-  module _ (h : length vs ≤ max_parents) where
-    pub count_fits : SFits w64 (pos t.count)
-    unfolding max_parents
-    count_fits = record { sfits = omega (arith, ap (λ (u : Tally). u.count) is, taken_all-count vs empty) }
-
-    pub count_is : rule_result t (to_z w64 t.count) ≡ apply count vs
-    unfolding apply
-    count_is = rule_is how_many (to_z w64 t.count) (λ y ys r. to_z_pos w64 t.count count_fits.sfits ∙ ap pos r.count)
+pub count_small : (vs : List Value) → length vs ≤ max_parents → (taken_all empty vs).count ≤ max_parents
+count_small vs h = omega (arith, taken_all-count vs empty)

@@ -3,11 +3,12 @@ use Prim.Native.Nat.{ℕ, zero, suc, ◌+◌, ◌-◌, ◌/◌, ◌<◌, ◌≤�
 use native.Mathlib.Omega.{arith}
 use native.Mathlib.Numerals.{add-one}
 use mathlib.Core.Path.{◌≡◌, refl, sym, ap, subst, ◌∙◌}
-use mathlib.Core.Bool.{Bool, true, false}
+use mathlib.Core.Bool.{Bool, true, false, cond}
 use mathlib.Core.List.{List}
-use lib.IntN.{ℤ}
 use lib.ListN.{length, get_or}
-use borrow.Author.Tests.{ne_eqb}
+use lib.Dec.{eqb}
+use borrow.Author.Tests.{eqb-true, ne_eqb}
+use Rattle.std.specs.Prelude.{Option, None, Some}
 use Rattle.circuit.specs.Rules.{max_parents}
 use Rattle.circuit.specs.Sheet.{Sheet, Item, entry, figure, size, item_at, is_figure, parents, parents_of, member, is_child}
 use Rattle.circuit.specs.Table.{Table}
@@ -17,9 +18,10 @@ use Rattle.item.proofs.Located.{sheet_ordered}
 use Rattle.table.specs.Bytes.{decode_table}
 use Rattle.table.proofs.Tables.{owed_kept_refl, owed_kept_then}
 use Rattle.owing.specs.Owing.{says_owed}
-use Rattle.children.specs.Children.{NoChild, Leads, Linked}
+use Rattle.children.specs.Children.{NoChild, Leads, Linked, edge_in, edge_number}
+use Rattle.children.specs.declared.Edge.{Edge}
 use Rattle.children.proofs.Linking.{Child, leads_child, leads_end, left, next_less, place_child}
-use Rattle.memo.specs.Memo.{Memo, NoneFrom}
+use Rattle.memo.specs.Memo.{Pass, Right, NoneFrom}
 use Rattle.looking.specs.Pass.{Lent}
 use Rattle.telling.specs.Telling.{Moves}
 
@@ -44,124 +46,142 @@ tell_over w S i T c d h none =
     let sum : d ≡ c + (d - c) = omega arith in
     ap (tell_below_by w S i T) sum ∙ tell_none w S i T c (d - c) (λ x a b. none x a (omega arith))
 
+-- the number of an edge that was made of a number
+edge_back : (n : ℕ) → edge_number (edge_in n) ≡ n
+edge_back n = go (eqb n 0) refl
+  where
+    go : (b : Bool) → eqb n 0 ≡ b → edge_number (cond b None (Some (record { number = n }))) ≡ n
+    go true q = sym (eqb-true n 0 q)
+    go false q = refl
+
+-- an edge that is there has a number
+edge_there : (n : ℕ) (e : Edge) → edge_in n ≡ Some e → n ≡ 0 → ⊥
+edge_there n e is z = let none : None ≡ Some e = ap edge_in (sym z) ∙ is in let bad : ◌≡◌ {A = ℕ} 0 1 = cc in absurd (omega arith)
+
 -- The loop over the children of item i: those below `from` are told, and the edge leads to the next.
-pub record ToldBelow (w : ℕ → Bool) (s offsets t₀ tags₀ : List ℕ) (numbers₀ : List ℤ) (generation i edge : ℕ) (t tags : List ℕ) (numbers : List ℤ) : Type 0 where
-  pub lent : Lent s offsets t
+pub record ToldBelow (w : ℕ → Bool) (s t₀ : List ℕ) (generation i : ℕ) (edge : Option Edge) (t : List ℕ) (memo : Pass) : Type 0 where
+  pub lent : Lent s t
   pub from : ℕ
   pub within : from ≤ size (sheet_of s)
-  pub leads : Leads (sheet_of s) i from edge
-  pub moves : Moves s t₀ generation from (tell_below_by w (sheet_of s) i (decode_table t₀) from) t tags numbers
-  pub t_length : length t ≡ length t₀
-  pub tags_length : length tags ≡ length tags₀
-  pub numbers_length : length numbers ≡ length numbers₀
+  pub edge_is : edge ≡ edge_in (edge_number edge)
+  pub leads : Leads (sheet_of s) i from (edge_number edge)
+  pub moves : Moves s t₀ generation from (tell_below_by w (sheet_of s) i (decode_table t₀) from) t memo
 
-pub telling_start : (w : ℕ → Bool) {s offsets t tags heads links : List ℕ} {numbers : List ℤ} {generation i : ℕ} → Lent s offsets t
-    → Memo (sheet_of s) (decode_table t) tags numbers generation → NoneFrom 0 tags generation → Linked (sheet_of s) heads links → i < size (sheet_of s) → (edge : ℕ) → edge ≡ get_or heads i 0
-    → ToldBelow w s offsets t tags numbers generation i edge t tags numbers
+pub telling_start : (w : ℕ → Bool) {s t heads links : List ℕ} {memo : Pass} {i : ℕ} → Lent s t
+    → Right (sheet_of s) (decode_table t) memo → NoneFrom 0 memo → Linked (sheet_of s) heads links → i < size (sheet_of s) → (edge : Option Edge) → edge ≡ edge_in (get_or heads i 0)
+    → ToldBelow w s t memo.generation i edge t memo
 unfolding tell_below_by
-telling_start w {s} {offsets} {t} {tags} {heads} {links} {numbers} {generation} {i} lent memo none_from linked low edge is =
+telling_start w {s} {t} {heads} {links} {memo} {i} lent right none_from linked low edge is =
+    let number : edge_number edge ≡ get_or heads i 0 = ap edge_number is ∙ edge_back (get_or heads i 0) in
     record {
       lent = lent;
       from = 0;
       within = omega arith;
-      leads = rw is (linked.head i low);
-      moves = record { table_is = refl; owed_kept = owed_kept_refl t; formed = lent.formed; memo = memo; fresh = none_from };
-      t_length = refl;
-      tags_length = refl;
-      numbers_length = refl;
+      edge_is = is ∙ ap edge_in (sym number);
+      leads = rw number (linked.head i low);
+      moves = record { table_is = refl; owed_kept = owed_kept_refl t; formed = lent.formed; generation_is = refl; right = right; fresh = none_from };
     }
 
-module _ {w : ℕ → Bool} {s offsets t₀ tags₀ : List ℕ} {numbers₀ : List ℤ} {generation i edge : ℕ} {t tags : List ℕ} {numbers : List ℤ}
-    (inv : ToldBelow w s offsets t₀ tags₀ numbers₀ generation i edge t tags numbers) where
-  pub telling_memo : Memo (sheet_of s) (decode_table t) tags numbers generation
-  telling_memo = rw inv.moves.table_is inv.moves.memo
+module _ {w : ℕ → Bool} {s t₀ : List ℕ} {generation i : ℕ} {edge : Option Edge} {t : List ℕ} {memo : Pass} (inv : ToldBelow w s t₀ generation i edge t memo) where
+  module _ (e : Edge) (is : edge ≡ Some e) where
+    number_is : edge_number edge ≡ e.number
+    number_is = ap edge_number is
 
-  module _ (more : edge ≡ 0 → ⊥) where
-    next : Child (sheet_of s) i inv.from edge
-    next = leads_child inv.leads more
+    more : e.number ≡ 0 → ⊥
+    more = edge_there e.number e (ap edge_in (sym number_is) ∙ sym inv.edge_is ∙ is)
 
-    pub child_low : edge / max_parents < size (sheet_of s)
+    next : Child (sheet_of s) i inv.from e.number
+    next = leads_child (subst (Leads (sheet_of s) i inv.from) number_is inv.leads) more
+
+    pub child_low : e.number / max_parents < size (sheet_of s)
     child_low = next.low
 
-    child_is : is_child (sheet_of s) i (edge / max_parents) ≡ true
-    child_is = place_child (sheet_of s) i (edge / max_parents) next.place next.listed next.parent_is
+    child_is : is_child (sheet_of s) i (e.number / max_parents) ≡ true
+    child_is = place_child (sheet_of s) i (e.number / max_parents) next.place next.listed next.parent_is
 
-    pub child_figure : is_figure (item_at (sheet_of s) (edge / max_parents)) ≡ true
-    child_figure = member_figure (item_at (sheet_of s) (edge / max_parents)) i child_is
+    pub child_figure : (c : ℕ) → c ≡ e.number / max_parents → is_figure (item_at (sheet_of s) c) ≡ true
+    child_figure c c_is = rw c_is (member_figure (item_at (sheet_of s) (e.number / max_parents)) i child_is)
 
-    pub child_fresh : NoneFrom (edge / max_parents) tags generation
-    child_fresh j h = inv.moves.fresh j (omega (arith, next.from))
+    pub child_fresh : (c : ℕ) → c ≡ e.number / max_parents → NoneFrom c memo
+    child_fresh c c_is j h = inv.moves.fresh j (omega (arith, next.from))
 
-    module _ {heads links : List ℕ} (linked : Linked (sheet_of s) heads links) (narrow : length (parents (sheet_of s) (edge / max_parents)) ≤ max_parents) where
-      pub edge_low : edge < length links
+    module _ {heads links : List ℕ} (linked : Linked (sheet_of s) heads links) where
+      pub edge_low : e.number < length links
       unfolding max_parents
-      edge_low = omega (arith, linked.link_room, next.low, next.edge_is, next.listed)
+      edge_low = omega (arith, linked.link_room, next.low)
 
-      leads_on : Leads (sheet_of s) i (edge / max_parents + 1) (get_or links edge 0)
+      leads_on : Leads (sheet_of s) i (e.number / max_parents + 1) (get_or links e.number 0)
       leads_on =
-          subst (λ p. Leads (sheet_of s) p (edge / max_parents + 1) (get_or links edge 0)) next.parent_is
-          (subst (λ e. Leads (sheet_of s) (get_or (parents (sheet_of s) (edge / max_parents)) next.place 0) (edge / max_parents + 1) (get_or links e 0)) (sym next.edge_is)
-          (linked.link (edge / max_parents) next.place next.low next.listed))
+          subst (λ p. Leads (sheet_of s) p (e.number / max_parents + 1) (get_or links e.number 0)) next.parent_is
+          (subst (λ x. Leads (sheet_of s) (get_or (parents (sheet_of s) (e.number / max_parents)) next.place 0) (e.number / max_parents + 1) (get_or links x 0)) (sym next.edge_is)
+          (linked.link (e.number / max_parents) next.place next.low next.listed))
 
-      pub telling_less : (edge₂ : ℕ) → edge₂ ≡ get_or links edge 0 → left links edge₂ < left links edge
-      telling_less edge₂ is = rw is (next_less links edge_low more (get_or links edge 0) leads_on)
+      pub telling_less : (edge₂ : Option Edge) → edge₂ ≡ edge_in (get_or links e.number 0) → left links (edge_number edge₂) < left links (edge_number edge)
+      telling_less edge₂ on =
+          rw (number_is, ap edge_number on ∙ edge_back (get_or links e.number 0)) (next_less links edge_low more (get_or links e.number 0) leads_on)
 
-      pub telling_next : (t₂ tags₂ : List ℕ) (numbers₂ : List ℤ) → length t₂ ≡ length t → length tags₂ ≡ length tags → length numbers₂ ≡ length numbers
-          → Moves s t generation (edge / max_parents) (tell_child_by (w (edge / max_parents)) (sheet_of s) (decode_table t) (edge / max_parents)) t₂ tags₂ numbers₂
-          → (edge₂ : ℕ) → edge₂ ≡ get_or links edge 0
-          → ToldBelow w s offsets t₀ tags₀ numbers₀ generation i edge₂ t₂ tags₂ numbers₂
+      pub telling_next : (c : ℕ) → c ≡ e.number / max_parents → (t₂ : List ℕ) (memo₂ : Pass) → length t₂ ≡ length t
+          → Moves s t memo.generation c (tell_child_by (w c) (sheet_of s) (decode_table t) c) t₂ memo₂
+          → (edge₂ : Option Edge) → edge₂ ≡ edge_in (get_or links e.number 0)
+          → ToldBelow w s t₀ generation i edge₂ t₂ memo₂
       unfolding tell_below_by
-      telling_next t₂ tags₂ numbers₂ a b d moves edge₂ is =
+      telling_next c c_is t₂ memo₂ len told_c edge₂ on =
           record {
-            lent = record { located = inv.lent.located; room = inv.lent.room; length_is = a ∙ inv.lent.length_is; formed = moves.formed };
-            from = edge / max_parents + 1;
+            lent = record { length_is = len ∙ inv.lent.length_is; formed = told_c.formed };
+            from = e.number / max_parents + 1;
             within = omega (arith, next.low);
-            leads = rw is leads_on;
+            edge_is = on ∙ ap edge_in (sym number₂);
+            leads = rw number₂ leads_on;
             moves =
                 record {
                   table_is = moves.table_is ∙ told;
                   owed_kept = owed_kept_then t₀ t t₂ inv.moves.owed_kept moves.owed_kept;
                   formed = moves.formed;
-                  memo = subst (λ U. Memo (sheet_of s) U tags₂ numbers₂ generation) told moves.memo;
+                  generation_is = moves.generation_is ∙ inv.moves.generation_is;
+                  right = subst (λ U. Right (sheet_of s) U memo₂) told moves.right;
                   fresh = λ j h. moves.fresh j (omega arith);
                 };
-            t_length = a ∙ inv.t_length;
-            tags_length = b ∙ inv.tags_length;
-            numbers_length = d ∙ inv.numbers_length;
           }
         where
           called : Bool
-          called = w (edge / max_parents)
+          called = w (e.number / max_parents)
 
-          told : tell_child_by called (sheet_of s) (decode_table t) (edge / max_parents) ≡ tell_below_by w (sheet_of s) i (decode_table t₀) (edge / max_parents + 1)
+          moves : Moves s t memo.generation (e.number / max_parents) (tell_child_by called (sheet_of s) (decode_table t) (e.number / max_parents)) t₂ memo₂
+          moves = subst (λ x. Moves s t memo.generation x (tell_child_by (w x) (sheet_of s) (decode_table t) x) t₂ memo₂) c_is told_c
+
+          number₂ : edge_number edge₂ ≡ get_or links e.number 0
+          number₂ = ap edge_number on ∙ edge_back (get_or links e.number 0)
+
+          told : tell_child_by called (sheet_of s) (decode_table t) (e.number / max_parents) ≡ tell_below_by w (sheet_of s) i (decode_table t₀) (e.number / max_parents + 1)
           told =
-              ap (λ T. tell_child_by called (sheet_of s) T (edge / max_parents))
-              (inv.moves.table_is ∙ sym (tell_over w (sheet_of s) i (decode_table t₀) inv.from (edge / max_parents) next.from next.none_before))
-              ∙ ap (λ x. tell_if_by x called (sheet_of s) (tell_below_by w (sheet_of s) i (decode_table t₀) (edge / max_parents)) (edge / max_parents)) (sym child_is)
-              ∙ ap (tell_below_by w (sheet_of s) i (decode_table t₀)) (sym (add-one (edge / max_parents)))
+              ap (λ T. tell_child_by called (sheet_of s) T (e.number / max_parents))
+              (inv.moves.table_is ∙ sym (tell_over w (sheet_of s) i (decode_table t₀) inv.from (e.number / max_parents) next.from next.none_before))
+              ∙ ap (λ x. tell_if_by x called (sheet_of s) (tell_below_by w (sheet_of s) i (decode_table t₀) (e.number / max_parents)) (e.number / max_parents)) (sym child_is)
+              ∙ ap (tell_below_by w (sheet_of s) i (decode_table t₀)) (sym (add-one (e.number / max_parents)))
 
-  pub telling_done : w i ≡ true → edge ≡ 0 → Moves s t₀ generation (size (sheet_of s)) (tell_by w (sheet_of s) (decode_table t₀) i) t tags numbers
+  pub telling_done : w i ≡ true → edge ≡ None → Moves s t₀ generation (size (sheet_of s)) (tell_by w (sheet_of s) (decode_table t₀) i) t memo
   unfolding tell_by
   telling_done owed end =
       let all : tell_where (w i) w (sheet_of s) (decode_table t₀) i ≡ tell_below_by w (sheet_of s) i (decode_table t₀) inv.from
       = ap (λ b. tell_where b w (sheet_of s) (decode_table t₀) i) owed
-      ∙ tell_over w (sheet_of s) i (decode_table t₀) inv.from (size (sheet_of s)) inv.within (leads_end (sheet_ordered s) inv.leads end) in
+      ∙ tell_over w (sheet_of s) i (decode_table t₀) inv.from (size (sheet_of s)) inv.within (leads_end (sheet_ordered s) inv.leads (ap edge_number end)) in
       record {
         table_is = inv.moves.table_is ∙ sym all;
         owed_kept = inv.moves.owed_kept;
         formed = inv.moves.formed;
-        memo = subst (λ U. Memo (sheet_of s) U tags numbers generation) (sym all) inv.moves.memo;
+        generation_is = inv.moves.generation_is;
+        right = subst (λ U. Right (sheet_of s) U memo) (sym all) inv.moves.right;
         fresh = λ j h. inv.moves.fresh j (omega (arith, inv.within));
       }
 
 -- where the item is not owed, nobody is told
-pub telling_none : (w : ℕ → Bool) {s offsets t tags : List ℕ} {numbers : List ℤ} {generation i : ℕ} → Lent s offsets t
-    → Memo (sheet_of s) (decode_table t) tags numbers generation → NoneFrom 0 tags generation → w i ≡ false
-    → Moves s t generation (size (sheet_of s)) (tell_by w (sheet_of s) (decode_table t) i) t tags numbers
+pub telling_none : (w : ℕ → Bool) {s t : List ℕ} {memo : Pass} {i : ℕ} → Lent s t
+    → Right (sheet_of s) (decode_table t) memo → NoneFrom 0 memo → w i ≡ false
+    → Moves s t memo.generation (size (sheet_of s)) (tell_by w (sheet_of s) (decode_table t) i) t memo
 unfolding tell_by
-telling_none w {s} {offsets} {t} {tags} {numbers} {generation} {i} lent memo none_from unowed =
-    subst (λ U. Moves s t generation (size (sheet_of s)) U t tags numbers) (ap (λ b. tell_where b w (sheet_of s) (decode_table t) i) (sym unowed))
-    (record { table_is = refl; owed_kept = owed_kept_refl t; formed = lent.formed; memo = memo; fresh = λ j h. none_from j (omega arith) })
+telling_none w {s} {t} {memo} {i} lent right none_from unowed =
+    subst (λ U. Moves s t memo.generation (size (sheet_of s)) U t memo) (ap (λ b. tell_where b w (sheet_of s) (decode_table t) i) (sym unowed))
+    (record { table_is = refl; owed_kept = owed_kept_refl t; formed = lent.formed; generation_is = refl; right = right; fresh = λ j h. none_from j (omega arith) })
 
 -- what the array says of an item, by its byte
 pub byte_owed : (bytes : List ℕ) (i : ℕ) → (get_or bytes i 0 ≡ 0 → ⊥) → says_owed bytes i ≡ true

@@ -1,72 +1,45 @@
--- The parents' values in their two arrays. Assumes nothing.
-use Prim.Native.Nat.{ℕ, zero, suc, ◌+◌, ◌≤◌, ◌<◌}
-use mathlib.Core.Bool.{true, ◌&&◌}
+-- The values of the parents, kept in a row: each by its place, and one more stored. Assumes nothing.
+use Prim.Native.Nat.{ℕ, zero, suc, ◌+◌, ◌<◌}
+use mathlib.Core.Bool.{true}
 use mathlib.Core.List.{List, [], ◌∷◌, ◌++◌}
-use mathlib.Core.Path.{◌≡◌, refl, sym, subst, ◌∙◌}
-use native.Mathlib.Decide.{dec_le}
-use native.Mathlib.Numerals.{add-one}
+use mathlib.Core.Path.{◌≡◌, refl, ap, ◌∙◌}
 use native.Mathlib.Omega.{arith}
-use lib.IntN.{ℤ, pos}
-use lib.ListN.{length, set, length-append}
-use lib.Seq.{get_or-set_same, get_or-set_other}
-use Rattle.circuit.proofs.Parts.{of_own_parts}
-use Rattle.circuit.proofs.RuleLaws.{all_well_formed_snoc, and_left, and_right}
-use Rattle.circuit.specs.Value.{Value, well_formed, kind_of, number_of}
+use lib.ListN.{length, set, take, get_or, get_or-map}
+use Rattle.std.proofs.lemmas.List.{take_more, take_more_set, map-append}
+use Rattle.circuit.proofs.RuleLaws.{and_left, and_right, and_true}
+use Rattle.circuit.specs.Value as circuit
 use Rattle.circuit.specs.WellFormed.{all_well_formed}
-use Rattle.value.specs.Meaning.{value_at, first_values}
+use Rattle.value.specs.Meaning.{meaning, meanings}
+use Rattle.value.specs.declared.Amount.TheVariants.{Null}
+use Rattle.value.specs.declared.Value.{Value}
 
-pub first_values-length : (ks : List ℕ) (zs : List ℤ) (n : ℕ) → length (first_values ks zs n) ≡ n
-unfolding first_values
-first_values-length ks zs zero = refl
-first_values-length ks zs (suc n) =
-    omega (arith, length-append (first_values ks zs n) (value_at ks zs n ∷ []), first_values-length ks zs n)
+abbrev pub nothing : Value
+nothing = record { amount = Null }
 
--- where the first n are well formed, so are the first i of them
-pub first_values-well_formed : (ks : List ℕ) (zs : List ℤ) (n i : ℕ) → i ≤ n → all_well_formed (first_values ks zs n) ≡ true → all_well_formed (first_values ks zs i) ≡ true
-unfolding first_values
-first_values-well_formed ks zs zero i h e = rw (at_zero i h) e
-  where
-    at_zero : (i : ℕ) → i ≤ zero → i ≡ zero
-    at_zero i h = omega arith
-first_values-well_formed ks zs (suc n) i h e = go (dec_le i n) (first_values-well_formed ks zs n i)
-  where
-    all : (all_well_formed (first_values ks zs n) && well_formed (value_at ks zs n)) ≡ true
-    all = sym (all_well_formed_snoc (first_values ks zs n) (value_at ks zs n)) ∙ e
+-- the value at a place is that of the place
+pub meaning_at : (vs : List Value) (k : ℕ) → get_or (meanings vs) k circuit.null ≡ meaning (get_or vs k nothing)
+meaning_at vs k = get_or-map meaning vs k nothing
 
-    go : Dec (i ≤ n) → (i ≤ n → all_well_formed (first_values ks zs n) ≡ true → all_well_formed (first_values ks zs i) ≡ true) → all_well_formed (first_values ks zs i) ≡ true
-    go (yes l) ih = ih l (and_left (all_well_formed (first_values ks zs n)) (well_formed (value_at ks zs n)) all)
-    go (no l) ih = subst (λ (k : ℕ). all_well_formed (first_values ks zs k) ≡ true) (sym (last i n h l)) e
-      where
-        last : (i n : ℕ) → i ≤ suc n → ¬ (i ≤ n) → i ≡ suc n
-        last i n h l = omega arith
+-- each of a well-formed row is well formed
+pub at-well_formed : (vs : List circuit.Value) (k : ℕ) (d : circuit.Value) → k < length vs → all_well_formed vs ≡ true → circuit.well_formed (get_or vs k d) ≡ true
+unfolding all_well_formed
+at-well_formed [] k d h e = absurd (omega arith)
+at-well_formed (v ∷ vs) zero d h e = and_left (circuit.well_formed v) (all_well_formed vs) e
+at-well_formed (v ∷ vs) (suc k) d h e = at-well_formed vs k d (omega arith) (and_right (circuit.well_formed v) (all_well_formed vs) e)
 
--- and each of the first n by itself
-pub value_at-well_formed : (ks : List ℕ) (zs : List ℤ) (n i : ℕ) → i < n → all_well_formed (first_values ks zs n) ≡ true → well_formed (value_at ks zs i) ≡ true
-unfolding first_values
-value_at-well_formed ks zs n i h e =
-    and_right (all_well_formed (first_values ks zs i)) (well_formed (value_at ks zs i))
-    (sym (all_well_formed_snoc (first_values ks zs i) (value_at ks zs i)) ∙ first_values-well_formed ks zs n (suc i) h e)
+-- so is its front
+pub front-well_formed : (vs : List circuit.Value) (i : ℕ) → all_well_formed vs ≡ true → all_well_formed (take i vs) ≡ true
+unfolding all_well_formed
+front-well_formed vs zero e = refl
+front-well_formed [] (suc i) e = e
+front-well_formed (v ∷ vs) (suc i) e =
+    and_true (circuit.well_formed v) (all_well_formed (take i vs)) (and_left (circuit.well_formed v) (all_well_formed vs) e)
+    (front-well_formed vs i (and_right (circuit.well_formed v) (all_well_formed vs) e))
 
--- a store at or past n leaves the first n
-pub first_values_past : (ks : List ℕ) (zs : List ℤ) (n i k : ℕ) (z : ℤ) → n ≤ i → first_values (set ks i k) (set zs i z) n ≡ first_values ks zs n
-unfolding first_values
-first_values_past ks zs zero i k z h = refl
-first_values_past ks zs (suc n) i k z h =
-    simp (
-      first_values_past ks zs n i k z (omega arith),
-      get_or-set_other ks i n k 0 (λ e. omega arith),
-      get_or-set_other zs i n z (pos 0) (λ e. omega arith),
-    )
+-- the first values and one more
+pub meanings_more : (vs : List Value) (i : ℕ) → i < length vs → meanings (take (i + 1) vs) ≡ meanings (take i vs) ++ (meaning (get_or vs i nothing) ∷ [])
+meanings_more vs i h = ap meanings (take_more vs i nothing h) ∙ map-append meaning (take i vs) (get_or vs i nothing ∷ [])
 
--- a value stored at n, as its kind and its number, is the last of the first n + 1
-pub first_values_store : (ks : List ℕ) (zs : List ℤ) (n : ℕ) (v : Value) → n < length ks → n < length zs
-    → first_values (set ks n (kind_of v)) (set zs n (number_of v)) (n + 1) ≡ first_values ks zs n ++ (v ∷ [])
-unfolding first_values
-first_values_store ks zs n v h l =
-    rw (
-      add-one,
-      first_values_past ks zs n n (kind_of v) (number_of v) (omega arith),
-      get_or-set_same ks n (kind_of v) 0 h,
-      get_or-set_same zs n (number_of v) (pos 0) l,
-      of_own_parts v,
-    )
+-- a value stored at n is the last of the first n + 1
+pub meanings_store : (vs : List Value) (n : ℕ) (v : Value) → n < length vs → meanings (take (n + 1) (set vs n v)) ≡ meanings (take n vs) ++ (meaning v ∷ [])
+meanings_store vs n v h = ap meanings (take_more_set vs n v h) ∙ map-append meaning (take n vs) (v ∷ [])

@@ -1,12 +1,11 @@
 // A value: NULL, OUT or a number within the range, and the kind and number that it is taken apart into.
 #![tactic(auto)]
 
-ghost use Rattle.std.specs.Prelude.{◌≡◌, ◌<◌};
-ghost use Rattle.circuit.specs.Rules.{max_parents};
+ghost use Rattle.std.specs.Prelude.{◌≡◌};
 ghost use Rattle.circuit.specs.Value as circuit;
-ghost use Rattle.value.specs.Meaning.{meaning, parts_meaning, value_at};
+ghost use Rattle.value.specs.Meaning.{meaning, parts_meaning};
 
-#[derive(Clone, Copy)]
+#[derive(Clone, Copy, PartialEq, Eq, Debug)]
 pub enum Amount {
     // NULL: nothing recorded
     Null,
@@ -15,8 +14,9 @@ pub enum Amount {
     Number(i64),
 }
 
-// UNK is none of these: a value is never missing.
-#[derive(Clone, Copy)]
+// UNK is none of these: a value is never missing. (A struct over the enum: the papers name NULL and OUT as constants of the value's
+// struct, with a constructor for numbers.)
+#[derive(Clone, Copy, PartialEq, Eq, Debug)]
 pub struct Value {
     pub amount: Amount,
 }
@@ -27,21 +27,15 @@ pub const LIMIT: i64 = 1_000_000_000_000_000;
 
 const LOWEST: i64 = -LIMIT;
 
+#[tactic(auto, unfolding(circuit::specs::Value::in_range, circuit::specs::Value::limit))]
 pub fn in_range(n: i64) -> bool
     ensures { result ≡ circuit.in_range n }
 {
-    LOWEST <= n && n <= LIMIT
+    (LOWEST..=LIMIT).contains(&n)
 }
 
 // The most parents of a figure, and so the most values that a rule is given. The only place of the code that has their number.
 pub const MAX_PARENTS: usize = 16;
-
-// What a kind and a number give: a value, or nothing where they are not in form.
-#[derive(Clone, Copy)]
-pub enum Parts {
-    Formed(Value),
-    Unformed,
-}
 
 impl Value {
     pub const NULL: Value = Value {
@@ -74,31 +68,20 @@ impl Value {
     pub fn is_null(self) -> bool
         ensures { result ≡ circuit.is_null (meaning self) }
     {
-        let a = self.amount;
-        match a {
-            Amount::Null => true,
-            Amount::Out => false,
-            Amount::Number(_) => false,
-        }
+        self == Value::NULL
     }
 
     pub fn is_out(self) -> bool
         ensures { result ≡ circuit.is_out (meaning self) }
     {
-        let a = self.amount;
-        match a {
-            Amount::Null => false,
-            Amount::Out => true,
-            Amount::Number(_) => false,
-        }
+        self == Value::OUT
     }
 
-    // 1 NULL, 2 OUT, 3 a number.
+    // 1 NULL, 2 OUT, 3 a number. (A number and not an enum: it is the kind that a table's record and C have.)
     pub fn kind(self) -> u8
         ensures { result ≡ circuit.kind_of (meaning self) }
     {
-        let a = self.amount;
-        match a {
+        match self.amount {
             Amount::Null => 1,
             Amount::Out => 2,
             Amount::Number(_) => 3,
@@ -109,15 +92,14 @@ impl Value {
     pub fn number_or_zero(self) -> i64
         ensures { result ≡ circuit.number_of (meaning self) }
     {
-        let a = self.amount;
-        match a {
-            Amount::Null => 0,
-            Amount::Out => 0,
+        match self.amount {
             Amount::Number(n) => n,
+            _ => 0,
         }
     }
 
-    // The value that was taken apart into a kind and a number.
+    // The value that was taken apart into a kind and a number. (Beside from_parts, since it tests nothing: the kind is that of a
+    // record whose form was tested, or of a note. from_parts judges what C hands in.)
     pub fn of_parts(kind: u8, number: i64) -> Value
         ensures { meaning result ≡ circuit.of_parts kind number }
     {
@@ -130,60 +112,21 @@ impl Value {
 
     // A value from its kind and its number, if they are in form.
     #[tactic(auto, unfolding(circuit::specs::Value::parts_of))]
-    pub fn from_parts(kind: u64, number: i64) -> Parts
+    pub fn from_parts(kind: u64, number: i64) -> Option<Value>
         ensures { parts_meaning result ≡ circuit.parts_of kind number }
     {
         match kind {
-            1 => {
-                if number == 0 {
-                    Parts::Formed(Value::NULL)
-                } else {
-                    Parts::Unformed
-                }
-            }
-            2 => {
-                if number == 0 {
-                    Parts::Formed(Value::OUT)
-                } else {
-                    Parts::Unformed
-                }
-            }
-            3 => {
-                if in_range(number) {
-                    Parts::Formed(Value::number(number))
-                } else {
-                    Parts::Unformed
-                }
-            }
-            _ => Parts::Unformed,
+            1 if number == 0 => Some(Value::NULL),
+            2 if number == 0 => Some(Value::OUT),
+            3 if in_range(number) => Some(Value::number(number)),
+            _ => None,
         }
     }
 
-    // Whether two values are equal.
-    pub fn same(a: Value, b: Value) -> bool
-        ensures { result ≡ circuit.same (meaning a) (meaning b) }
+    // Whether two values are equal. (Beside the derived ==, for its contract: it is the machine's `same`, which callers cite.)
+    pub fn same(self, other: Value) -> bool
+        ensures { result ≡ circuit.same (meaning self) (meaning other) }
     {
-        let x = a.amount;
-        match x {
-            Amount::Null => b.is_null(),
-            Amount::Out => b.is_out(),
-            Amount::Number(m) => {
-                let y = b.amount;
-                match y {
-                    Amount::Null => false,
-                    Amount::Out => false,
-                    Amount::Number(n) => m == n,
-                }
-            }
-        }
+        self == other
     }
-}
-
-// The k-th of the parents' values, of which two arrays have the kinds and the numbers.
-#[tactic(auto, unfolding(circuit::specs::Rules::max_parents))]
-pub fn value_at(kinds: &[u8; MAX_PARENTS], numbers: &[i64; MAX_PARENTS], k: usize) -> Value
-    requires { k < max_parents }
-    ensures { meaning result ≡ value_at kinds.now numbers.now k }
-{
-    Value::of_parts(kinds[k], numbers[k])
 }

@@ -1,16 +1,18 @@
 -- Numbers of several bytes: what the code computes, and that reading and writing are inverse. Assumes nothing.
 use Prim.Native.Nat.{ℕ, zero, suc, ◌+◌, ◌*◌, ◌/◌, ◌%◌, ◌^◌, ◌≤◌, ◌<◌}
-use mathlib.Core.Path.{◌≡◌, refl, ap, ◌∙◌}
-use mathlib.Core.List.{List, [], ◌∷◌, ◌++◌}
+use mathlib.Core.Path.{◌≡◌, refl, sym, ap, ◌∙◌}
+use mathlib.Core.List.{List, [], ◌∷◌, ◌++◌, append_assoc}
 use native.Mathlib.Omega.{arith}
-use native.Mathlib.Nat.{add_assoc, pow-suc}
-use native.Mathlib.Numerals.{towards_suc, add-one}
-use lib.ListN.{length, get_or, take, drop, set}
+use native.Mathlib.Nat.{add_assoc, pow-suc, div-one, div-div-eq-div-mul}
+use native.Mathlib.Numerals.{add-one}
+use lib.ListN.{length, get_or, take, drop}
 use lib.IntN.{ℤ}
 use mir.Syntax.{w64}
 use mir.Val.{SFits, of_z}
 use mir.ValLaws.{to_z-of_z, of_z-to_z, of_z_fits}
-use lib.Seq.{sets, get_or-drop, get_or-take, drop-cons}
+use lib.Seq.{sets, sets-eq, get_or-drop, get_or-take, drop-cons, drop-drop}
+use borrow.Rule.Slice.PartMut.{put_mid}
+use Rattle.std.specs.Int.{byte_at, bytes_low_first, to_le_bytes, from_le_bytes}
 use Rattle.field.specs.Bytes.{Bytes}
 use Rattle.word.specs.Word.{le_at, le_bytes, le64_at, bytes64}
 
@@ -21,28 +23,7 @@ pub le8 : (s : List ℕ) (at : ℕ)
 unfolding le_at
 le8 s at = simp (add_assoc at) (omega arith)
 
-pub joined8 : (s : List ℕ) (at : ℕ) {a b c d e f g h : ℕ} → a ≡ get_or s at 0 → b ≡ get_or s (at + 1) 0 → c ≡ get_or s (at + 2) 0 → d ≡ get_or s (at + 3) 0
-    → e ≡ get_or s (at + 4) 0 → f ≡ get_or s (at + 5) 0 → g ≡ get_or s (at + 6) 0 → h ≡ get_or s (at + 7) 0
-    → a + b * 0x100 + c * 0x1_0000 + d * 0x100_0000 + e * 0x1_0000_0000 + f * 0x100_0000_0000 + g * 0x1_0000_0000_0000 + h * 0x100_0000_0000_0000 ≡ le_at 8 s at
-joined8 s at p q r t u v w z = rw (p, q, r, t, u, v, w, z) (le8 s at)
-
--- eight stores, one after the other
-pub stored8 : (s : List ℕ) (at a b c d e f g h : ℕ)
-    → set (set (set (set (set (set (set (set s at a) (at + 1) b) (at + 2) c) (at + 3) d) (at + 4) e) (at + 5) f) (at + 6) g) (at + 7) h
-    ≡ sets s at (a ∷ b ∷ c ∷ d ∷ e ∷ f ∷ g ∷ h ∷ [])
-stored8 s at a b c d e f g h = simp towards_suc
-
-pub stored64 : (s : List ℕ) (at x : ℕ) {a b c d e f g h : ℕ} → a ≡ x % 256 → b ≡ x / 256 % 256 → c ≡ x / 256 / 256 % 256
-    → d ≡ x / 256 / 256 / 256 % 256 → e ≡ x / 256 / 256 / 256 / 256 % 256 → f ≡ x / 256 / 256 / 256 / 256 / 256 % 256
-    → g ≡ x / 256 / 256 / 256 / 256 / 256 / 256 % 256 → h ≡ x / 256 / 256 / 256 / 256 / 256 / 256 / 256 % 256
-    → set (set (set (set (set (set (set (set s at a) (at + 1) b) (at + 2) c) (at + 3) d) (at + 4) e) (at + 5) f) (at + 6) g) (at + 7) h ≡ sets s at (le_bytes 8 x)
-unfolding le_bytes
-stored64 s at x {a} {b} {c} {d} {e} {f} {g} {h} p q r t u v w z =
-    let bytes : ◌≡◌ {A = List ℕ} (a ∷ b ∷ c ∷ d ∷ e ∷ f ∷ g ∷ h ∷ []) (le_bytes 8 x) = cc in
-    stored8 s at a b c d e f g h ∙ ap (λ (vs : List ℕ). sets s at vs) bytes
-
--- ---- reading and writing are inverse
-
+-- a number within the bytes past an offset, and within the first of them
 pub le_at-drop : (n : ℕ) (s : List ℕ) (a b : ℕ) → le_at n s (a + b) ≡ le_at n (drop a s) b
 unfolding le_at
 le_at-drop zero s a b = refl
@@ -52,6 +33,36 @@ pub le_at-take : (n : ℕ) (s : List ℕ) (at w : ℕ) → at + n ≤ w → le_a
 unfolding le_at
 le_at-take zero s at w h = refl
 le_at-take (suc n) s at w h = rw (get_or-take w s at 0 (omega arith), le_at-take n s (at + 1) w (omega arith))
+
+-- the sum of eight of the bytes is their number
+pub part8 : (s : List ℕ) (at : ℕ) → from_le_bytes w64 (take 8 (drop at s)) ≡ le_at 8 s at
+part8 s at =
+    let same : at + 0 ≡ at = omega arith in
+    le8 (take 8 (drop at s)) 0 ∙ le_at-take 8 (drop at s) 0 8 (omega arith) ∙ sym (le_at-drop 8 s at 0) ∙ ap (le_at 8 s) same
+
+-- the bytes that std gives, from byte i upward
+low_first : (i n x : ℕ) → bytes_low_first i n x ≡ le_bytes n (x / 256 ^ i)
+unfolding le_bytes
+low_first i zero x = refl
+low_first i (suc n) x =
+    let p : 256 ^ suc i ≡ 256 ^ i * 256 = pow-suc 256 i in
+    let q : x / 256 ^ i / 256 ≡ x / 256 ^ suc i = div-div-eq-div-mul x (256 ^ i) 256 ∙ ap (λ m. x / m) (sym p) in
+    rw (low_first (suc i) n x, q) (ap (λ b. b ∷ le_bytes n (x / 256 ^ suc i)) (first i))
+  where
+    first : (j : ℕ) → byte_at j x ≡ x / 256 ^ j % 256
+    first zero = ap (λ m. m % 256) (sym (div-one x))
+    first (suc j) = refl
+
+pub le_bytes8 : (x : ℕ) → to_le_bytes w64 x ≡ le_bytes 8 x
+le_bytes8 x = low_first 0 8 x ∙ ap (le_bytes 8) (div-one x)
+
+-- a part of a list written over, as stores one after the other
+pub part_sets : (at k : ℕ) (s ys : List ℕ) → k ≡ length ys → at + length ys ≤ length s → put_mid at k s ys ≡ sets s at ys
+part_sets at k s ys e h =
+    ap (λ t. take at s ++ (ys ++ t)) (drop-drop k at s ∙ ap (λ m. drop (at + m) s) e)
+    ∙ sym (append_assoc (take at s) ys (drop (at + length ys) s)) ∙ sym (sets-eq ys s at h)
+
+-- ---- reading and writing are inverse
 
 -- the bytes of a number are bytes, and as many as asked for
 pub length-le_bytes : (n x : ℕ) → length (le_bytes n x) ≡ n
@@ -99,10 +110,6 @@ bytes_again s at bytes h = rw (of_z-to_z w64 (le_at 8 s at) (record { fits = le_
 
 pub length_bytes64 : (z : ℤ) → length (bytes64 z) ≡ 8
 length_bytes64 z = length-le_bytes 8 (of_z w64 z)
-
--- the number of a part of the bytes
-pub le64_at_part : (s : List ℕ) (from width at : ℕ) → at + 8 ≤ width → le64_at (take width (drop from s)) at ≡ le64_at s (from + at)
-le64_at_part s from width at h = rw (le_at-take 8 (drop from s) at width h, le_at-drop 8 s from at)
 
 -- ---- lists of bytes
 

@@ -1,49 +1,28 @@
--- `admission::table_formed` meets its contract. The loop's invariant: the first k records are in form. Assumes nothing.
-use Rattle.admission.proofs.Admitting.{unformed_record, formed_record, formed_done}
-use Rattle.item.proofs.Located.{located_field}
-use Rattle.table.specs.Rows.{all_below}
-use Rattle.layout.specs.Opened.{sheet_of}
-use mathlib.Core.Path.{refl}
+-- `admission::table_formed` meets its contract: each record is tested by the kind of its item. Assumes nothing.
+use Rattle.std.proofs.Common.{rules, tests}
 use native.Mathlib.Omega.{arith}
+use mathlib.Core.Path.{refl, ap, ◌∙◌}
+use mathlib.Core.Bool.{Bool}
+use Rattle.std.specs.List.{list_all, range_with_len}
+use Rattle.std.proofs.lemmas.Iterator.{YieldsList-from_range}
+use Rattle.std.proofs.lemmas.Iterator.Search.{all_from_yields_List}
+use Rattle.circuit.specs.Sheet.{item_at, is_figure}
+use Rattle.layout.specs.Opened.{sheet_of}
+use Rattle.table.specs.Rows.{row}
+use Rattle.table.specs.Record.{width, record_form}
+use Rattle.admission.proofs.Admitting.{formed_both, formed_not}
 use Rattle.admission.proofs.table_formed.Goals as goal
 
-pub loop-k-init : goal.loop-k-init
-unfolding all_below
-loop-k-init c = (omega arith, refl)
-
-pub is_figure-figure-requires : goal.is_figure-figure-requires
-is_figure-figure-requires c =
+pub returns-then-all : goal.returns-then-all
+returns-then-all c =
     let a = c.args in
-    let p = c.requires.fact_1 in
-    located_field a.sheet.now a.offsets.now p.located c.loop-k.k (omega (arith, p.count_is, c.loop-k-test.true))
+    let test : _ → Bool = λ k. record_form (is_figure (item_at (sheet_of a.sheet.now) k)) (row width a.table.now k) in
+    let e = all_from_yields_List test _ _ c.all.result c.all.ensures.ran (YieldsList-from_range 0 c.len.result c.len.result refl (omega arith)) (λ x b q k. search (rules, tests)) in
+    formed_both (sheet_of a.sheet.now) a.table.now (e ∙ ap (λ n. list_all test (range_with_len 0 n)) c.len.ensures) c.if-all.true c.owed_true.ensures
 
-pub returns-then-not-record_formed : goal.returns-then-not-record_formed
-returns-then-not-record_formed c =
+pub returns-else-all : goal.returns-else-all
+returns-else-all c =
     let a = c.args in
-    let p = c.requires.fact_1 in
-    let l = c.loop-k in
-    unformed_record a.sheet.now a.offsets.now a.table.now p.located l.k
-    (omega (arith, p.count_is, c.loop-k-test.true)) c.is_figure-figure.result c.record_formed.result
-    c.is_figure-figure.ensures c.record_formed.ensures c.if-not-record_formed.true
-
-pub loop-k-preserved : goal.loop-k-preserved
-loop-k-preserved c =
-    let a = c.args in
-    let p = c.requires.fact_1 in
-    let l = c.loop-k in (
-      omega arith,
-      formed_record a.sheet.now a.offsets.now a.table.now p.located l.k (omega (arith, p.count_is, c.loop-k-test.true))
-          c.is_figure-figure.result c.record_formed.result c.is_figure-figure.ensures c.record_formed.ensures c.if-not-record_formed.false
-          l.invariant.1,
-    )
-
-pub owed_true-requires : goal.owed_true-requires
-owed_true-requires c =
-    let p = c.requires in
-    record { fact_1 = p.fact_1.located; fact_2 = p.fact_1.count_is; fact_3 = (p.fact_1.room, p.fact_3); fact_4 = p.fact_2 }
-
-pub returns : goal.returns
-returns c =
-    let l = c.loop-k in
-    formed_done (sheet_of c.args.sheet.now) c.args.table.now l.k (omega (arith, c.requires.fact_1.count_is, l.invariant.0, c.loop-k-test.false)) l.invariant.1
-    c.owed_true.result c.owed_true.ensures
+    let test : _ → Bool = λ k. record_form (is_figure (item_at (sheet_of a.sheet.now) k)) (row width a.table.now k) in
+    let e = all_from_yields_List test _ _ c.all.result c.all.ensures.ran (YieldsList-from_range 0 c.len.result c.len.result refl (omega arith)) (λ x b q k. search (rules, tests)) in
+    formed_not (sheet_of a.sheet.now) a.table.now (e ∙ ap (λ n. list_all test (range_with_len 0 n)) c.len.ensures) c.if-all.false

@@ -1,37 +1,30 @@
 -- `call_ask::ask` meets its contract. Assumes nothing.
-use Rattle.admission.proofs.Calls.{admits, refuses}
+use Rattle.cause.proofs.Exits.{exit}
 use Rattle.circuit.specs.Call.{ask}
-use mathlib.Core.Path.{refl}
-use native.Mathlib.Omega.{arith}
+use Rattle.admission.proofs.Calls.{admits, byte_room}
+use Rattle.call_ask.proofs.Asking.{ask_refuses, ask_fails, ask_does}
 use Rattle.call_ask.proofs.ask.Goals as goal
 
-pub ask_lent-requires : goal.ask_lent-requires
-ask_lent-requires c =
-    let m = c.admit in
+pub returns-in_err-sheet : goal.returns-in_err-sheet
+returns-in_err-sheet c =
     let a = c.args in
-    let room = c.requires.fact_1 in
-    let g = admits a.sheet.now a.index.now a.table.now _ m.new.levels c.in-Items.ensures.answer refl c.in-Items.ensures.found.located
-    (omega (arith, m.auto.offsets, room.0), omega (arith, m.auto.levels, room.1)) in
-    record {
-      fact_1 = g.placing;
-      fact_2 = g.lent;
-      fact_3 = g.owes;
-      fact_4 = g.byte_room;
-      fact_5 = c.requires.fact_2;
-    }
+    rw (exit c.from_residual.ensures.1) (ask_refuses a.sheet.now a.index.now a.table.now (ask a.item) _ c.in_err-sheet.ensures)
 
-pub returns-in-Refused : goal.returns-in-Refused
-returns-in-Refused c =
-    let r = c.refuse.ensures in
-    let a = c.args in
-    rw (refuses a.sheet.now a.index.now a.table.now (ask a.item) c.in-Refused.ensures.answer refl)
-    (record { number_is = r.0; offset_is = r.1; kind_is = r.2; value_is = r.3; table_is = refl })
+pub ask_lent-requires-clause-lent : goal.ask_lent-requires-clause-lent
+ask_lent-requires-clause-lent c = (admits c.in_ok-sheet.ensures).lent
 
-pub returns-in-Items : goal.returns-in-Items
-returns-in-Items c =
-    let m = c.admit in
+pub ask_lent-requires-clause-owes : goal.ask_lent-requires-clause-owes
+ask_lent-requires-clause-owes c = (admits c.in_ok-sheet.ensures).owes
+
+pub ask_lent-requires-clause-owed_room : goal.ask_lent-requires-clause-owed_room
+ask_lent-requires-clause-owed_room c = byte_room c.in_ok-sheet.ensures c.requires.room c.admitted.auto.levels
+
+pub returns-in_err-value : goal.returns-in_err-value
+returns-in_err-value c =
     let a = c.args in
-    let room = c.requires.fact_1 in
-    let g = admits a.sheet.now a.index.now a.table.now _ m.new.levels c.in-Items.ensures.answer refl c.in-Items.ensures.found.located
-    (omega (arith, m.auto.offsets, room.0), omega (arith, m.auto.levels, room.1)) in
-    rw (g.call (ask a.item)) (c.ask_lent.ensures a.index.now)
+    rw (exit c.from_residual-in_err-value.ensures.1) (ask_fails c.in_ok-sheet.ensures (ask a.item) (c.in_err-value.ensures a.index.now))
+
+pub returns : goal.returns
+returns c =
+    let a = c.args in
+    ask_does c.in_ok-sheet.ensures (ask a.item) (c.in_ok-value.ensures a.index.now)

@@ -1,36 +1,29 @@
 -- `call_board::board` meets its contract. Assumes nothing.
-use Rattle.admission.proofs.Calls.{admits, refuses}
-use Rattle.circuit.specs.Call.{board}
-use mathlib.Core.Path.{refl}
-use native.Mathlib.Omega.{arith}
+use Rattle.cause.proofs.Exits.{exit}
+use Rattle.admission.proofs.Calls.{admits, byte_room}
+use Rattle.call_board.proofs.Answers.{board_refuses, board_fails, board_does}
 use Rattle.call_board.proofs.board.Goals as goal
 
-pub board_lent-requires : goal.board_lent-requires
-board_lent-requires c =
-    let m = c.admit in
+pub returns-in_err-sheet : goal.returns-in_err-sheet
+returns-in_err-sheet c =
     let a = c.args in
-    let room = c.requires.fact_1 in
-    let g = admits a.sheet.now a.index.now a.table.now _ m.new.levels c.in-Items.ensures.answer refl c.in-Items.ensures.found.located
-    (omega (arith, m.auto.offsets, room.0), omega (arith, m.auto.levels, room.1)) in
-    record {
-      fact_1 = g.placing;
-      fact_2 = g.lent;
-      fact_3 = g.owes;
-      fact_4 = g.byte_room;
-      fact_5 = c.requires.fact_2;
-    }
+    rw (exit c.from_residual.ensures.1) (board_refuses a.sheet.now a.index.now a.table.now a.items.now a.results.now _ c.in_err-sheet.ensures)
 
-pub returns-in-Refused : goal.returns-in-Refused
-returns-in-Refused c =
-    let a = c.args in
-    rw (refuses a.sheet.now a.index.now a.table.now (board a.items.now a.results.now) c.in-Refused.ensures.answer refl)
-    (record { number_is = c.give.ensures.0; offset_is = c.give.ensures.1; results_are = refl; table_is = refl })
+pub board_lent-requires-clause-lent : goal.board_lent-requires-clause-lent
+board_lent-requires-clause-lent c = (admits c.in_ok-sheet.ensures).lent
 
-pub returns-in-Items : goal.returns-in-Items
-returns-in-Items c =
-    let m = c.admit in
+pub board_lent-requires-clause-owes : goal.board_lent-requires-clause-owes
+board_lent-requires-clause-owes c = (admits c.in_ok-sheet.ensures).owes
+
+pub board_lent-requires-clause-owed_room : goal.board_lent-requires-clause-owed_room
+board_lent-requires-clause-owed_room c = byte_room c.in_ok-sheet.ensures c.requires.room c.admitted.auto.levels
+
+pub returns-in_err-board_lent : goal.returns-in_err-board_lent
+returns-in_err-board_lent c =
     let a = c.args in
-    let room = c.requires.fact_1 in
-    let g = admits a.sheet.now a.index.now a.table.now _ m.new.levels c.in-Items.ensures.answer refl c.in-Items.ensures.found.located
-    (omega (arith, m.auto.offsets, room.0), omega (arith, m.auto.levels, room.1)) in
-    rw (g.call (board a.items.now a.results.now)) (c.board_lent.ensures a.index.now)
+    rw (exit c.from_residual-in_err-board_lent.ensures.1) (board_fails c.in_ok-sheet.ensures a.items.now a.results.now (c.in_err-board_lent.ensures a.index.now))
+
+pub returns : goal.returns
+returns c =
+    let a = c.args in
+    board_does c.in_ok-sheet.ensures a.items.now a.results.now (c.in_ok-board_lent.ensures a.index.now)

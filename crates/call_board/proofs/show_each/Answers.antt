@@ -1,43 +1,52 @@
 -- `call_board::show_each` meets its contract: the loop looks the items up in list order. Assumes nothing.
 use Prim.Native.Nat.{◌+◌}
 use native.Mathlib.Omega.{arith}
+use mathlib.Core.Path.{◌∙◌}
+use Rattle.call_board.proofs.Chunks.{passed_start, next_item, no_more}
 use Rattle.call_board.proofs.Showing.{showing_start, showing_low, showing_room, showing_next, showing_done}
 use Rattle.call_board.proofs.show_each.Goals as goal
 
 pub loop-k-init : goal.loop-k-init
 loop-k-init c =
     let p = c.requires in
-    showing_start p.fact_1 p.fact_2 p.fact_3
+    let k = c.enumerate-k-items.ensures in
+    let pairs = c.chunks_exact.ensures in
+    rw c.into_iter-k-iterator.ensures.into_iter_gives (record {
+      passed = passed_start _ _ c.args.items.now k.source k.count pairs.rest pairs.size;
+      showing = rw k.count (showing_start p.lent p.right);
+    })
 
-pub look_up-seen-requires : goal.look_up-seen-requires
-look_up-seen-requires c =
-    let inv = c.loop-k.invariant in
-    (inv.lent, (inv.memo, showing_low inv c.loop-k-test.true _ c.listed_item-i.ensures))
+pub look_up-seen-requires-clause-lent : goal.look_up-seen-requires-clause-lent
+look_up-seen-requires-clause-lent c = c.loop-k.invariant.showing.lent
+
+pub look_up-seen-requires-clause-right : goal.look_up-seen-requires-clause-right
+look_up-seen-requires-clause-right c = c.loop-k.invariant.showing.right
+
+pub look_up-seen-requires-clause-within : goal.look_up-seen-requires-clause-within
+look_up-seen-requires-clause-within c =
+    let n = next_item {t = c.next.new.self} c.loop-k.invariant.passed c.in-Some.k c.in-Some.pair c.in-Some.ensures.steps in
+    let showing = rw (← n.place_is) at c.loop-k.invariant.showing in
+    showing_low c.requires.lists showing n.more c.u16_at.result (c.u16_at.ensures.value ∙ n.item_is)
 
 pub write_result-requires : goal.write_result-requires
-write_result-requires c = showing_room c.loop-k.invariant c.loop-k-test.true
-
-pub loop-k-smaller : goal.loop-k-smaller
-loop-k-smaller c = omega (arith, c.loop-k-test.true)
+write_result-requires c =
+    let n = next_item {t = c.next.new.self} c.loop-k.invariant.passed c.in-Some.k c.in-Some.pair c.in-Some.ensures.steps in
+    let showing = rw (← n.place_is) at c.loop-k.invariant.showing in
+    showing_room c.requires.lists showing n.more
 
 pub loop-k-preserved : goal.loop-k-preserved
 loop-k-preserved c =
-    let i = c.listed_item-i in
+    let n = next_item {t = c.next.new.self} c.loop-k.invariant.passed c.in-Some.k c.in-Some.pair c.in-Some.ensures.steps in
+    let showing = rw (← n.place_is) at c.loop-k.invariant.showing in
+    let i = c.u16_at in
     let u = c.look_up-seen in
-    showing_next c.loop-k.invariant c.loop-k-test.true i.result i.ensures
-    u.auto.table u.auto.tags u.auto.numbers (u.ensures (i.result + 1) (omega arith)) c.write_result.ensures
-
-pub shape_of-table : goal.shape_of-table
-shape_of-table c = c.loop-k.invariant.length_is
-
-pub shape_of-tags : goal.shape_of-tags
-shape_of-tags c = c.loop-k.invariant.tags_length
-
-pub shape_of-numbers : goal.shape_of-numbers
-shape_of-numbers c = c.loop-k.invariant.numbers_length
-
-pub shape_of-results : goal.shape_of-results
-shape_of-results c = c.loop-k.invariant.results_length
+    record {
+      passed = n.passed_next;
+      showing = rw n.count_is (showing_next c.requires.lists showing n.more i.result (i.ensures.value ∙ n.item_is) u.auto.table
+          (u.ensures (i.result + 1) (omega arith)) c.write_result.ensures);
+    }
 
 pub returns : goal.returns
-returns c = showing_done c.loop-k.invariant c.loop-k-test.false
+returns c =
+    let i = c.loop-k.invariant in
+    showing_done c.requires.lists i.showing (no_more i.passed c.in-None.ensures.steps)

@@ -5,4 +5,4 @@ use Rattle.call_close.proofs.close_item.Goals as goal
 pub returns : goal.returns
 returns c =
     let e = c.requires in
-    closed_stored e.fact_1 c.args.i e.fact_2 _ c.closed_value-value.ensures _ c.store_cell.ensures
+    closed_stored e.lent c.args.i e.within _ c.closed_value-value.ensures _ c.store_cell.ensures

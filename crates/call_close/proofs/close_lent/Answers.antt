@@ -1,17 +1,16 @@
 -- `call_close::close_lent` meets its contract. Assumes nothing.
-use lib.ListN.{length}
-use Rattle.admission.proofs.Admitting.{settle_needs}
-use Rattle.call_close.proofs.Closing.{closed_answer}
+use native.Mathlib.Omega.{arith}
+use Rattle.call_close.proofs.Closing.{closing_start, closing_lent, closing_next, closing_done}
 use Rattle.call_close.proofs.close_lent.Goals as goal
 
-pub settle-requires : goal.settle-requires
-settle-requires c =
-    let p = c.requires in
-    let n = settle_needs {room = length c.args.bytes.now} p.fact_1 p.fact_2 p.fact_3 _ c.close_all.auto.table c.close_all.ensures.formed in
-    record { fact_1 = n.0; fact_2 = n.1.0; fact_3 = n.1.1.0; fact_4 = n.1.1.1.0; fact_5 = n.1.1.1.1 }
+pub loop-i-init : goal.loop-i-init
+loop-i-init c = closing_start c.requires.lent
+
+pub close_item-requires-clause-lent : goal.close_item-requires-clause-lent
+close_item-requires-clause-lent c = closing_lent c.loop-i.invariant
+
+pub loop-i-preserved : goal.loop-i-preserved
+loop-i-preserved c = closing_next c.loop-i.invariant _ c.close_item.auto.table c.close_item.ensures
 
 pub returns : goal.returns
-returns c =
-    λ x.
-    let a = c.args in
-    closed_answer a.sheet.now a.table.now x c.give.result _ c.close_all.ensures _ c.settle.ensures c.give.ensures.0 c.give.ensures.1
+returns c = closing_done c.loop-i.invariant (omega arith) _ c.settle.ensures

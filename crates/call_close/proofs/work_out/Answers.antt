@@ -1,54 +1,33 @@
 -- `call_close::work_out` meets its contract. Assumes nothing.
-use mathlib.Core.Path.{refl}
+use mathlib.Core.Path.{refl, ap, ◌∙◌}
 use native.Mathlib.Omega.{arith}
 use Rattle.circuit.specs.Rules.{max_parents}
-use Rattle.item.proofs.Located.{located_field}
-use Rattle.looking.proofs.FigureAt.{figure_field_lem, figure_is, parent_there, parents_counted}
 use Rattle.call_close.proofs.Gathering.{gathering_start, gathering_fits, gathering_next, gathering_formed, gathering_done}
 use Rattle.call_close.proofs.work_out.Goals as goal
-
-pub parent_count-count-requires : goal.parent_count-count-requires
-parent_count-count-requires c =
-    located_field c.args.sheet.now c.args.offsets.now c.requires.fact_1.located c.args.i c.requires.fact_2
 
 pub loop-k-init : goal.loop-k-init
 unfolding max_parents
 loop-k-init c =
     let q = c.requires in
-    gathering_start q.fact_1 q.fact_2 q.fact_3 _ c.parent_count-count.ensures _ _ refl refl
+    gathering_start q.lent q.within q.figure _ c.item-item.ensures _ c.parent_count-count.ensures _ refl
 
-pub parent-p-requires : goal.parent-p-requires
-parent-p-requires c =
-    let field = c.loop-k.invariant.field in
-    record {
-      fact_1 = figure_field_lem field;
-      fact_2 = parent_there field _ c.loop-k-test.true;
-    }
+pub value_at-requires : goal.value_at-requires
+value_at-requires c = gathering_fits c.loop-k.invariant _ c.parent.ensures c.loop-k-test.true
 
-pub gather-requires : goal.gather-requires
-gather-requires c =
-    let inv = c.loop-k.invariant in
-    record {
-      fact_1 = gathering_fits inv _ c.parent-p.ensures c.loop-k-test.true;
-      fact_2 = omega (arith, inv.field.count_most, c.loop-k-test.true);
-    }
+pub offset_bounds-values-k : goal.offset_bounds-values-k
+unfolding max_parents
+offset_bounds-values-k c = omega (arith, c.parent_count-count.ensures.at_most)
 
-pub loop-k-smaller : goal.loop-k-smaller
-loop-k-smaller c = omega (arith, c.loop-k-test.true)
+pub bounds-values-k : goal.bounds-values-k
+unfolding max_parents
+bounds-values-k c = omega (arith, c.parent_count-count.ensures.at_most)
 
 pub loop-k-preserved : goal.loop-k-preserved
 loop-k-preserved c =
-    gathering_next c.loop-k.invariant _ c.parent-p.ensures c.loop-k-test.true _ _ c.gather.ensures.kind c.gather.ensures.amount
+    gathering_next c.loop-k.invariant _ c.parent.ensures c.loop-k-test.true _ c.value_at.ensures
 
-pub evaluate-requires : goal.evaluate-requires
-evaluate-requires c =
-    let inv = c.loop-k.invariant in
-    record {
-      fact_1 = figure_field_lem inv.field;
-      fact_2 = figure_is inv.field;
-      fact_3 = parents_counted inv.field;
-      fact_4 = gathering_formed inv c.loop-k-test.false;
-    }
+pub evaluate-requires-clause-formed : goal.evaluate-requires-clause-formed
+evaluate-requires-clause-formed c = gathering_formed c.loop-k.invariant (omega arith)
 
 pub returns : goal.returns
-returns c = gathering_done c.loop-k.invariant c.loop-k-test.false _ c.evaluate.ensures
+returns c = gathering_done c.loop-k.invariant (omega arith) _ c.evaluate.ensures

@@ -1,30 +1,23 @@
 -- `call_keep::keep` meets its contract. Assumes nothing.
-use Rattle.admission.proofs.Calls.{admits, refuses}
+use Rattle.cause.proofs.Exits.{exit}
 use Rattle.circuit.specs.Call.{keep}
-use mathlib.Core.Path.{refl}
-use native.Mathlib.Omega.{arith}
+use Rattle.admission.proofs.Calls.{admits, byte_room, refuses, fails, does}
 use Rattle.call_keep.proofs.keep.Goals as goal
 
-pub keep_lent-requires : goal.keep_lent-requires
-keep_lent-requires c =
-    let m = c.admit in
+pub returns-in_err-sheet : goal.returns-in_err-sheet
+returns-in_err-sheet c =
     let a = c.args in
-    let room = c.requires.fact_1 in
-    let g = admits a.sheet.now a.index.now a.table.now m.new.offsets m.new.levels m.ensures.answer c.in-Items.is m.ensures.found.located
-    (omega (arith, m.auto.offsets, room.0), omega (arith, m.auto.levels, room.1)) in
-    record { fact_1 = g.placing; fact_2 = g.lent; fact_3 = g.byte_room; fact_4 = c.requires.fact_2 }
+    rw (exit c.from_residual.ensures.1) (refuses a.sheet.now a.index.now a.table.now (keep a.item) _ c.in_err-sheet.ensures)
 
-pub returns-in-Refused : goal.returns-in-Refused
-returns-in-Refused c =
-    let a = c.args in
-    rw (refuses a.sheet.now a.index.now a.table.now (keep a.item) c.admit.ensures.answer c.in-Refused.is)
-    (record { number_is = c.give.ensures.0; offset_is = c.give.ensures.1; table_is = refl })
+pub keep_lent-requires-clause-lent : goal.keep_lent-requires-clause-lent
+keep_lent-requires-clause-lent c = (admits c.in_ok-sheet.ensures).lent
 
-pub returns-in-Items : goal.returns-in-Items
-returns-in-Items c =
-    let m = c.admit in
-    let a = c.args in
-    let room = c.requires.fact_1 in
-    let g = admits a.sheet.now a.index.now a.table.now m.new.offsets m.new.levels m.ensures.answer c.in-Items.is m.ensures.found.located
-    (omega (arith, m.auto.offsets, room.0), omega (arith, m.auto.levels, room.1)) in
-    rw (g.call (keep a.item)) (c.keep_lent.ensures a.index.now)
+pub keep_lent-requires-clause-owed_room : goal.keep_lent-requires-clause-owed_room
+keep_lent-requires-clause-owed_room c = byte_room c.in_ok-sheet.ensures c.requires.room c.admitted.auto.levels
+
+pub returns-in_err-keep_lent : goal.returns-in_err-keep_lent
+returns-in_err-keep_lent c =
+    rw (exit c.from_residual-in_err-keep_lent.ensures.1) (fails c.in_ok-sheet.ensures (keep c.args.item) (c.in_err-keep_lent.ensures c.args.index.now))
+
+pub returns : goal.returns
+returns c = does c.in_ok-sheet.ensures (keep c.args.item) (c.in_ok-keep_lent.ensures c.args.index.now)

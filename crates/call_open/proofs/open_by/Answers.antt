@@ -1,43 +1,52 @@
 -- `call_open::open_by` meets its contract. Assumes nothing.
-use Rattle.call_open.proofs.Opening.{opened_refused, opened_written}
-use Rattle.admission.proofs.Admission.{measured, admitted_placing}
-use Rattle.item.proofs.Located.{size_room}
-use mathlib.Core.Path.{sym, ◌∙◌}
-use native.Mathlib.Omega.{arith}
+use Rattle.cause.proofs.Exits.{exit}
+use Rattle.call_open.specs.Opening.{opening_by}
+use Rattle.call_open.proofs.Writing.{measures, opened_refused, opened_written}
 use Rattle.call_open.proofs.open_by.Goals as goal
+
+pub returns-in_err-n : goal.returns-in_err-n
+returns-in_err-n c =
+    let a = c.args in
+    rw (exit c.from_residual.ensures.1) (opened_refused (opening_by a.opening) a.sheet.now a.index.now a.table.now _ c.in_err-n.ensures.answer)
+
+pub slice_bounds-offsets-end : goal.slice_bounds-offsets-end
+slice_bounds-offsets-end c =
+    let m = c.measure in
+    let k = c.in_ok-n.ensures in
+    let g = measures c.args.offsets.now c.args.bytes.now k.answer c.requires.room m.auto.offsets m.auto.levels k.found.found.located in
+    g.within
+
+pub slice_bounds-offsets-end-2 : goal.slice_bounds-offsets-end-2
+slice_bounds-offsets-end-2 c =
+    let m = c.measure in
+    let k = c.in_ok-n.ensures in
+    let g = measures c.args.offsets.now c.args.bytes.now k.answer c.requires.room m.auto.offsets m.auto.levels k.found.found.located in
+    g.exact
 
 pub write_index-requires : goal.write_index-requires
 write_index-requires c =
-    let a = c.args in
     let m = c.measure in
-    let w = c.in-Items in
-    let g = measured a.sheet.now a.index.now a.table.now w.n (sym w.is ∙ m.ensures.answer) in
-    (omega (arith, g.count_is, size_room a.sheet.now, m.auto.offsets, c.requires.0), g.index_length)
+    let k = c.in_ok-n.ensures in
+    let g = measures c.args.offsets.now c.args.bytes.now k.answer c.requires.room m.auto.offsets m.auto.levels k.found.found.located in
+    g.index_length
+
+pub new-requires : goal.new-requires
+new-requires c =
+    let m = c.measure in
+    let k = c.in_ok-n.ensures in
+    let g = measures c.args.offsets.now c.args.bytes.now k.answer c.requires.room m.auto.offsets m.auto.levels k.found.found.located in
+    record { located = g.located; counted = g.counted }
 
 pub write_table-requires : goal.write_table-requires
 write_table-requires c =
-    let a = c.args in
     let m = c.measure in
-    let w = c.in-Items in
-    let g = measured a.sheet.now a.index.now a.table.now w.n (sym w.is ∙ m.ensures.answer) in
-    let placing = admitted_placing a.sheet.now _ w.n g.count_is m.ensures.found.found.located (omega (arith, m.auto.offsets, c.requires.0)) in
-    record {
-      fact_1 = placing;
-      fact_2 = g.table_length_lem;
-      fact_3 = omega (arith, g.count_is, size_room a.sheet.now, m.auto.levels, c.requires.1);
-    }
+    let k = c.in_ok-n.ensures in
+    let g = measures c.args.offsets.now c.args.bytes.now k.answer c.requires.room m.auto.offsets m.auto.levels k.found.found.located in
+    rw c.new.ensures (record { table_length = g.table_length; owed_room = g.owed_room })
 
-pub returns-in-Refused : goal.returns-in-Refused
-returns-in-Refused c =
+pub returns : goal.returns
+returns c =
     let a = c.args in
-    let m = c.measure in
-    let w = c.in-Refused in
-    opened_refused a.filled a.sheet.now a.index.now a.table.now w.number w.offset (sym w.is ∙ m.ensures.answer) c.give.result c.give.ensures.0 c.give.ensures.1
-
-pub returns-in-Items : goal.returns-in-Items
-returns-in-Items c =
-    let a = c.args in
-    let m = c.measure in
-    let w = c.in-Items in
-    opened_written a.filled a.sheet.now a.index.now a.table.now _ _ _ w.n (sym w.is ∙ m.ensures.answer) m.ensures.found.found.located
-    c.write_index.ensures c.write_table.ensures c.give-in-Items.result c.give-in-Items.ensures.0 c.give-in-Items.ensures.1
+    let k = c.in_ok-n.ensures in
+    opened_written (opening_by a.opening) a.sheet.now a.index.now a.table.now _ _ _ c.measure.new.offsets _ k.answer k.found.found.located
+    c.write_index.ensures (rw c.new.ensures at c.write_table.ensures)

@@ -1,31 +1,24 @@
 -- `call_post::post` meets its contract. Assumes nothing.
-use Rattle.admission.proofs.Calls.{admits, refuses}
-use Rattle.circuit.specs.Call.{post}
 use Rattle.value.proofs.Signed.{back}
-use mathlib.Core.Path.{refl}
-use native.Mathlib.Omega.{arith}
+use Rattle.cause.proofs.Exits.{exit}
+use Rattle.circuit.specs.Call.{post}
+use Rattle.admission.proofs.Calls.{admits, refuses, fails, does}
 use Rattle.call_post.proofs.post.Goals as goal
 
+pub returns-in_err-sheet : goal.returns-in_err-sheet
+returns-in_err-sheet c =
+    let a = c.args in
+    rw (exit c.from_residual.ensures.1) (refuses a.sheet.now a.index.now a.table.now (post a.item a.kind a.number) _ c.in_err-sheet.ensures)
+
 pub post_lent-requires : goal.post_lent-requires
-post_lent-requires c =
-    let m = c.admit in
-    let a = c.args in
-    let room = c.requires in
-    let g = admits a.sheet.now a.index.now a.table.now m.new.offsets m.new.levels m.ensures.answer c.in-Items.is m.ensures.found.located
-    (omega (arith, m.auto.offsets, room.0), omega (arith, m.auto.levels, room.1)) in
-    record { fact_1 = g.placing; fact_2 = g.lent; fact_3 = g.owes }
+post_lent-requires c = let g = admits c.in_ok-sheet.ensures in record { lent = g.lent; owes = g.owes }
 
-pub returns-in-Refused : goal.returns-in-Refused
-returns-in-Refused c =
+pub returns-in_err-post_lent : goal.returns-in_err-post_lent
+returns-in_err-post_lent c =
     let a = c.args in
-    rw (refuses a.sheet.now a.index.now a.table.now (post a.item a.kind a.number) c.admit.ensures.answer c.in-Refused.is)
-    (record { number_is = c.give.ensures.0; offset_is = c.give.ensures.1; table_is = refl })
+    rw (exit c.from_residual-in_err-post_lent.ensures.1) (fails c.in_ok-sheet.ensures (post a.item a.kind a.number) (rw (back a.number c.ranges.number) at (c.in_err-post_lent.ensures a.index.now)))
 
-pub returns-in-Items : goal.returns-in-Items
-returns-in-Items c =
-    let m = c.admit in
+pub returns : goal.returns
+returns c =
     let a = c.args in
-    let room = c.requires in
-    let g = admits a.sheet.now a.index.now a.table.now m.new.offsets m.new.levels m.ensures.answer c.in-Items.is m.ensures.found.located
-    (omega (arith, m.auto.offsets, room.0), omega (arith, m.auto.levels, room.1)) in
-    rw (g.call (post a.item a.kind a.number)) (rw (back a.number c.ranges.number) at (c.post_lent.ensures a.index.now))
+    does c.in_ok-sheet.ensures (post a.item a.kind a.number) (rw (back a.number c.ranges.number) at (c.in_ok-post_lent.ensures a.index.now))

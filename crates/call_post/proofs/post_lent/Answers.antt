@@ -1,51 +1,33 @@
-use Rattle.std.proofs.Common.{rules}
-use Rattle.circuit.specs.Calls.{posted_value}
-use Rattle.value.proofs.Signed.{back}
-use Rattle.admission.proofs.Admitting.{cause_fits}
-use Rattle.call_post.proofs.Posting.{post_item, post_value, post_stored}
+-- `call_post::post_lent` meets its contract. Assumes nothing.
+use Rattle.std.proofs.Common.{rules, sym, ap, ◌∙◌}
 use Rattle.field.proofs.Cutting.{slice_bytes}
-use Rattle.value.specs.Meaning.{parts_meaning}
-use mathlib.Core.Bool.{false}
-use mathlib.Core.Path.{sym, ap, ◌∙◌}
+use Rattle.value.proofs.Signed.{back}
+use Rattle.cause.proofs.Exits.{exit}
+use Rattle.circuit.specs.Calls.{posted_value}
+use Rattle.call_post.proofs.Posting.{post_item, post_value, post_stored, some_posted, none_posted}
 use Rattle.call_post.proofs.post_lent.Goals as goal
 
-pub returns-then-cause-ne0 : goal.returns-then-cause-ne0
-returns-then-cause-ne0 c =
+pub returns-in_err-i : goal.returns-in_err-i
+returns-in_err-i c =
+    λ x.
+    let a = c.args in
+    rw (exit c.from_residual.ensures.1) (post_item a.sheet.now a.table.now x a.item a.kind a.number _ c.in_err-i.ensures.number)
+
+pub returns-in_err-value : goal.returns-in_err-value
+returns-in_err-value c =
+    λ x.
+    let a = c.args in
+    let p = exit c.from_residual-in_err-value.ensures.1 in
+    let v = none_posted _ (c.posted.ensures ∙ ap (posted_value a.kind) (back a.number c.ranges.number)) c.in_err-value.ensures.value in
+    rw (p, v.0) (post_value a.sheet.now a.table.now x a.item a.kind a.number c.in_ok-i.ensures.number v.1)
+
+pub returns : goal.returns
+returns c =
     λ x.
     let a = c.args in
     let p = c.requires in
-    let i = c.item_cause-cause in
-    let b = slice_bytes a.table.now c.type_inv.table in
-    post_item p.fact_2 b p.fact_3 x a.item a.kind a.number i.result i.ensures c.give.result c.give.ensures.1 c.if-cause-ne0.true c.give.ensures.0
-
-pub store_posting-requires : goal.store_posting-requires
-store_posting-requires c =
-    let a = c.args in
-    let p = c.requires in
-    let i = c.item_cause-cause in
-    cause_fits a.sheet.now a.table.now a.item i.result false p.fact_2.length_is i.ensures c.if-cause-ne0.false
-
-pub returns-in-Unformed : goal.returns-in-Unformed
-returns-in-Unformed c =
-    λ x.
-    let a = c.args in
-    let p = c.requires in
-    let i = c.item_cause-cause in
-    let b = slice_bytes a.table.now c.type_inv.table in
-    post_value p.fact_2 b p.fact_3 x a.item a.kind a.number i.result i.ensures c.give-in-Unformed.result c.give-in-Unformed.ensures.1
-    c.if-cause-ne0.false
-    (sym (ap parts_meaning c.in-Unformed.is) ∙ c.posted.ensures ∙ ap (posted_value a.kind)
-    (back a.number c.ranges.number))
-    c.give-in-Unformed.ensures.0
-
-pub returns-in-Formed : goal.returns-in-Formed
-returns-in-Formed c =
-    λ x.
-    let i = c.item_cause-cause in
-    let a = c.args in
-    let p = c.requires in
-    let b = slice_bytes a.table.now (search rules) in
-    post_stored p.fact_2 b p.fact_3 x a.item a.kind a.number i.result i.ensures c.give-in-Formed.result c.give-in-Formed.ensures.1 c.if-cause-ne0.false _
-    (sym (ap parts_meaning c.in-Formed.is) ∙ c.posted.ensures
-    ∙ ap (posted_value a.kind) (back a.number c.ranges.number))
-    _ c.store_posting.ensures c.give-in-Formed.ensures.0
+    let i = c.in_ok-i in
+    let found = i.ensures.found in
+    let v = some_posted _ (c.posted.ensures ∙ ap (posted_value a.kind) (back a.number c.ranges.number)) c.in_ok-value.ensures.value in
+    post_stored a.sheet.now a.table.now x a.item a.kind a.number i.ensures.number _ p.lent (slice_bytes a.table.now (search rules)) p.owes
+    (rw found.0 at found.1) (rw found.0 at i.ensures.kind) _ v _ (rw found.0 at c.store_posting.ensures)

@@ -1,30 +1,29 @@
 -- `call_step::step` meets its contract. Assumes nothing.
-use Rattle.admission.proofs.Calls.{admits, refuses}
+use Rattle.cause.proofs.Exits.{exit}
 use Rattle.circuit.specs.Call.{step}
-use mathlib.Core.Path.{refl}
-use native.Mathlib.Omega.{arith}
+use Rattle.admission.proofs.Calls.{admits, byte_room, refuses, fails, does}
 use Rattle.call_step.proofs.step.Goals as goal
 
-pub step_lent-requires : goal.step_lent-requires
-step_lent-requires c =
-    let m = c.admit in
+pub returns-in_err-sheet : goal.returns-in_err-sheet
+returns-in_err-sheet c =
     let a = c.args in
-    let room = c.requires.fact_1 in
-    let g = admits a.sheet.now a.index.now a.table.now m.new.offsets m.new.levels m.ensures.answer c.in-Items.is m.ensures.found.located
-    (omega (arith, m.auto.offsets, room.0), omega (arith, m.auto.levels, room.1)) in
-    record { fact_1 = g.placing; fact_2 = g.lent; fact_3 = g.owes; fact_4 = g.byte_room; fact_5 = c.requires.fact_2 }
+    rw (exit c.from_residual.ensures.1) (refuses a.sheet.now a.index.now a.table.now (step a.item) _ c.in_err-sheet.ensures)
 
-pub returns-in-Refused : goal.returns-in-Refused
-returns-in-Refused c =
-    let a = c.args in
-    rw (refuses a.sheet.now a.index.now a.table.now (step a.item) c.admit.ensures.answer c.in-Refused.is)
-    (record { number_is = c.give.ensures.0; offset_is = c.give.ensures.1; table_is = refl })
+pub step_lent-requires-clause-lent : goal.step_lent-requires-clause-lent
+step_lent-requires-clause-lent c = (admits c.in_ok-sheet.ensures).lent
 
-pub returns-in-Items : goal.returns-in-Items
-returns-in-Items c =
-    let m = c.admit in
+pub step_lent-requires-clause-owes : goal.step_lent-requires-clause-owes
+step_lent-requires-clause-owes c = (admits c.in_ok-sheet.ensures).owes
+
+pub step_lent-requires-clause-owed_room : goal.step_lent-requires-clause-owed_room
+step_lent-requires-clause-owed_room c = byte_room c.in_ok-sheet.ensures c.requires.room c.admitted.auto.levels
+
+pub returns-in_err-step_lent : goal.returns-in_err-step_lent
+returns-in_err-step_lent c =
     let a = c.args in
-    let room = c.requires.fact_1 in
-    let g = admits a.sheet.now a.index.now a.table.now m.new.offsets m.new.levels m.ensures.answer c.in-Items.is m.ensures.found.located
-    (omega (arith, m.auto.offsets, room.0), omega (arith, m.auto.levels, room.1)) in
-    rw (g.call (step a.item)) (c.step_lent.ensures a.index.now)
+    rw (exit c.from_residual-in_err-step_lent.ensures.1) (fails c.in_ok-sheet.ensures (step a.item) (c.in_err-step_lent.ensures a.index.now))
+
+pub returns : goal.returns
+returns c =
+    let a = c.args in
+    does c.in_ok-sheet.ensures (step a.item) (c.in_ok-step_lent.ensures a.index.now)

@@ -4,13 +4,10 @@ use mathlib.Core.Path.{sym, ◌∙◌}
 use Rattle.call_step.proofs.StepCall.{left_noticed}
 use Rattle.call_step.proofs.step_once.Goals as goal
 
-pub refresh_once-requires : goal.refresh_once-requires
-refresh_once-requires c =
-    let p = c.requires in
-    (p.fact_1, (p.fact_5.0, (omega (arith, p.fact_2.0, p.fact_3), sym c.is_noticed.ensures ∙ c.if-is_noticed.false)))
-
-pub returns-then-is_noticed : goal.returns-then-is_noticed
-returns-then-is_noticed c =
+pub returns-then-is_noticed-clause-left : goal.returns-then-is_noticed-clause-left
+returns-then-is_noticed-clause-left c =
     let a = c.args in
-    let d = c.notice_once.ensures in
-    record { fact_1 = left_noticed a.sheet.now a.table.now a.i _ c.is_noticed.ensures c.if-is_noticed.true _ d.fact_1; fact_2 = d.fact_2 }
+    let p = c.requires in
+    let o = c.copy_owed in
+    left_noticed a.sheet.now a.table.now o.new.owed a.i p.lent p.owes (omega (arith, p.owed_room, o.auto.owed)) o.ensures p.within
+    (sym c.is_noticed.ensures ∙ c.if-is_noticed.true) c.tell_and_clear.ensures

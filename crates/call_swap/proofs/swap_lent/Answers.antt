@@ -1,116 +1,76 @@
 -- `call_swap::swap_lent` meets its contract. Assumes nothing.
-use mathlib.Core.Path.{sym, ap, ◌∙◌}
+use Rattle.std.proofs.Common.{rules, arith, sym, ap, ◌∙◌}
 use mir.Syntax.{w64}
 use mir.Val.{SFits}
-use Rattle.circuit.specs.Table.{value_in}
+use Rattle.cause.proofs.Exits.{exit}
 use Rattle.circuit.specs.Swap.{no_swap}
 use Rattle.field.proofs.Cutting.{slice_bytes}
 use Rattle.value.proofs.Signed.{back}
-use Rattle.call_swap.proofs.Swapping.{swap_items, swap_none, swap_beyond, swap_stored, rows_fit, held_formed, by_held, stored_value, next_fits}
-use borrow.Author.Rules.{rules}
+use Rattle.call_swap.proofs.Swapping.{held_formed, by_held, stored_value, none_swapped, some_swapped, swap_items, swap_none, swap_beyond, swap_stored}
 use Rattle.call_swap.proofs.swap_lent.Goals as goal
 
-pub returns-then-cause-ne0 : goal.returns-then-cause-ne0
-returns-then-cause-ne0 c =
+pub returns-in_err-i : goal.returns-in_err-i
+returns-in_err-i c =
     λ x.
-    let i = c.items_cause-cause in
     let a = c.args in
-    let p = c.requires in
-    let bytes = slice_bytes a.table.now c.type_inv.table in
-    swap_items p.fact_2 bytes p.fact_3 x a.giver a.taker a.quantity i.result i.ensures c.give.result c.give.ensures.1 c.if-cause-ne0.true c.give.ensures.0
+    rw (exit c.from_residual.ensures.1) (swap_items a.sheet.now a.table.now x a.giver a.taker a.quantity _ c.in_err-i.ensures.number)
 
 pub returns-then-no_swap : goal.returns-then-no_swap
 returns-then-no_swap c =
     λ x.
-    let i = c.items_cause-cause in
     let a = c.args in
-    let p = c.requires in
-    let bytes = slice_bytes a.table.now c.type_inv.table in
-    swap_none p.fact_2 bytes p.fact_3 x a.giver a.taker a.quantity i.result i.ensures c.give-then-no_swap.result c.give-then-no_swap.ensures.1 c.if-cause-ne0.false
-    c.no_swap.result (c.no_swap.ensures
-    ∙ ap (no_swap a.giver a.taker) (back a.quantity c.ranges.quantity)) c.if-no_swap.true c.give-then-no_swap.ensures.0
+    let n = c.no_swap.ensures ∙ ap (no_swap a.giver a.taker) (back a.quantity c.ranges.quantity) in
+    swap_none a.sheet.now a.table.now x a.giver a.taker a.quantity c.in_ok-i.ensures.number (sym c.if-no_swap.true ∙ n)
 
-pub read_cell-requires : goal.read_cell-requires
-read_cell-requires c =
-    let i = c.items_cause-cause in
-    let a = c.args in
-    let p = c.requires in
-    let bytes = slice_bytes a.table.now (search rules) in
-    (rows_fit p.fact_2 bytes p.fact_3 a.table.now a.giver a.taker a.quantity i.result i.ensures c.if-cause-ne0.false).0
+pub value_at-giver_holds-requires : goal.value_at-giver_holds-requires
+value_at-giver_holds-requires c = omega (arith, c.in_ok-i.ensures.found.giver_low)
 
-pub read_cell-requires-2 : goal.read_cell-requires-2
-read_cell-requires-2 c =
-    let i = c.items_cause-cause in
-    let a = c.args in
-    let p = c.requires in
-    let bytes = slice_bytes a.table.now (search rules) in
-    (rows_fit p.fact_2 bytes p.fact_3 a.table.now a.giver a.taker a.quantity i.result i.ensures c.if-cause-ne0.false).1
+pub value_at-taker_holds-requires : goal.value_at-taker_holds-requires
+value_at-taker_holds-requires c = omega (arith, c.in_ok-i.ensures.found.taker_low)
 
 pub swap_results-requires : goal.swap_results-requires
 swap_results-requires c =
-    let i = c.items_cause-cause in
-    let a = c.args in
-    let p = c.requires in
-    let bytes = slice_bytes a.table.now (search rules) in
-    let formed = held_formed p.fact_2 bytes p.fact_3 a.table.now a.giver a.taker a.quantity i.result i.ensures c.if-cause-ne0.false in
+    let e = c.in_ok-i.ensures.found in
     record {
-      fact_1 = rw (c.value_in-giver_holds.ensures ∙ ap value_in c.read_cell.ensures) formed.0;
-      fact_2 = rw (c.value_in-taker_holds.ensures ∙ ap value_in c.read_cell-2.ensures) formed.1;
+      giver_formed = rw c.value_at-giver_holds.ensures (held_formed c.requires.lent _ e.giver_low);
+      taker_formed = rw c.value_at-taker_holds.ensures (held_formed c.requires.lent _ e.taker_low);
     }
 
+pub returns-in_err-results : goal.returns-in_err-results
+returns-in_err-results c =
+    λ x.
+    let a = c.args in
+    let n = c.no_swap.ensures ∙ ap (no_swap a.giver a.taker) (back a.quantity c.ranges.quantity) in
+    let e = c.in_ok-i.ensures.found in
+    let held =
+    by_held a.table.now a.giver a.taker _ _ a.quantity _ _ _ e.giver_is e.taker_is c.ranges.quantity
+    c.value_at-giver_holds.ensures c.value_at-taker_holds.ensures c.swap_results.ensures in
+    let p = exit c.from_residual-in_err-results.ensures.1 in
+    let r = none_swapped _ held c.in_err-results.ensures.value in
+    rw (p, r.0) (swap_beyond a.sheet.now a.table.now x a.giver a.taker a.quantity c.in_ok-i.ensures.number (sym c.if-no_swap.false ∙ n) r.1)
+
 pub store_posting-requires : goal.store_posting-requires
-store_posting-requires c =
-    let i = c.items_cause-cause in
-    let a = c.args in
-    let p = c.requires in
-    let bytes = slice_bytes a.table.now (search rules) in
-    (rows_fit p.fact_2 bytes p.fact_3 a.table.now a.giver a.taker a.quantity i.result i.ensures c.if-cause-ne0.false).0
+store_posting-requires c = record { record_there = omega (arith, c.in_ok-i.ensures.found.giver_low) }
 
-pub store_posting-requires-in-Within : goal.store_posting-requires-in-Within
-store_posting-requires-in-Within c =
-    let i = c.items_cause-cause in
-    let a = c.args in
-    let p = c.requires in
-    let bytes = slice_bytes a.table.now (search rules) in
-    next_fits p.fact_2 bytes p.fact_3 a.table.now a.giver a.taker a.quantity i.result i.ensures c.if-cause-ne0.false _ _
-    c.store_posting.ensures
+pub store_posting-requires-2 : goal.store_posting-requires-2
+store_posting-requires-2 c = record { record_there = omega (arith, c.in_ok-i.ensures.found.taker_low, c.store_posting.auto.table) }
 
-pub returns-in-Beyond : goal.returns-in-Beyond
-returns-in-Beyond c =
+pub returns : goal.returns
+returns c =
     λ x.
-    let i = c.items_cause-cause in
     let a = c.args in
-    let p = c.requires in
-    let bytes = slice_bytes a.table.now (search rules) in
-    swap_beyond p.fact_2 bytes p.fact_3 x a.giver a.taker a.quantity i.result i.ensures c.give-in-Beyond.result c.give-in-Beyond.ensures.1 c.if-cause-ne0.false
-    c.no_swap.result (c.no_swap.ensures
-    ∙ ap (no_swap a.giver a.taker) (back a.quantity c.ranges.quantity))
-    c.if-no_swap.false
-    (by_held p.fact_2 bytes p.fact_3 a.table.now a.giver a.taker a.quantity i.result i.ensures _ _ _
-    (c.value_in-giver_holds.ensures ∙ ap value_in c.read_cell.ensures)
-    (c.value_in-taker_holds.ensures ∙ ap value_in c.read_cell-2.ensures)
-    c.ranges.quantity (sym c.in-Beyond.is ∙ c.swap_results.ensures))
-    c.give-in-Beyond.ensures.0
-
-pub returns-in-Within : goal.returns-in-Within
-returns-in-Within c =
-    λ x.
-    let fits-left : SFits w64 c.in-Within.left = search rules in
-    let fits-come : SFits w64 c.in-Within.come = search rules in
-    let i = c.items_cause-cause in
-    let a = c.args in
-    let p = c.requires in
-    let bytes = slice_bytes a.table.now (search rules) in
-    swap_stored p.fact_2 bytes p.fact_3 x a.giver a.taker a.quantity i.result i.ensures c.give-in-Within.result c.give-in-Within.ensures.1 c.if-cause-ne0.false
-    c.no_swap.result (c.no_swap.ensures
-    ∙ ap (no_swap a.giver a.taker) (back a.quantity c.ranges.quantity))
-    c.if-no_swap.false
-    c.in-Within.left c.in-Within.come
-    (by_held p.fact_2 bytes p.fact_3 a.table.now a.giver a.taker a.quantity i.result i.ensures _ _ _
-    (c.value_in-giver_holds.ensures ∙ ap value_in c.read_cell.ensures)
-    (c.value_in-taker_holds.ensures ∙ ap value_in c.read_cell-2.ensures)
-    c.ranges.quantity (sym c.in-Within.is ∙ c.swap_results.ensures))
-    c.store_posting.new.table c.store_posting-in-Within.new.table
-    (stored_value a.table.now _ a.giver _ c.in-Within.left c.number.ensures fits-left c.store_posting.ensures)
-    (stored_value c.store_posting.new.table _ a.taker _ c.in-Within.come c.number-in-Within.ensures fits-come c.store_posting-in-Within.ensures)
-    c.give-in-Within.ensures.0
+    let q = c.requires in
+    let e = c.in_ok-i.ensures.found in
+    let n = c.no_swap.ensures ∙ ap (no_swap a.giver a.taker) (back a.quantity c.ranges.quantity) in
+    let r = c.in_ok-results.results in
+    let fits-left : SFits w64 r.left = search rules in
+    let fits-come : SFits w64 r.come = search rules in
+    let held =
+    by_held a.table.now a.giver a.taker _ _ a.quantity _ _ _ e.giver_is e.taker_is c.ranges.quantity
+    c.value_at-giver_holds.ensures c.value_at-taker_holds.ensures c.swap_results.ensures in
+    swap_stored a.sheet.now a.table.now x a.giver a.taker a.quantity c.in_ok-i.ensures.number (sym c.if-no_swap.false ∙ n)
+    q.lent (slice_bytes a.table.now (search rules)) q.owes (rw e.giver_is at e.giver_low) (rw e.taker_is at e.taker_low)
+    (rw e.giver_is at e.giver_entry) (rw e.taker_is at e.taker_entry) _ r.left r.come (some_swapped _ held c.in_ok-results.ensures.value)
+    c.store_posting.new.table c.store_posting-2.new.table
+    (stored_value a.table.now _ _ a.giver _ r.left e.giver_is c.number.ensures fits-left c.store_posting.ensures)
+    (stored_value c.store_posting.new.table _ _ a.taker _ r.come e.taker_is c.number-2.ensures fits-come c.store_posting-2.ensures)

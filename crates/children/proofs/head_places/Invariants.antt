@@ -1,13 +1,9 @@
--- `children::head_places` meets its contract. The loop's invariant: the edges of the first k places head their lists. Assumes nothing.
-use mathlib.Core.Path.{◌≡◌}
-use Prim.Native.Nat.{◌≤◌, ◌-◌}
+-- `head_places` meets its contract. The loop's invariant: the edges of the first k places head their lists. Assumes nothing.
+use Rattle.std.proofs.Common.{◌≡◌, ◌*◌}
+use Rattle.circuit.specs.Rules.{max_parents}
 use Rattle.circuit.specs.Sheet.{parents_of}
-use Rattle.item.specs.Item.{field_item}
-use Rattle.children.specs.Children.{head_places}
+use Rattle.children.specs.Children.{lists, head_places, heads_of, links_of, lists_of}
 use Rattle.children.proofs.head_places.Given as goal
 
 abbrev pub invariant-loop-k : goal.invariant-loop-k
-invariant-loop-k l = (l.k ≤ l.count) × (l.heads ≡ head_places l.initial.heads l.first (parents_of (field_item l.s l.at)) l.k)
-
-abbrev pub decreases-loop-k : goal.decreases-loop-k
-decreases-loop-k l = l.count - l.k
+invariant-loop-k l = lists_of l.kin ≡ lists (head_places (heads_of l.initial.kin) (max_parents * l.c) (parents_of l.item) l.k) (links_of l.initial.kin)

@@ -4,8 +4,8 @@ use lib.ListN.{length}
 use Rattle.day_meaning.proofs.Playing.{Playing}
 use Rattle.day.proofs.play.Given as goal
 
-abbrev pub invariant-loop-out : goal.invariant-loop-out
-invariant-loop-out l = Playing l.sheet l.index l.log l.initial.table l.initial.out l.table l.out l.at l.count
+abbrev pub invariant-loop-placed : goal.invariant-loop-placed
+invariant-loop-placed l = Playing l.sheet l.index l.log l.initial.table l.initial.out l.table l.out l.at l.count
 
-abbrev pub decreases-loop-out : goal.decreases-loop-out
-decreases-loop-out l = length l.log - l.at
+abbrev pub decreases-loop-placed : goal.decreases-loop-placed
+decreases-loop-placed l = length l.log - l.at

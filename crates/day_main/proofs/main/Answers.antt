@@ -6,8 +6,8 @@ use Rattle.day_main.proofs.main.Goals as goal
 pub show_day-requires : goal.show_day-requires
 unfolding most_items item_limit
 show_day-requires c =
-    let s = c.load_sheet-s.ensures in
-    let d = c.load_log-d.ensures in
+    let s = c.load_files-s.ensures.sheet in
+    let d = c.load_files-s.ensures.log in
     record {
       sheet_fits = omega (arith, s.0, s.1);
       log_fits = omega (arith, d.0, d.1);

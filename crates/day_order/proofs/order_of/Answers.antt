@@ -11,16 +11,16 @@ pub returns-then-content-ne-CALL_LENGTH : goal.returns-then-content-ne-CALL_LENG
 returns-then-content-ne-CALL_LENGTH c = order_length _ _ c.if-tag-eq-POST_TAG.false c.if-content-ne-CALL_LENGTH.true
 
 pub returns-in-17 : goal.returns-in-17
-returns-in-17 c = order_ask _ _ _ c.if-content-ne-CALL_LENGTH.false c.u16_at-item.ensures.0 c.in-17.is
+returns-in-17 c = order_ask _ _ _ c.if-content-ne-CALL_LENGTH.false c.u16_at-item.ensures.value c.in-17.is
 
 pub returns-in-18 : goal.returns-in-18
-returns-in-18 c = order_keep _ _ _ c.if-content-ne-CALL_LENGTH.false c.u16_at-item.ensures.0 c.in-18.is
+returns-in-18 c = order_keep _ _ _ c.if-content-ne-CALL_LENGTH.false c.u16_at-item.ensures.value c.in-18.is
 
 pub returns-in-19 : goal.returns-in-19
-returns-in-19 c = order_drop _ _ _ c.if-content-ne-CALL_LENGTH.false c.u16_at-item.ensures.0 c.in-19.is
+returns-in-19 c = order_drop _ _ _ c.if-content-ne-CALL_LENGTH.false c.u16_at-item.ensures.value c.in-19.is
 
 pub returns-in-20 : goal.returns-in-20
-returns-in-20 c = order_step _ _ _ c.if-content-ne-CALL_LENGTH.false c.u16_at-item.ensures.0 c.in-20.is
+returns-in-20 c = order_step _ _ _ c.if-content-ne-CALL_LENGTH.false c.u16_at-item.ensures.value c.in-20.is
 
 pub returns-in_default : goal.returns-in_default
 returns-in_default c =

@@ -6,14 +6,8 @@ use lib.ListN.{length}
 use Rattle.decimal.proofs.Digits.{digits_small, length_more, length_pos, length_word}
 use Rattle.decimal.proofs.digit_count.Goals as goal
 
-pub loop-left-init : goal.loop-left-init
-loop-left-init c = omega arith
-
 pub overflow_add-count : goal.overflow_add-count
 overflow_add-count c = omega (arith, c.loop-left.invariant, length_pos c.loop-left.left, length_word c.args.m c.ranges.m.fits)
-
-pub loop-left-smaller : goal.loop-left-smaller
-loop-left-smaller c = omega (arith, c.loop-left-test.true)
 
 pub loop-left-preserved : goal.loop-left-preserved
 loop-left-preserved c = omega (arith, c.loop-left.invariant, length_more c.loop-left.left (omega (arith, c.loop-left-test.true)))

@@ -17,4 +17,4 @@ returns-then-n-start c = sym (cut_no_content _ _ (omega arith) (omega arith))
 pub returns : goal.returns
 returns c =
     let u = c.u16_at-len in
-    sym (cut_whole_at _ _ u.result u.ensures.0 (omega arith))
+    sym (cut_whole_at _ _ u.result u.ensures.value (omega arith))

@@ -11,8 +11,8 @@ returns c =
     let l = c.args.index.now in
     let at = c.args.at in
     let g = c.type_inv.index in
-    let e₁ = c.u16_at-low.ensures.0 in
-    let e₂ = c.u16_at-high.ensures.0 in
+    let e₁ = c.u16_at-low.ensures.value in
+    let e₂ = c.u16_at-high.ensures.value in
     let low : c.u16_at-low.result ≡ get_or l at 0 + 256 * get_or l (at + 1) 0 = e₁ in
     let high : c.u16_at-high.result ≡ get_or l (at + 2) 0 + 256 * get_or l (at + 3) 0 = e₂ ∙ ap (λ j. get_or l (at + 2) 0 + 256 * get_or l j 0) (omega arith) in
     rw (low, high)

@@ -1,13 +1,9 @@
 -- `item::put_offset` meets its contract. Assumes nothing.
+use mathlib.Core.Path.{◌∙◌}
 use native.Mathlib.Omega.{arith}
-use lib.ListN.{length-set}
+use Rattle.item.proofs.Offsets.{put_is, low_bytes}
 use Rattle.item.proofs.put_offset.Goals as goal
 
-pub bounds-index-at-2 : goal.bounds-index-at-2
-bounds-index-at-2 c = simp length-set (omega arith)
-
-pub bounds-index-at-3 : goal.bounds-index-at-3
-bounds-index-at-3 c = simp length-set (omega arith)
-
-pub bounds-index-at-4 : goal.bounds-index-at-4
-bounds-index-at-4 c = simp length-set (omega arith)
+pub returns : goal.returns
+returns c =
+    put_is _ _ _ _ _ (c.copy_from_slice.ensures.after ∙ c.to_le_bytes.ensures ∙ low_bytes c.args.offset) (omega arith) c.requires

@@ -1,5 +1,5 @@
 -- Each look-up that working out makes is of a lower item.
-use Rattle.std.proofs.Common.{◌+◌, ◌*◌, ◌-◌}
+use Rattle.std.proofs.Common.{◌+◌, ◌*◌}
 use Rattle.looking.proofs.Gathering.{Going}
 use Rattle.looking.proofs.+look_unstored_look_up_work_out.Given as goal
 
@@ -13,8 +13,4 @@ abbrev pub decreases-work_out : goal.decreases-work_out
 decreases-work_out l = 3 * l.i
 
 abbrev pub invariant-work_out-loop-k : goal.invariant-work_out-loop-k
-invariant-work_out-loop-k l =
-    Going l.sheet l.offsets l.fn.table l.fn.tags l.fn.numbers l.generation l.i l.at l.count l.k l.table l.tags l.numbers l.kinds l.amounts l.flag
-
-abbrev pub decreases-work_out-loop-k : goal.decreases-work_out-loop-k
-decreases-work_out-loop-k l = l.count - l.k
+invariant-work_out-loop-k l = Going l.sheet l.fn.table l.fn.memo l.i l.item l.count l.k l.table l.memo l.values l.flag

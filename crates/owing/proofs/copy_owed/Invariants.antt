@@ -1,11 +1,7 @@
 -- `owing::copy_owed` meets its contract. The loop's invariant: the owed bytes of the first i items are copied. Assumes nothing.
-use Prim.Native.Nat.{◌-◌}
 use lib.ListN.{length}
 use Rattle.owing.proofs.Writing.{Copied}
 use Rattle.owing.proofs.copy_owed.Given as goal
 
 abbrev pub invariant-loop-i : goal.invariant-loop-i
-invariant-loop-i l = Copied l.table l.n (length l.initial.owed) l.i l.owed
-
-abbrev pub decreases-loop-i : goal.decreases-loop-i
-decreases-loop-i l = l.n - l.i
+invariant-loop-i l = Copied l.table (length l.initial.owed) l.i l.owed

@@ -6,7 +6,4 @@ use Rattle.owing.proofs.Passing.{Passed}
 use Rattle.owing.proofs.owe.Given as goal
 
 abbrev pub invariant-loop-c : goal.invariant-loop-c
-invariant-loop-c l = Passed (sheet_of l.s) (decode_table l.table) (length l.initial.owed) l.c l.owed
-
-abbrev pub decreases-loop-c : goal.decreases-loop-c
-decreases-loop-c l = l.c
+invariant-loop-c l = Passed (sheet_of l.sheet) (decode_table l.table) (length l.initial.owed) l.c l.owed

@@ -1,27 +1,16 @@
--- `owing::owed_matches` meets its contract. The loop's invariant: the owed bytes of the first i items are those of the array. Assumes nothing.
+-- `owing::owed_matches` meets its contract: std's `all` over the items. Assumes nothing.
+use mathlib.Core.Path.{◌≡◌, refl}
 use native.Mathlib.Omega.{arith}
-use mathlib.Core.Path.{◌≡◌, refl, sym, ap, ◌∙◌}
-use Rattle.table.specs.Rows.{all_below}
-use Rattle.owing.proofs.Writing.{matches, match_next, match_not}
+use mathlib.Core.Bool.{true, false}
+use lib.ListN.{length}
+use borrow.Author.Tests.{tests}
+use Rattle.std.proofs.Common.{rules}
+use Rattle.std.proofs.lemmas.Iterator.{cases_from_all, YieldsList-from_range}
+use Rattle.owing.proofs.Writing.{matches, all_found}
 use Rattle.owing.proofs.owed_matches.Goals as goal
-
-pub loop-i-init : goal.loop-i-init
-unfolding all_below
-loop-i-init c = (omega arith, refl)
-
-pub returns-then-table-i : goal.returns-then-table-i
-returns-then-table-i c =
-    let a = c.args in
-    match_not a.table.now a.owed.now c.loop-i.i a.n c.loop-i-test.true c.if-table-i.true
-
-pub loop-i-preserved : goal.loop-i-preserved
-loop-i-preserved c =
-    let a = c.args in
-    let l = c.loop-i in
-    (omega arith, match_next a.table.now a.owed.now l.i c.if-table-i.false l.invariant.1)
 
 pub returns : goal.returns
 returns c =
-    let a = c.args in
-    let all : c.loop-i.i ≡ a.n = omega (arith, c.loop-i-test.false, c.loop-i.invariant.0) in
-    sym (ap (all_below (matches a.table.now a.owed.now)) (sym all) ∙ c.loop-i.invariant.1)
+    all_found (matches c.args.table.now c.args.owed.now) (length c.args.owed.now) c.all.result
+    (cases_from_all _ _ c.all.result (λ i. matches c.args.table.now c.args.owed.now i ≡ true) (λ i. matches c.args.table.now c.args.owed.now i ≡ false) c.all.ensures.ran
+    (YieldsList-from_range 0 (length c.args.owed.now) (length c.args.owed.now) refl (omega arith)) (λ x q k. search (rules, tests)) (λ x q k. search (rules, tests)))

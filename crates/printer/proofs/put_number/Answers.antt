@@ -10,7 +10,7 @@ use Rattle.printer.proofs.put_number.Goals as goal
 
 pub put_digits-requires : goal.put_digits-requires
 put_digits-requires c =
-    let m = c.magnitude-m.ensures ∙ ap nat_abs (to_z-of_z w64 c.args.z c.ranges.z) in
+    let m = c.unsigned_abs-m.ensures.value ∙ ap nat_abs (to_z-of_z w64 c.args.z c.ranges.z) in
     simp length-set (omega (arith, ap (λ k. length (digits k)) m, magnitude_fits c.args.z c.ranges.z, c.requires))
 
 pub returns-then-z-lt0 : goal.returns-then-z-lt0
@@ -18,13 +18,13 @@ returns-then-z-lt0 c =
     let read = to_z-of_z w64 c.args.z c.ranges.z in
     number_below c.args.z c.args.scratch.now _ _ _
     (sym (ap (λ x. lt_z x (pos 0)) read) ∙ c.if-z-lt0.true)
-    (c.magnitude-m.ensures ∙ ap nat_abs read)
+    (c.unsigned_abs-m.ensures.value ∙ ap nat_abs read)
     (omega (arith, c.requires))
     c.put_digits.ensures
 
 pub put_digits-requires-2 : goal.put_digits-requires-2
 put_digits-requires-2 c =
-    let m = c.magnitude-m.ensures ∙ ap nat_abs (to_z-of_z w64 c.args.z c.ranges.z) in
+    let m = c.unsigned_abs-m.ensures.value ∙ ap nat_abs (to_z-of_z w64 c.args.z c.ranges.z) in
     omega (arith, ap (λ k. length (digits k)) m, magnitude_fits c.args.z c.ranges.z, c.requires)
 
 pub returns : goal.returns
@@ -32,5 +32,5 @@ returns c =
     let read = to_z-of_z w64 c.args.z c.ranges.z in
     number_above c.args.z c.args.scratch.now _ _ _
     (sym (ap (λ x. lt_z x (pos 0)) read) ∙ c.if-z-lt0.false)
-    (c.magnitude-m.ensures ∙ ap nat_abs read)
+    (c.unsigned_abs-m.ensures.value ∙ ap nat_abs read)
     c.put_digits-2.ensures

@@ -1,25 +1,21 @@
 -- `rules::difference` meets its contract. Assumes nothing.
-use Rattle.std.proofs.Common.{rules}
+use Rattle.std.proofs.Common.{rules, ◌≡◌, ◌-ℤ◌}
 use Rattle.circuit.specs.Rules as rules
-use Rattle.circuit.proofs.View.{never}
+use Rattle.circuit.specs.Value as circuit
+use Rattle.value.proofs.Signed.{read}
 use Rattle.value.specs.Meaning.{meaning}
-use Rattle.rules.proofs.Pairs.{two_out, difference_null, difference_is, number_fits}
+use Rattle.rules.proofs.Pairs.{numbers_fit, numbers_less}
 use Rattle.rules.proofs.difference.Goals as goal
 
-pub returns-then-either_out : goal.returns-then-either_out
-returns-then-either_out c = two_out _ _ _ c.either_out.ensures rules.difference (λ e. never (cc)) c.if-either_out.true
+pub overflow_sub-number_or_zero : goal.overflow_sub-number_or_zero
+overflow_sub-number_or_zero c =
+    numbers_fit (meaning c.args.a) (meaning c.args.b) _ _ (search rules) (search rules)
+    c.number_or_zero.ensures c.number_or_zero-in_default.ensures c.requires.a_formed c.requires.b_formed
 
-pub returns-then-both_null : goal.returns-then-both_null
-returns-then-both_null c =
-    difference_null _ _ _ c.either_out.ensures c.if-either_out.false _ c.both_null.ensures c.if-both_null.true
-
-pub minus-requires-clause-x_in_range : goal.minus-requires-clause-x_in_range
-minus-requires-clause-x_in_range c = number_fits (meaning c.args.a) _ (search rules) c.number_or_zero.ensures c.requires.a_formed
-
-pub minus-requires-clause-y_in_range : goal.minus-requires-clause-y_in_range
-minus-requires-clause-y_in_range c = number_fits (meaning c.args.b) _ (search rules) c.number_or_zero-2.ensures c.requires.b_formed
-
-pub returns : goal.returns
-returns c =
-    difference_is _ _ _ c.either_out.ensures c.if-either_out.false _ _ c.number_or_zero.ensures c.number_or_zero-2.ensures
-    (search rules) (search rules) _ c.both_null.ensures c.if-both_null.false _ _ (search rules) c.minus.ensures c.exact.ensures
+pub returns-in_default : goal.returns-in_default
+unfolding rules.apply rules.any_out
+returns-in_default c =
+    let less : read (read c.number_or_zero.result -ℤ read c.number_or_zero-in_default.result) ≡ (circuit.number_of (meaning c.args.a) -ℤ circuit.number_of (meaning c.args.b)) =
+    numbers_less (meaning c.args.a) (meaning c.args.b) _ _ (search rules) (search rules) c.number_or_zero.ensures c.number_or_zero-in_default.ensures
+    c.requires.a_formed c.requires.b_formed in
+    search rules

@@ -1,12 +1,6 @@
-use Rattle.std.proofs.Common.{sym, ◌∙◌}
 use Rattle.stepping.proofs.Stepping.{steps_noticed, steps_unnoticed}
 use Rattle.owing.specs.Owing.{says_owed}
 use Rattle.stepping.proofs.step_item.Goals as goal
-
-pub step_refresh-requires : goal.step_refresh-requires
-step_refresh-requires c =
-    let q = c.requires in
-    record { fact_1 = q.fact_1; fact_2 = q.fact_2; fact_3 = q.fact_3.low; fact_4 = sym c.is_noticed.ensures ∙ c.if-is_noticed.false }
 
 pub returns-then-is_noticed : goal.returns-then-is_noticed
 returns-then-is_noticed c =

@@ -1,33 +1,26 @@
-use Rattle.stepping.proofs.Stepping.{ready_memo, nothing_above, step_unnoticed, step_unmarked, refresh_renewable, step_refresh, step_notice}
+use Rattle.std.proofs.Common.{sym}
+use Rattle.stepping.proofs.Stepping.{ready_memo, step_unnoticed, step_unmarked, refresh_renewable, step_refresh}
 use Rattle.stepping.proofs.step_refresh.Goals as goal
 
-pub renew-requires : goal.renew-requires
-renew-requires c =
-    let q = c.requires in
-    let rc = c.read_cell in
-    record {
-      fact_1 = q.fact_1;
-      fact_2 = ready_memo q.fact_2 _;
-      fact_3 = nothing_above q.fact_2 c.args.i;
-      fact_4 = refresh_renewable q.fact_1 q.fact_2 q.fact_3 rc.result rc.ensures _ _ c.in-Held.is c.in-Refresh.is;
-    }
+pub renew-requires-clause-right : goal.renew-requires-clause-right
+renew-requires-clause-right c = ready_memo c.requires.ready _
 
-pub returns-in-Unk : goal.returns-in-Unk
-returns-in-Unk c =
+pub renew-requires-clause-renewable : goal.renew-requires-clause-renewable
+renew-requires-clause-renewable c =
     let q = c.requires in
-    step_unnoticed q.fact_1 q.fact_2 q.fact_3 c.read_cell.result c.read_cell.ensures _ c.in-Unk.is q.fact_4
+    refresh_renewable q.lent q.ready q.within _ c.in-Held.mark c.in-Held.ensures (sym c.if-eq.ensures)
 
-pub returns-in-Unmarked : goal.returns-in-Unmarked
-returns-in-Unmarked c =
+pub returns-then-eq : goal.returns-then-eq
+returns-then-eq c =
     let q = c.requires in
-    step_unmarked q.fact_1 q.fact_2 q.fact_3 c.read_cell.result c.read_cell.ensures _ _ c.in-Held.is c.in-Unmarked.is
+    step_refresh q.lent q.ready q.within _ c.in-Held.mark c.in-Held.ensures (sym c.if-eq.ensures) c.renew.ensures
 
-pub returns-in-Refresh : goal.returns-in-Refresh
-returns-in-Refresh c =
+pub returns-else-eq : goal.returns-else-eq
+returns-else-eq c =
     let q = c.requires in
-    step_refresh q.fact_1 q.fact_2 q.fact_3 c.read_cell.result c.read_cell.ensures _ _ c.in-Held.is c.in-Refresh.is c.renew.ensures
+    step_unmarked q.lent q.ready q.within _ c.in-Held.mark c.in-Held.ensures (sym c.if-eq.ensures) q.unnoticed
 
-pub returns-in-Notice : goal.returns-in-Notice
-returns-in-Notice c =
+pub returns-in_default : goal.returns-in_default
+returns-in_default c =
     let q = c.requires in
-    step_notice q.fact_1 q.fact_2 q.fact_3 c.read_cell.result c.read_cell.ensures _ _ c.in-Held.is c.in-Notice.is q.fact_4
+    step_unnoticed q.lent q.ready q.within _ c.in_default.ensures q.unnoticed

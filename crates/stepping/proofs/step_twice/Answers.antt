@@ -1,30 +1,16 @@
-use Rattle.std.proofs.Common.{refl, sym}
-use Rattle.stepping.proofs.Ascending.{second_lent, second_ready, stepped_twice, ready_before}
+use Rattle.std.proofs.Common.{ap, ◌∙◌, arith}
+use Rattle.item.proofs.Located.{size_most}
+use Rattle.stepping.proofs.Ascending.{stepped_twice}
 use Rattle.owing.specs.Owing.{says_owed}
 use Rattle.stepping.proofs.step_twice.Goals as goal
 
-pub step_item-requires : goal.step_item-requires
-step_item-requires c =
-    let q = c.requires in
-    record { fact_1 = q.fact_1; fact_2 = ready_before q.fact_2 q.fact_3; fact_3 = q.fact_4 }
+pub begin-requires : goal.begin-requires
+begin-requires c = record { generation_fits = omega (arith, size_most c.args.sheet.now, c.requires.telling.low) }
 
-pub step_marked-requires : goal.step_marked-requires
-step_marked-requires c =
-    let a = c.args in
-    let q = c.requires in
-    let l = c.step_item in
-    let marked = sym q.fact_5 in
-    let n = l.new.numbers in
-    record {
-      fact_1 = second_lent (says_owed a.owed.now) q.fact_1 q.fact_2 a.i _ marked refl _ _ n l.auto.table l.auto.tags l.auto.numbers l.ensures;
-      fact_2 = second_ready (says_owed a.owed.now) q.fact_1 q.fact_2 a.i _ marked refl _ _ n l.auto.table l.auto.tags l.auto.numbers l.ensures;
-      fact_3 = q.fact_4;
-    }
+pub begin-requires-2 : goal.begin-requires-2
+begin-requires-2 c = record { generation_fits = omega (arith, size_most c.args.sheet.now, c.requires.telling.low) }
 
 pub returns : goal.returns
 returns c =
-    let a = c.args in
     let q = c.requires in
-    let l = c.step_item in
-    stepped_twice (says_owed a.owed.now) q.fact_1 q.fact_2 a.i _ (sym q.fact_5) refl _ _ l.new.numbers l.auto.table l.auto.tags
-    l.auto.numbers l.ensures c.step_marked.ensures
+    stepped_twice (says_owed c.args.owed.now) q.lent c.args.i q.marked c.step_item.ensures _ (ap (λ m. m.generation) c.begin-2.ensures ∙ omega arith) c.step_marked.ensures

@@ -1,21 +1,16 @@
--- `table::lowest_marked` meets its contract. The loop's invariant: no item below i is marked. Assumes nothing.
-use native.Mathlib.Omega.{arith}
-use mathlib.Core.Path.{sym, ◌∙◌}
-use Rattle.table.proofs.Marks.{search_next, search_found, search_done}
+-- `table::lowest_marked` meets its contract: std's search over a range finds the first. Assumes nothing.
+use mathlib.Core.Path.{◌≡◌}
+use mathlib.Core.Bool.{true, false}
+use borrow.Author.Tests.{tests}
+use Rattle.std.proofs.Common.{rules}
+use Rattle.std.proofs.lemmas.Iterator.{first_from_Range}
+use Rattle.circuit.specs.Table.{is_marked}
+use Rattle.table.specs.Bytes.{decode_table}
+use Rattle.table.proofs.Marks.{lowest_found}
 use Rattle.table.proofs.lowest_marked.Goals as goal
-
-pub loop-i-init : goal.loop-i-init
-loop-i-init c =
-    record { within = omega arith; none_below = λ i h. absurd (omega arith) }
-
-pub returns-then-is_marked : goal.returns-then-is_marked
-returns-then-is_marked c =
-    search_found c.loop-i.invariant (sym c.is_marked.ensures ∙ c.if-is_marked.true)
-
-pub loop-i-preserved : goal.loop-i-preserved
-loop-i-preserved c =
-    search_next c.loop-i.invariant c.loop-i-test.true (sym c.is_marked.ensures ∙ c.if-is_marked.false)
 
 pub returns : goal.returns
 returns c =
-    search_done c.loop-i.invariant c.loop-i-test.false
+    lowest_found (decode_table c.args.table.now) c.args.n c.find.result
+    (first_from_Range _ _ _ c.find.result (λ i. is_marked (decode_table c.args.table.now i) ≡ true) (λ i. is_marked (decode_table c.args.table.now i) ≡ false) c.find.ensures.ran
+    (λ x q k. search (rules, tests)) (λ x q k. search (rules, tests)))

@@ -1,30 +1,30 @@
 -- `table::store_cell` meets its contract: each way stores the record of its case. Assumes nothing.
-use Rattle.table.proofs.Cases.{unk_notice, unk_unmarked, held_stored}
+use mathlib.Core.Path.{◌≡◌, refl}
+use lib.IntN.{pos}
+use mir.Syntax.{w64}
+use mir.ValLaws.{to_z-of_z}
+use native.Mathlib.Omega.{arith}
+use Rattle.table.specs.Record.{record_of, mark_code, encode_cell}
+use Rattle.table.specs.Meaning.{mark_meaning, cell_meaning}
+use Rattle.table.proofs.Cases.{record_stored}
 use Rattle.table.proofs.store_cell.Goals as goal
 
-pub returns-then-noticed : goal.returns-then-noticed
-returns-then-noticed c =
-    unk_notice c.args.table.now
-    c.args.i c.store_record.new.table
-    c.args.cell c.in-Unk.noticed
-    c.in-Unk.is c.if-noticed.true c.store_record.ensures
+pub returns-in-Unk-true : goal.returns-in-Unk-true
+unfolding encode_cell
+returns-in-Unk-true c =
+    let is : encode_cell (cell_meaning c.args.cell) ≡ record_of 0 2 (pos 0) = rw (c.in-Unk-true.is, c.in-Unk-true.field-0-test) refl in
+    record_stored c.args.table.now c.args.i _ _ (cell_meaning c.args.cell) _ _ is (omega arith) (omega arith) c.requires c.store_record.ensures
 
-pub returns-else-noticed : goal.returns-else-noticed
-returns-else-noticed c =
-    unk_unmarked c.args.table.now
-    c.args.i c.store_record-else-noticed.new.table
-    c.args.cell c.in-Unk.noticed
-    c.in-Unk.is c.if-noticed.false c.store_record-else-noticed.ensures
+pub returns-in-Unk-false : goal.returns-in-Unk-false
+unfolding encode_cell
+returns-in-Unk-false c =
+    let is : encode_cell (cell_meaning c.args.cell) ≡ record_of 0 0 (pos 0) = rw (c.in-Unk-false.is, c.in-Unk-false.field-0-test) refl in
+    record_stored c.args.table.now c.args.i _ _ (cell_meaning c.args.cell) _ _ is (omega arith) (omega arith) c.requires c.store_record-in-Unk-false.ensures
 
 pub returns-in-Held : goal.returns-in-Held
+unfolding encode_cell
 returns-in-Held c =
-    held_stored c.args.table.now
-    c.args.i c.store_record-in-Held.new.table
-    c.args.cell
-    c.in-Held.v c.in-Held.m
-    c.kind.result c.mark_code.result c.number_or_zero.result
-    c.in-Held.is c.kind.ensures
-    c.mark_code.ensures c.number_or_zero.ensures (record {
-      sfits =
-          c.number_or_zero.type_inv;
-    }) c.store_record-in-Held.ensures
+    let is : encode_cell (cell_meaning c.args.cell) ≡ record_of c.kind.result (mark_code (mark_meaning c.in-Held.m)) c.number_or_zero.result =
+    rw (c.in-Held.is, c.kind.ensures, c.number_or_zero.ensures) refl in
+    record_stored c.args.table.now c.args.i _ _ (cell_meaning c.args.cell) _ _ is (omega arith) (omega arith) c.requires
+    (rw (to_z-of_z w64 _ (record { sfits = c.number_or_zero.type_inv })) at c.store_record-in-Held.ensures)

@@ -1,12 +1,12 @@
 -- `tally::count` meets its contract. Assumes nothing.
-use Rattle.std.proofs.Common.{◌∙◌, arith}
-use Rattle.value.proofs.Parents.{first_values-length}
-use Rattle.tally.proofs.Tallies.{count_fits, count_is}
+use Rattle.std.proofs.Common.{rules}
+use Rattle.std.proofs.lemmas.List.{length-map}
+use Rattle.value.specs.Meaning.{meanings}
+use Rattle.tally.proofs.Tallies.{count_is, count_small}
 use Rattle.tally.proofs.count.Goals as goal
 
-pub overflow_cast-t : goal.overflow_cast-t
-overflow_cast-t c = count_fits _ _ c.tally_of-t.ensures (omega (arith, first_values-length c.args.kinds.now c.args.numbers.now c.args.n))
+pub ruled-requires-clause-callable : goal.ruled-requires-clause-callable
+ruled-requires-clause-callable c = count_small (meanings c.args.values.now) (rw length-map c.requires.few)
 
 pub returns : goal.returns
-returns c =
-    c.ruled.ensures ∙ count_is _ _ c.tally_of-t.ensures (omega (arith, first_values-length c.args.kinds.now c.args.numbers.now c.args.n))
+returns c = search (rules, count_is)

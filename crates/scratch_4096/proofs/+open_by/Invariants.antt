@@ -1,5 +1,0 @@
--- `open_by` never calls itself, since the item count that the sheet says stays: so any measure serves. Assumes nothing.
-use Rattle.scratch_4096.proofs.+open_by.Given as goal
-
-abbrev pub decreases-open_by : goal.decreases-open_by
-decreases-open_by l = 0
