@@ -34,8 +34,8 @@ admits {s} {x} {t} {S} a =
     rw e (record { lent = record { length_is = g.table_length_lem; formed = g.formed }; owes = g.owes })
 
 -- with bytes for as many items, which are no fewer afterwards
-pub byte_room : {s x t S : List ℕ} → AllAdmitted s x t S → {offsets bytes : List ℕ} → Room s offsets bytes → {n : ℕ} → n ≡ length bytes → size (sheet_of S) ≤ n
-byte_room {s} a room same = let e = a.sheet_is in rw e (omega (arith, size_room s, room.1, same))
+pub byte_room : {s x t S : List ℕ} → AllAdmitted s x t S → (offsets bytes : List ℕ) → Room s offsets bytes → {n : ℕ} → n ≡ length bytes → size (sheet_of S) ≤ n
+byte_room {s} a offsets bytes room same = let e = a.sheet_is in rw e (omega (arith, size_room s, room.1, same))
 
 -- the whole call is the one that is left
 pub whole_call : {s x t S : List ℕ} → AllAdmitted s x t S → (c : Call) → call_on s (keeping x t) c ≡ call_lent (sheet_of S) x t c

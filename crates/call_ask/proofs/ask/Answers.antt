@@ -17,7 +17,7 @@ pub ask_lent-requires-clause-owes : goal.ask_lent-requires-clause-owes
 ask_lent-requires-clause-owes c = (admits c.in_ok-sheet.ensures).owes
 
 pub ask_lent-requires-clause-owed_room : goal.ask_lent-requires-clause-owed_room
-ask_lent-requires-clause-owed_room c = byte_room c.in_ok-sheet.ensures c.requires.room c.admitted.auto.levels
+ask_lent-requires-clause-owed_room c = byte_room c.in_ok-sheet.ensures _ _ c.requires.room c.admitted.auto.levels
 
 pub returns-in_err-value : goal.returns-in_err-value
 returns-in_err-value c =

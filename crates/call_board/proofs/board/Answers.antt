@@ -16,7 +16,7 @@ pub board_lent-requires-clause-owes : goal.board_lent-requires-clause-owes
 board_lent-requires-clause-owes c = (admits c.in_ok-sheet.ensures).owes
 
 pub board_lent-requires-clause-owed_room : goal.board_lent-requires-clause-owed_room
-board_lent-requires-clause-owed_room c = byte_room c.in_ok-sheet.ensures c.requires.room c.admitted.auto.levels
+board_lent-requires-clause-owed_room c = byte_room c.in_ok-sheet.ensures _ _ c.requires.room c.admitted.auto.levels
 
 pub returns-in_err-board_lent : goal.returns-in_err-board_lent
 returns-in_err-board_lent c =

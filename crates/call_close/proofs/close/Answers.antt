@@ -14,7 +14,7 @@ pub close_lent-requires : goal.close_lent-requires
 close_lent-requires c =
     record {
       lent = (admits c.in_ok-sheet.ensures).lent;
-      owed_room = byte_room c.in_ok-sheet.ensures c.requires.room c.admitted.auto.levels;
+      owed_room = byte_room c.in_ok-sheet.ensures _ _ c.requires.room c.admitted.auto.levels;
     }
 
 pub returns : goal.returns

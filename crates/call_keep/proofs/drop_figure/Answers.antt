@@ -13,7 +13,7 @@ pub drop_lent-requires-clause-lent : goal.drop_lent-requires-clause-lent
 drop_lent-requires-clause-lent c = (admits c.in_ok-sheet.ensures).lent
 
 pub drop_lent-requires-clause-owed_room : goal.drop_lent-requires-clause-owed_room
-drop_lent-requires-clause-owed_room c = byte_room c.in_ok-sheet.ensures c.requires.room c.admitted.auto.levels
+drop_lent-requires-clause-owed_room c = byte_room c.in_ok-sheet.ensures _ _ c.requires.room c.admitted.auto.levels
 
 pub returns-in_err-drop_lent : goal.returns-in_err-drop_lent
 returns-in_err-drop_lent c =

@@ -13,7 +13,7 @@ pub keep_lent-requires-clause-lent : goal.keep_lent-requires-clause-lent
 keep_lent-requires-clause-lent c = (admits c.in_ok-sheet.ensures).lent
 
 pub keep_lent-requires-clause-owed_room : goal.keep_lent-requires-clause-owed_room
-keep_lent-requires-clause-owed_room c = byte_room c.in_ok-sheet.ensures c.requires.room c.admitted.auto.levels
+keep_lent-requires-clause-owed_room c = byte_room c.in_ok-sheet.ensures _ _ c.requires.room c.admitted.auto.levels
 
 pub returns-in_err-keep_lent : goal.returns-in_err-keep_lent
 returns-in_err-keep_lent c =

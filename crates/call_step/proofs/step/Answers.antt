@@ -16,7 +16,7 @@ pub step_lent-requires-clause-owes : goal.step_lent-requires-clause-owes
 step_lent-requires-clause-owes c = (admits c.in_ok-sheet.ensures).owes
 
 pub step_lent-requires-clause-owed_room : goal.step_lent-requires-clause-owed_room
-step_lent-requires-clause-owed_room c = byte_room c.in_ok-sheet.ensures c.requires.room c.admitted.auto.levels
+step_lent-requires-clause-owed_room c = byte_room c.in_ok-sheet.ensures _ _ c.requires.room c.admitted.auto.levels
 
 pub returns-in_err-step_lent : goal.returns-in_err-step_lent
 returns-in_err-step_lent c =
