@@ -53,8 +53,7 @@ impl From<Result<Value, Fault>> for Reading {
     }
 }
 
-// Catches up, and looks item i up in the generation after those of the steps, which call_board begins so too: one function of these two
-// lines would have to repeat the five facts of catching up.
+// Catches up, and looks item i up in the generation after those of the steps, which call_board begins so too (catching says why).
 fn caught_up(
     sheet: &Sheet<'_>,
     table: &mut [u8],

@@ -84,8 +84,7 @@ fn show_each(
     }
 }
 
-// Catches up, and shows the items in the generation after those of the steps, which call_ask begins so too: one function of these two
-// lines would have to repeat the five facts of catching up.
+// Catches up, and shows the items in the generation after those of the steps, which call_ask begins so too (catching says why).
 fn show(
     sheet: &Sheet<'_>,
     table: &mut [u8],

@@ -17,7 +17,7 @@ use cause::{Cause, Fault};
 use item::{Kind, Sheet};
 use value::Value;
 
-// The value of a post, if it can be posted (13).
+// The value of a post, if it can be posted (13). (The call takes a kind and a number, as C gives them, since 13 comes after 11 and 12.)
 #[tactic(auto, unfolding(circuit::specs::Value::parts_of, circuit::specs::Calls::posted_value))]
 fn posted(kind: u64, number: i64) -> Option<Value>
     ensures { parts_meaning result ≡ machine_calls.posted_value kind number }

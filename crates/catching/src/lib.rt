@@ -16,7 +16,8 @@ use memo::Memo;
 
 // Steps until no item is marked, from the lowest on. Telling goes by the owed bytes that the table has at the start, which stay true.
 // What is in the memo, the child lists and the array afterwards is left free, but for the generations of the memo: each step begins one.
-// Ask and board begin the one in which they look up themselves, with one line each: what it is for stands in their own contracts.
+// Ask and board begin the one in which they look up themselves, with one line each: at the end here it would come after a branch, and
+// so want a second function with the same five facts.
 // (The five facts stand as clauses, here and in the calls that catch up: a record of them would be taken apart for each function that needs one.)
 pub fn catch_up(
     sheet: &Sheet<'_>,

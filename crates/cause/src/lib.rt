@@ -29,7 +29,7 @@ pub enum Cause {
 }
 
 impl Cause {
-    // The number that C and a day's lines give.
+    // The number that C and a day's lines give. (A method, and no From: what it means stands at the places that ask for a number.)
     pub fn number(self) -> u64
         ensures { result ≡ number_of self }
     {
@@ -37,7 +37,8 @@ impl Cause {
     }
 }
 
-// A refusal: its cause, and the offset of the field at which it was found, 0 where no field has it.
+// A refusal: its cause, and the offset of the field at which it was found, 0 where no field has it. (No Option: C and the definitions give 0,
+// which is the first field's offset too.)
 #[derive(Clone, Copy, PartialEq, Eq, Debug)]
 pub struct Fault {
     pub cause: Cause,

@@ -80,7 +80,8 @@ impl<'a> Model for Children<'a> {
     ghost view = { λ c. family (lists_of c.kin.now) c.built };
 }
 
-// Each edge of item c is linked to the edge that heads the list of its parent.
+// Each edge of item c is linked to the edge that heads the list of its parent. (Two walks over the parents, here and below: one that also
+// headed the list would link the second edge of a parent that is listed twice to the first, and tell that child twice.)
 #[tactic(auto, unfolding(circuit::specs::Rules::max_parents))]
 fn link_places(kin: &mut [Kin], item: &Item<'_>, c: usize)
     requires here { c < length kin.old }

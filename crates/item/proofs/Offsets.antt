@@ -7,12 +7,13 @@ use Prim.Native.Nat.{ℕ, zero, suc, ◌+◌, ◌*◌, ◌/◌, ◌%◌, ◌≤�
 use native.Mathlib.Omega.{arith}
 use native.Mathlib.Numerals.{add-one}
 use lib.Dec.{eqb}
-use lib.ListN.{length, get_or, take, drop, length-append, length-drop, drop_of_length-le}
-use lib.Seq.{sets-eq, length-sets, take-suc, take_all, drop-cons, drop-drop, length-take-le}
+use lib.ListN.{length, get_or, take, drop, drop_of_length-le}
+use lib.Seq.{sets-eq, length-sets, take-suc, take_all, drop-cons, drop-drop}
 use mir.Syntax.{w32}
 use borrow.Rule.Slice.PartMut.{put_mid}
-use Rattle.std.specs.Int.{to_le_bytes}
+use Rattle.std.specs.Int.{to_le_bytes, from_le_bytes}
 use Rattle.std.specs.List.{list_all, range_with_len}
+use Rattle.std.proofs.lemmas.Nat.{le_bytes_4, from_le_bytes-to_le_bytes_4}
 use Rattle.std.proofs.lemmas.Slice.{take-put_mid}
 use borrow.Author.Tests.{eqb-true, eqb-false, eq-eqb}
 use Rattle.layout.specs.Layout.{index_width}
@@ -162,35 +163,27 @@ pub low_bytes : (o : ℕ) → to_le_bytes w32 (o % 4294967296) ≡ bytes32 o
 low_bytes o =
     four_bytes (o % 4294967296) (o % 256) (o / 256 % 256) (o / 65_536 % 256) (o / 16_777_216 % 256) (omega arith) (omega arith) (omega arith) (omega arith) (parts o)
 
-module _ (a b c d o : ℕ) (ha : a < 256) (hb : b < 256) (hc : c < 256) (hd : d < 256) where
-  abbrev number : ℕ
-  number = a + 256 * b + 65536 * (c + 256 * d)
+four_small : (l : List ℕ) (at : ℕ) → ((i : ℕ) → get_or l i 0 < 256) → (i : ℕ) → get_or (four_at l at) i 0 < 256
+four_small l at small zero = small at
+four_small l at small (suc zero) = small (at + 1)
+four_small l at small (suc (suc zero)) = small (at + 2)
+four_small l at small (suc (suc (suc zero))) = small (at + 3)
+four_small l at small (suc (suc (suc (suc i)))) = omega arith
 
-  -- the number's digits
-  digits : (x y z w : ℕ) → x < 256 → y < 256 → z < 256 → w < 256 → number ≡ x + 256 * y + 65536 * (z + 256 * w)
-      → (a ≡ x) × (b ≡ y) × (c ≡ z) × (d ≡ w)
-  digits x y z w hx hy hz hw e = (omega arith, omega arith, omega arith, omega arith)
+-- four bytes compared as one number, as std reads it
+number_compared : (bs : List ℕ) (n o : ℕ) → length bs ≡ 4 → ((i : ℕ) → get_or bs i 0 < 256) → n ≡ from_le_bytes w32 bs
+    → eqb n (o % 4294967296) ≡ same_bytes bs (bytes32 o)
+number_compared bs n o four small read = go (eqb n (o % 4294967296)) refl (same_bytes bs (bytes32 o)) refl
+  where
+    go : (t : Bool) → eqb n (o % 4294967296) ≡ t → (u : Bool) → same_bytes bs (bytes32 o) ≡ u → t ≡ same_bytes bs (bytes32 o)
+    go true e u f =
+        let same : bs ≡ bytes32 o = sym (le_bytes_4 bs n four small read) ∙ ap (to_le_bytes w32) (eqb-true _ _ e) ∙ low_bytes o in
+        rw same (sym (same_refl (bytes32 o)))
+    go false e false f = sym f
+    go false e true f =
+        let same : bs ≡ to_le_bytes w32 (o % 4294967296) = same_equal bs (bytes32 o) f ∙ sym (low_bytes o) in
+        absurd (eqb-false _ _ e (read ∙ ap (from_le_bytes w32) same ∙ from_le_bytes-to_le_bytes_4 (o % 4294967296) (omega arith)))
 
-  number_same : number ≡ o % 4294967296 → true ≡ same_bytes (a ∷ b ∷ c ∷ d ∷ []) (bytes32 o)
-  unfolding same_bytes
-  number_same e =
-      let q = digits (o % 256) (o / 256 % 256) (o / 65_536 % 256) (o / 16_777_216 % 256) (omega arith) (omega arith) (omega arith) (omega arith) (e ∙ parts o) in
-      rw (eq-eqb _ _ q.0, eq-eqb _ _ q.1, eq-eqb _ _ q.2, eq-eqb _ _ q.3)
-
-  number_back : same_bytes (a ∷ b ∷ c ∷ d ∷ []) (bytes32 o) ≡ true → number ≡ o % 4294967296
-  number_back e =
-      let q = same_equal (a ∷ b ∷ c ∷ d ∷ []) (bytes32 o) e in
-      let qa : a ≡ o % 256 = cc in
-      let qb : b ≡ o / 256 % 256 = cc in
-      let qc : c ≡ o / 65_536 % 256 = cc in
-      let qd : d ≡ o / 16_777_216 % 256 = cc in
-      omega (arith, parts o)
-
-  pub number_compared : eqb number (o % 4294967296) ≡ same_bytes (a ∷ b ∷ c ∷ d ∷ []) (bytes32 o)
-  number_compared = go (eqb number (o % 4294967296)) refl (same_bytes (a ∷ b ∷ c ∷ d ∷ []) (bytes32 o)) refl
-    where
-      go : (t : Bool) → eqb number (o % 4294967296) ≡ t → (u : Bool) → same_bytes (a ∷ b ∷ c ∷ d ∷ []) (bytes32 o) ≡ u
-          → t ≡ same_bytes (a ∷ b ∷ c ∷ d ∷ []) (bytes32 o)
-      go true e u f = number_same (eqb-true _ _ e)
-      go false e false f = sym f
-      go false e true f = absurd (eqb-false _ _ e (number_back f))
+pub entry_compared : (l : List ℕ) (at n o : ℕ) → ((i : ℕ) → get_or l i 0 < 256) → n ≡ from_le_bytes w32 (four_at l at)
+    → eqb n (o % 4294967296) ≡ same_bytes (four_at l at) (bytes32 o)
+entry_compared l at n o small read = number_compared (four_at l at) n o refl (four_small l at small) read

@@ -1,7 +1,6 @@
 -- The index over the list of offsets, and the equality of lists of bytes. Assumes nothing.
 use Rattle.std.specs.Prelude.{ℕ, ◌+◌, Bool, true, false, ◌&&◌, List, [], ◌∷◌, ◌++◌, eqb, get_or}
 use Rattle.std.proofs.lemmas.List.Edits.{sets}
-use Rattle.layout.specs.Layout.{index_width}
 use Rattle.layout.specs.Index.{bytes32}
 
 -- each offset in four bytes, in order

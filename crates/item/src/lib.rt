@@ -3,7 +3,7 @@
 // a parent, and the name.
 #![tactic(auto)]
 
-ghost use Rattle.std.specs.Prelude.{◌≡◌, true, ◌<◌, ◌≤◌, ◌+◌, ◌*◌, length, get_or};
+ghost use Rattle.std.specs.Prelude.{◌≡◌, true, ◌<◌, ◌≤◌, ◌+◌, ◌*◌, ◌%◌, length, get_or};
 ghost use Rattle.circuit.specs.Sheet as circuit;
 ghost use Rattle.circuit.specs.WellFormed.{all_well_formed};
 ghost use Rattle.value.specs.Meaning.{meanings};
@@ -181,15 +181,20 @@ impl<'a> Item<'a> {
     }
 }
 
+// The 32 low bits of an offset, which the index has. The remainder comes before the cast, since a cast loses nothing.
+fn low_part(offset: usize) -> u32
+    ensures { result ≡ offset % 4294967296 }
+{
+    (offset % 4294967296) as u32
+}
+
 // An offset in four bytes, the low one first.
 // (At a place of the whole, and not on a part: the contract says that no other byte changes.)
 fn put_offset(index: &mut [u8], at: usize, offset: usize)
     requires { at + index_width ≤ length index.old }
     ensures { index.new ≡ put_offset index.old at offset }
 {
-    // The remainder comes before the cast, since a cast loses nothing. is_offset compares with the same one.
-    let low = (offset % 4294967296) as u32;
-    index[at..at + INDEX_WIDTH].copy_from_slice(&low.to_le_bytes());
+    index[at..at + INDEX_WIDTH].copy_from_slice(&low_part(offset).to_le_bytes());
 }
 
 // The index of these offsets. Entry by entry at its place: std says nothing of what a slice holds after a loop over chunks_exact_mut.
@@ -202,15 +207,13 @@ pub fn write_index(offsets: &[usize], index: &mut [u8])
     }
 }
 
-// Whether the four bytes are those of an offset. They are compared as one number, by u16_at: u32::from_le_bytes wants an
-// array, into which the four bytes would first be copied.
+// Whether the four bytes are those of an offset.
 fn is_offset(index: &[u8], at: usize, offset: usize) -> bool
     requires { at + index_width ≤ length index.now }
     ensures { result ≡ same_bytes (four_at index.now at) (bytes32 offset) }
 {
-    let low = field::u16_at(index, at);
-    let high = field::u16_at(index, at + 2);
-    low + 65536 * high == offset % 4294967296
+    let entry = [index[at], index[at + 1], index[at + 2], index[at + 3]];
+    u32::from_le_bytes(entry) == low_part(offset)
 }
 
 // Whether the index is that of these offsets.

@@ -8,7 +8,7 @@ ghost use Rattle.memo.specs.Memo.{most_generations, pass, note_of, noted, found_
 use std::marker::Model;
 use value::Value;
 
-// What looking up an item gives: its value, and whether it is flagged.
+// What looking up an item gives: its value, and whether it is flagged. (A flag beside the value: the machine's pair, which has a value either way.)
 #[derive(Clone, Copy, PartialEq, Eq, Debug)]
 pub struct Seen {
     pub value: Value,

@@ -20,7 +20,7 @@ use limits::{
 };
 
 // What the first field of a sheet without a fault in it says: the sheet's edition and its item count.
-// (The edition is a number, as in limits.)
+// (The edition is a number, as in limits, whose functions take any.)
 #[derive(Clone, Copy, PartialEq, Eq, Debug)]
 pub struct Opened {
     pub edition: usize,
@@ -66,7 +66,7 @@ fn figure_allowed(edition: usize, content: &[u8], p: usize) -> bool
         && limits::spread_allowed(edition, content[SPREAD_AT])
 }
 
-// The content of a figure, item number i: its level, or its lowest cause.
+// The content of a figure, item number i: its level, or its lowest cause. (Its level is at most the limit where it is cast.)
 #[tactic(auto, using(crate::proofs::Judging::figure_short, crate::proofs::Judging::figure_narrow, crate::proofs::Judging::figure_unnamed, crate::proofs::Judging::figure_unruled))]
 fn judge_figure(content: &[u8], edition: usize, i: usize, levels: &[u8]) -> Result<u8, Cause>
     requires { i ≤ length levels.now }

@@ -14,8 +14,8 @@ pub enum Amount {
     Number(i64),
 }
 
-// UNK is none of these: a value is never missing. (A struct over the enum: the papers name NULL and OUT as constants of the value's
-// struct, with a constructor for numbers.)
+// UNK is none of these: a value is never missing. (A struct over the enum, with NULL and OUT as its constants: docs/DECISIONS.md, "Values and
+// rules".)
 #[derive(Clone, Copy, PartialEq, Eq, Debug)]
 pub struct Value {
     pub amount: Amount,
@@ -88,7 +88,7 @@ impl Value {
         }
     }
 
-    // The number, 0 where there is none.
+    // The number, 0 where there is none: the number of a table's record, and of C.
     pub fn number_or_zero(self) -> i64
         ensures { result ≡ circuit.number_of (meaning self) }
     {
