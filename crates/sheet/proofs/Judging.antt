@@ -20,6 +20,7 @@ use Rattle.layout.specs.Read.{Placed, placed, level_of, item_level, length_or_na
 use Rattle.sheet.specs.Check.{sound, at_fault, judged_of, judged_item, LevelsAt, level_over}
 use Rattle.layout.proofs.Items.{parents_count}
 use Rattle.layout.proofs.Scan.{and_left, and_right}
+use Rattle.sheet.proofs.Levels.{parents_read, parents_read_are}
 
 -- The levels of parents that are below the item, out of the array.
 module _ (levels : List ℕ) (ps : List Placed) (at : LevelsAt levels ps) where
@@ -133,11 +134,12 @@ module _ (edition : ℕ) (ps : List Placed) (content : List ℕ) where
     figure_unruled e f = judged_by 5 (rw (e, f) refl)
 
     -- the level over the parents
-    module _ (e : named ≡ true) (f : ruled ≡ true) (i : ℕ) (count : length ps ≡ i) (levels : List ℕ) (at : LevelsAt levels ps) where
-      level_cases : level_over i levels (parents_in content p) ≡ cond below (Some above) None
-      level_cases = rw (← count) (levels_over levels ps at (parents_in content p))
+    module _ (wide : parent_at p ≤ length content) (e : named ≡ true) (f : ruled ≡ true)
+        (i : ℕ) (count : length ps ≡ i) (levels : List ℕ) (at : LevelsAt levels ps) where
+      level_cases : level_over i levels (parents_read content p) ≡ cond below (Some above) None
+      level_cases = rw (← count) (ap (level_over (length ps) levels) (parents_read_are content p wide) ∙ levels_over levels ps at (parents_in content p))
 
-      pub figure_above : level_over i levels (parents_in content p) ≡ None → at_fault 6 ≡ judged_item edition ps figure_tag content
+      pub figure_above : level_over i levels (parents_read content p) ≡ None → at_fault 6 ≡ judged_item edition ps figure_tag content
       unfolding figure_cause
       figure_above z = go below refl (sym level_cases ∙ z)
         where
@@ -145,14 +147,14 @@ module _ (edition : ℕ) (ps : List Placed) (content : List ℕ) where
           go true x l = let z : ◌≡◌ {A = ℕ} 0 1 = cc in absurd (omega arith)
           go false x l = judged_by 6 (rw (e, f, x) refl)
 
-      is_below : (level : ℕ) → level_over i levels (parents_in content p) ≡ Some level → (below ≡ true) × (level ≡ above)
+      is_below : (level : ℕ) → level_over i levels (parents_read content p) ≡ Some level → (below ≡ true) × (level ≡ above)
       is_below level z = go below refl (sym level_cases ∙ z)
         where
           go : (b : Bool) → below ≡ b → cond b (Some above) None ≡ Some level → (below ≡ true) × (level ≡ above)
           go true x l = (x, cc)
           go false x l = let z : ◌≡◌ {A = ℕ} 0 1 = cc in absurd (omega arith)
 
-      module _ (level : ℕ) (found : level_over i levels (parents_in content p) ≡ Some level) where
+      module _ (level : ℕ) (found : level_over i levels (parents_read content p) ≡ Some level) where
         pub figure_high : level_limit < level → at_fault 7 ≡ judged_item edition ps figure_tag content
         unfolding figure_cause
         figure_high h =

@@ -3,10 +3,11 @@
 
 ghost use Rattle.std.specs.Prelude.{◌≡◌, ◌&&◌, List, ◌*◌, ◌≤◌, length, IfOk};
 ghost use Rattle.cause.specs.Cause.{number_in};
+ghost use Rattle.circuit.specs.Board.{listed};
 ghost use Rattle.circuit.specs.Calls.{first_cause};
 ghost use Rattle.layout.specs.Layout.{figure_tag, parent_at, rule_allowed, keep_allowed, spread_allowed, name_allowed};
 ghost use Rattle.layout.specs.Read.{Placed, head_tests, last_tests, going, scan, scan_last, conclude, read_sheet};
-ghost use Rattle.layout.specs.Content.{edition_in, count_in, rule_in, keep_in, spread_in, parents_in};
+ghost use Rattle.layout.specs.Content.{edition_in, count_in, rule_in, keep_in, spread_in};
 ghost use Rattle.layout.specs.Opened.{offsets_of, levels_of};
 ghost use Rattle.layout.specs.Room.{count_said, room_for, Room};
 ghost use Rattle.field.specs.Bytes.{over};
@@ -38,16 +39,14 @@ fn name_allowed(name: &[u8]) -> bool
     }
 }
 
-// One more than the highest level of the p parents that a figure's content lists; none where one is not below item i.
-fn level_over(content: &[u8], p: usize, i: usize, levels: &[u8]) -> Option<usize>
-    requires listed { parent_at p ≤ length content.now }
-    requires leveled { i ≤ length levels.now }
-    ensures { result ≡ level_over i levels.now (parents_in content.now p) }
+// One more than the highest level of the parents, whose numbers stand in two bytes each; none where one is not below item i.
+fn level_over(parents: &[u8], i: usize, levels: &[u8]) -> Option<usize>
+    requires { i ≤ length levels.now }
+    ensures { result ≡ level_over i levels.now (listed parents.now) }
 {
     let mut highest: usize = 0;
-    // By number, and not by chunks: the parents' part of the content would have to be cut out first, which is no shorter.
-    for k in 0..p {
-        let parent = field::u16_at(content, PARENTS_AT + PARENT_WIDTH * k);
+    for pair in parents.chunks_exact(PARENT_WIDTH) {
+        let parent = field::u16_at(pair, 0);
         if i <= parent {
             return None;
         }
@@ -84,7 +83,7 @@ fn judge_figure(content: &[u8], edition: usize, i: usize, levels: &[u8]) -> Resu
     if !figure_allowed(edition, content, p) {
         return Err(Cause::Rule);
     }
-    let level = level_over(content, p, i, levels).ok_or(Cause::Parent)?;
+    let level = level_over(&content[PARENTS_AT..before], i, levels).ok_or(Cause::Parent)?;
     if LEVEL_LIMIT < level {
         return Err(Cause::Level);
     }

@@ -1,6 +1,6 @@
 -- `sheet::check` meets its contract: by the first field, and then by its items. Assumes nothing.
 use native.Mathlib.Omega.{arith}
-use mathlib.Core.Path.{refl, sym, ap, ◌∙◌}
+use mathlib.Core.Path.{refl, sym, ◌∙◌}
 use Rattle.cause.proofs.Exits.{exit}
 use Rattle.layout.specs.Read.{head_tests}
 use Rattle.sheet.proofs.Fields.{judge_whole}

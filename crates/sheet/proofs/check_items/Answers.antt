@@ -1,6 +1,6 @@
 -- `sheet::check_items` meets its contract. Assumes nothing.
 use native.Mathlib.Omega.{arith}
-use mathlib.Core.Path.{◌≡◌, refl, ap, ◌∙◌}
+use mathlib.Core.Path.{◌≡◌, refl}
 use Rattle.cause.proofs.Exits.{exit}
 use Rattle.layout.specs.Read.{scan}
 use Rattle.sheet.specs.Check.{sound_items}

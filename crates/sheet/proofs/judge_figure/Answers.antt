@@ -13,6 +13,7 @@ returns-in_err-level c =
     rw p
     (ap at_fault (parent_cause c.level_over.result c.in_err-level.ensures.ok_part c.in_err-level.ensures.value)
     ∙ figure_above c.args.edition ps c.args.content.now c.if-content-lt-PARENTS_AT.false c.from-p.result c.from-p.ensures
+    c.if-content-before.false
     (sym c.name_allowed.ensures ∙ c.if-not-name_allowed.false)
     (sym c.figure_allowed.ensures ∙ c.if-not-figure_allowed.false)
     c.args.i n c.args.levels.now l
@@ -23,6 +24,7 @@ unfolding level_limit
 returns-then-level-gt-LEVEL_LIMIT c =
     λ ps n l.
     figure_high c.args.edition ps c.args.content.now c.if-content-lt-PARENTS_AT.false c.from-p.result c.from-p.ensures
+    c.if-content-before.false
     (sym c.name_allowed.ensures ∙ c.if-not-name_allowed.false)
     (sym c.figure_allowed.ensures ∙ c.if-not-figure_allowed.false)
     c.args.i n c.args.levels.now l
@@ -33,6 +35,7 @@ unfolding level_limit
 returns c =
     λ ps n l.
     figure_sound c.args.edition ps c.args.content.now c.if-content-lt-PARENTS_AT.false c.from-p.result c.from-p.ensures
+    c.if-content-before.false
     (sym c.name_allowed.ensures ∙ c.if-not-name_allowed.false)
     (sym c.figure_allowed.ensures ∙ c.if-not-figure_allowed.false)
     c.args.i n c.args.levels.now l
