@@ -15,26 +15,12 @@ use Rattle.std.specs.Iterator.Adapters.{enumerate_source, enumerate_count, enume
 use Rattle.std.specs.Slice.Iter.{chunks_exact_rest, chunks_exact_size, chunks_exact_steps}
 use Rattle.std.proofs.lemmas.Iterator.{YieldsList}
 use Rattle.circuit.specs.Board.{listed_width, listed}
+use Rattle.circuit.proofs.Board.{listed_pair, listed_none}
 use Rattle.field.specs.Field.{le16_at}
 
 -- the item of a pair
 abbrev pub paired : Bor (List ℕ) → ℕ
 paired x = le16_at x.now 0
-
--- the first item, by the first pair
-listed_pair : (ys zs : List ℕ) → length ys ≡ listed_width → listed (ys ++ zs) ≡ le16_at ys 0 ∷ listed zs
-unfolding listed
-listed_pair [] zs l = absurd (omega arith)
-listed_pair (a ∷ []) zs l = absurd (omega arith)
-listed_pair (a ∷ b ∷ []) zs l = refl
-listed_pair (a ∷ b ∷ c ∷ ys) zs l = absurd (omega arith)
-
--- no pair, no item
-listed_none : (xs : List ℕ) → length xs < listed_width → listed xs ≡ []
-unfolding listed
-listed_none [] l = refl
-listed_none (a ∷ []) l = refl
-listed_none (a ∷ b ∷ xs) l = absurd (omega arith)
 
 -- ---- a search over the pairs
 

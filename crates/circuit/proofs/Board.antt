@@ -3,7 +3,7 @@ use Prim.Native.Nat.{ℕ, zero, suc, ◌+◌, ◌*◌, ◌/◌, ◌<◌}
 use native.Mathlib.Omega.{arith}
 use mathlib.Core.Path.{◌≡◌, refl, ap, ap₂, ◌∙◌}
 use mathlib.Core.Bool.{false}
-use mathlib.Core.List.{List, [], ◌∷◌, map}
+use mathlib.Core.List.{List, [], ◌∷◌, ◌++◌, map}
 use lib.ListN.{length, get_or}
 use borrow.Author.Tests.{leb-false}
 use Rattle.field.specs.Field.{le16, le16_at}
@@ -12,6 +12,21 @@ use Rattle.circuit.specs.Sheet.{Sheet, size, beyond}
 use Rattle.circuit.specs.Board.{listed_width, listed}
 use Rattle.circuit.specs.Calls.{some_no_item}
 use Rattle.circuit.proofs.RuleLaws.{or-false}
+
+-- the first two bytes are an item
+pub listed_pair : (ys zs : List ℕ) → length ys ≡ listed_width → listed (ys ++ zs) ≡ le16_at ys 0 ∷ listed zs
+unfolding listed
+listed_pair [] zs l = absurd (omega arith)
+listed_pair (a ∷ []) zs l = absurd (omega arith)
+listed_pair (a ∷ b ∷ []) zs l = refl
+listed_pair (a ∷ b ∷ c ∷ ys) zs l = absurd (omega arith)
+
+-- no pair, no item
+pub listed_none : (xs : List ℕ) → length xs < listed_width → listed xs ≡ []
+unfolding listed
+listed_none [] l = refl
+listed_none (a ∷ []) l = refl
+listed_none (a ∷ b ∷ xs) l = absurd (omega arith)
 
 -- as many as the length says
 pub listed_count : (bs : List ℕ) → length (listed bs) ≡ length bs / listed_width

@@ -4,7 +4,7 @@ use Prim.Native.Nat.{ℕ, zero, suc, ◌+◌, ◌*◌, ◌-◌, ◌<◌, ◌≤�
 use native.Mathlib.Omega.{arith}
 use mathlib.Core.Path.{◌≡◌, refl, sym, ap, ap₂, ◌∙◌}
 use mathlib.Core.Bool.{cond}
-use mathlib.Core.List.{List, [], ◌∷◌, ◌++◌, map}
+use mathlib.Core.List.{List, [], ◌∷◌, map}
 use lib.Dec.{ltb}
 use lib.ListN.{length, get_or, take, drop, length-drop}
 use lib.Seq.{take-suc, get_or-drop}
@@ -15,25 +15,10 @@ use Rattle.std.specs.declared.slice.ChunksExact.{ChunksExact}
 use Rattle.std.specs.Slice.Iter.{chunks_exact_rest, chunks_exact_size, chunks_exact_steps}
 use Rattle.field.specs.Field.{le16, le16_at}
 use Rattle.circuit.specs.Board.{listed_width, listed}
-use Rattle.circuit.proofs.Board.{listed_count, listed_at}
+use Rattle.circuit.proofs.Board.{listed_pair, listed_none, listed_count, listed_at}
 use Rattle.layout.specs.Layout.{all, highest, parents_at, parent_width, parent_at}
 use Rattle.layout.specs.Content.{parent_in, parents_in}
 use Rattle.sheet.specs.Check.{level_over}
-
--- the first number, by the first pair
-listed_pair : (ys zs : List ℕ) → length ys ≡ listed_width → listed (ys ++ zs) ≡ le16_at ys 0 ∷ listed zs
-unfolding listed
-listed_pair [] zs l = absurd (omega arith)
-listed_pair (a ∷ []) zs l = absurd (omega arith)
-listed_pair (a ∷ b ∷ []) zs l = refl
-listed_pair (a ∷ b ∷ c ∷ ys) zs l = absurd (omega arith)
-
--- no pair, no number
-listed_none : (xs : List ℕ) → length xs < listed_width → listed xs ≡ []
-unfolding listed
-listed_none [] l = refl
-listed_none (a ∷ []) l = refl
-listed_none (a ∷ b ∷ xs) l = absurd (omega arith)
 
 -- ---- a loop over the pairs
 
