@@ -1,57 +1,36 @@
 -- The lowest cause of an item's field, from what the code tests of its content. Assumes nothing.
 use mathlib.Core.Path.{◌≡◌, refl, sym, ap, ap₂, ◌∙◌}
 use mathlib.Core.Bool.{Bool, true, false, cond, not, ◌&&◌}
-use mathlib.Core.List.{List, [], ◌∷◌, map}
+use mathlib.Core.List.{List, [], map}
 use Prim.Native.Nat.{ℕ, suc, ◌-◌, ◌≤◌, ◌<◌}
 use native.Mathlib.Omega.{arith}
 use lib.Dec.{ltb}
-use lib.ListN.{length, get_or, get_or-map, take, drop, length-drop}
-use lib.Seq.{get_or-take, take_all}
-use borrow.Author.Tests.{ltb-true, lt-ltb, le-ltb, ne_eqb}
-use Rattle.std.specs.Prelude.{Option, Some, None, ok_or, Result, Err}
-use Rattle.cause.specs.Cause.{number_of, number_in}
-use Rattle.cause.specs.declared.Cause.{Cause}
-use Rattle.cause.specs.declared.Cause.TheVariants.{Parent}
+use lib.ListN.{length, get_or, get_or-map, take, drop, length-drop, length-map}
+use lib.Seq.{take_all}
+use borrow.Author.Tests.{lt-ltb, le-ltb, ne_eqb}
+use Rattle.std.specs.Prelude.{Option, Some, None}
 use Rattle.circuit.specs.Calls.{first_cause}
 use Rattle.layout.specs.Layout.{entry_field, entry_tag, figure_tag, level_limit, keep_allowed, spread_allowed, rule_allowed, name_allowed, all, highest}
 use Rattle.layout.specs.Layout.{parents_at, parent_at}
 use Rattle.layout.specs.Content.{rule_in, keep_in, spread_in, parent_count_in, parents_in, name_in, item_in}
+use Rattle.layout.specs.Opened.{levels_of}
 use Rattle.layout.specs.Read.{Placed, placed, level_of, item_level, length_or_name, item_tests}
-use Rattle.sheet.specs.Check.{sound, at_fault, judged_of, judged_item, LevelsAt, level_over}
+use Rattle.sheet.specs.Check.{Judged, sound, at_fault, judged_of, judged_item, level_over}
 use Rattle.layout.proofs.Items.{parents_count}
-use Rattle.layout.proofs.Scan.{and_left, and_right}
 use Rattle.sheet.proofs.Levels.{parents_read, parents_read_are}
 
--- The levels of parents that are below the item, out of the array.
-module _ (levels : List ℕ) (ps : List Placed) (at : LevelsAt levels ps) where
-  level_is : (q : ℕ) → q < length ps → get_or levels q 0 ≡ level_of ps q
-  level_is q h =
-      sym (get_or-take (length ps) levels q 0 h)
-      ∙ ap (λ l. get_or l q 0) at
-      ∙ get_or-map (λ (p : Placed). p.level) ps q (placed 0 (entry_field []) 0)
+-- The levels of the parents, by the earlier items.
+module _ (levels : List ℕ) (ps : List Placed) (at : levels ≡ levels_of ps) where
+  level_is : (q : ℕ) → get_or levels q 0 ≡ level_of ps q
+  level_is q = ap (λ l. get_or l q 0) at ∙ get_or-map (λ (p : Placed). p.level) ps q (placed 0 (entry_field []) 0)
 
-  levels_are : (parents : List ℕ) → all (λ q. ltb q (length ps)) parents ≡ true → map (λ q. get_or levels q 0) parents ≡ map (level_of ps) parents
-  unfolding all
-  levels_are [] e = refl
-  levels_are (q ∷ qs) e =
-      ap₂ {C = List ℕ} (λ x xs. x ∷ xs)
-      (level_is q (ltb-true q (length ps) (and_left (ltb q (length ps)) (all (λ q. ltb q (length ps)) qs) e)))
-      (levels_are qs (and_right (ltb q (length ps)) (all (λ q. ltb q (length ps)) qs) e))
+  count_is : length levels ≡ length ps
+  count_is = ap length at ∙ length-map ps (λ p. p.level)
 
-  pub levels_over : (parents : List ℕ) → level_over (length ps) levels parents
+  pub levels_over : (parents : List ℕ) → level_over levels parents
       ≡ cond (all (λ q. ltb q (length ps)) parents) (Some (suc (highest (map (level_of ps) parents)))) None
   unfolding level_over
-  levels_over parents = go (all (λ q. ltb q (length ps)) parents) refl
-    where
-      go : (b : Bool) → all (λ q. ltb q (length ps)) parents ≡ b
-          → cond b (Some (suc (highest (map (λ q. get_or levels q 0) parents)))) None ≡ cond b (Some (suc (highest (map (level_of ps) parents)))) None
-      go true x = ap (λ l. Some (suc (highest l))) (levels_are parents x)
-      go false x = refl
-
--- the cause that stands for no level
-pub parent_cause : (r : Option ℕ) {c : Cause} → r ≡ None → ◌≡◌ {A = Result ℕ Cause} (Err c) (ok_or r Parent) → number_of c ≡ 6
-parent_cause (Some level) n e = let z : ◌≡◌ {A = ℕ} 0 1 = cc in absurd (omega arith)
-parent_cause None {c} n e = ap number_in e
+  levels_over parents = simp (count_is, level_is)
 
 -- An entry, and a field that is no item's.
 module _ (edition : ℕ) (ps : List Placed) (content : List ℕ) where
@@ -63,6 +42,11 @@ module _ (edition : ℕ) (ps : List Placed) (content : List ℕ) where
   pub other_judged : (tag : ℕ) → (tag ≡ entry_tag → ⊥) → (tag ≡ figure_tag → ⊥) → judged_item edition ps tag content ≡ at_fault 2
   unfolding item_tests first_cause
   other_judged tag a b = simp (ne_eqb tag entry_tag a, ne_eqb tag figure_tag b)
+
+-- the answer for a figure whose tests before its parents find nothing, by the level over its parents
+abbrev pub leveled : Option ℕ → Judged
+leveled None = at_fault 6
+leveled (Some level) = cond (ltb level_limit level) (at_fault 7) (sound level)
 
 -- A figure, by its tests in order.
 figure_cause : Bool → Bool → Bool → Bool → ℕ
@@ -133,40 +117,18 @@ module _ (edition : ℕ) (ps : List Placed) (content : List ℕ) where
     unfolding figure_cause
     figure_unruled e f = judged_by 5 (rw (e, f) refl)
 
-    -- the level over the parents
-    module _ (wide : parent_at p ≤ length content) (e : named ≡ true) (f : ruled ≡ true)
-        (i : ℕ) (count : length ps ≡ i) (levels : List ℕ) (at : LevelsAt levels ps) where
-      level_cases : level_over i levels (parents_read content p) ≡ cond below (Some above) None
-      level_cases = rw (← count) (ap (level_over (length ps) levels) (parents_read_are content p wide) ∙ levels_over levels ps at (parents_in content p))
+    module _ (wide : parent_at p ≤ length content) (e : named ≡ true) (f : ruled ≡ true) (levels : List ℕ) (at : levels ≡ levels_of ps) where
+      level_cases : level_over levels (parents_read content p) ≡ cond below (Some above) None
+      level_cases = ap (level_over levels) (parents_read_are content p wide) ∙ levels_over levels ps at (parents_in content p)
 
-      pub figure_above : level_over i levels (parents_read content p) ≡ None → at_fault 6 ≡ judged_item edition ps figure_tag content
+      pub figure_leveled : leveled (level_over levels (parents_read content p)) ≡ judged_item edition ps figure_tag content
       unfolding figure_cause
-      figure_above z = go below refl (sym level_cases ∙ z)
+      figure_leveled = ap leveled level_cases ∙ go below refl
         where
-          go : (b : Bool) → below ≡ b → cond b (Some above) None ≡ None → at_fault 6 ≡ judged_item edition ps figure_tag content
-          go true x l = let z : ◌≡◌ {A = ℕ} 0 1 = cc in absurd (omega arith)
-          go false x l = judged_by 6 (rw (e, f, x) refl)
+          high : (b : Bool) → below ≡ true → ltb level_limit above ≡ b → cond b (at_fault 7) (sound above) ≡ judged_item edition ps figure_tag content
+          high true x y = judged_by 7 (rw (e, f, x, y) refl)
+          high false x y = judged_by 0 (rw (e, f, x, y) refl)
 
-      is_below : (level : ℕ) → level_over i levels (parents_read content p) ≡ Some level → (below ≡ true) × (level ≡ above)
-      is_below level z = go below refl (sym level_cases ∙ z)
-        where
-          go : (b : Bool) → below ≡ b → cond b (Some above) None ≡ Some level → (below ≡ true) × (level ≡ above)
-          go true x l = (x, cc)
-          go false x l = let z : ◌≡◌ {A = ℕ} 0 1 = cc in absurd (omega arith)
-
-      module _ (level : ℕ) (found : level_over i levels (parents_read content p) ≡ Some level) where
-        pub figure_high : level_limit < level → at_fault 7 ≡ judged_item edition ps figure_tag content
-        unfolding figure_cause
-        figure_high h =
-            let b = is_below level found in
-            let b₀ = b.0 in
-            let g : ltb level_limit above ≡ true = lt-ltb level_limit above (omega arith) in
-            judged_by 7 (rw (e, f, b₀, g) refl)
-
-        pub figure_sound : level ≤ level_limit → sound level ≡ judged_item edition ps figure_tag content
-        unfolding figure_cause
-        figure_sound h =
-            let b = is_below level found in
-            let b₀ = b.0 in
-            let g : ltb level_limit above ≡ false = le-ltb level_limit above (omega arith) in
-            ap sound b.1 ∙ judged_by 0 (rw (e, f, b₀, g) refl)
+          go : (b : Bool) → below ≡ b → leveled (cond b (Some above) None) ≡ judged_item edition ps figure_tag content
+          go true x = high (ltb level_limit above) x refl
+          go false x = judged_by 6 (rw (e, f, x) refl)

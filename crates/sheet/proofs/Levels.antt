@@ -22,28 +22,28 @@ use Rattle.sheet.specs.Check.{level_over}
 
 -- ---- a loop over the pairs
 
-module _ (i : ℕ) (levels : List ℕ) where
-  -- one more than the highest of a level and the parents' levels, or none where a parent is not below item i
+module _ (levels : List ℕ) where
+  -- one more than the highest of a level and the parents' levels, or none where a parent is no earlier item
   abbrev over_from : ℕ → List ℕ → Option ℕ
-  over_from high parents = cond (all (λ q. ltb q i) parents) (Some (suc (max high (highest (map (λ q. get_or levels q 0) parents))))) None
+  over_from high parents = cond (all (λ q. ltb q (length levels)) parents) (Some (suc (max high (highest (map (λ q. get_or levels q 0) parents))))) None
 
-  from_start : (parents : List ℕ) → level_over i levels parents ≡ over_from 0 parents
+  from_start : (parents : List ℕ) → level_over levels parents ≡ over_from 0 parents
   unfolding level_over
   from_start parents =
       let m : max 0 (highest (map (λ q. get_or levels q 0) parents)) ≡ highest (map (λ q. get_or levels q 0) parents) = omega arith in
       rw m refl
 
-  from_fails : (high q : ℕ) (qs : List ℕ) → i ≤ q → over_from high (q ∷ qs) ≡ None
+  from_fails : (high q : ℕ) (qs : List ℕ) → length levels ≤ q → over_from high (q ∷ qs) ≡ None
   unfolding all
-  from_fails high q qs h = rw (le-ltb q i h) refl
+  from_fails high q qs h = rw (le-ltb q (length levels) h) refl
 
-  from_next : (high q : ℕ) (qs : List ℕ) → q < i → over_from high (q ∷ qs) ≡ over_from (max high (get_or levels q 0)) qs
+  from_next : (high q : ℕ) (qs : List ℕ) → q < length levels → over_from high (q ∷ qs) ≡ over_from (max high (get_or levels q 0)) qs
   unfolding all highest
   from_next high q qs h =
       let level : ℕ = get_or levels q 0 in
       let rest : ℕ = highest (map (λ p. get_or levels p 0) qs) in
       let m : max high (max level rest) ≡ max (max high level) rest = omega arith in
-      rw (lt-ltb q i h, m) refl
+      rw (lt-ltb q (length levels) h, m) refl
 
   from_end : (high : ℕ) → over_from high [] ≡ Some (high + 1)
   unfolding all highest
@@ -52,7 +52,7 @@ module _ (i : ℕ) (levels : List ℕ) where
   -- what is left to the loop: the level over the parents is the level over those that are left, from the highest level so far
   pub record Left (s : ChunksExact ℕ) (parents : List ℕ) (high : ℕ) : Type 0 where
     pub size_is : chunks_exact_size s ≡ listed_width
-    pub left : level_over i levels (listed parents) ≡ over_from high (listed (chunks_exact_rest s))
+    pub left : level_over levels (listed parents) ≡ over_from high (listed (chunks_exact_rest s))
 
   pub left_start : {s : ChunksExact ℕ} (parents : List ℕ) → chunks_exact_rest s ≡ parents → chunks_exact_size s ≡ listed_width → Left s parents 0
   left_start parents rest size = record { size_is = size; left = rw rest (from_start (listed parents)) }
@@ -62,17 +62,17 @@ module _ (i : ℕ) (levels : List ℕ) where
       one_more : listed (chunks_exact_rest s) ≡ q ∷ listed (chunks_exact_rest t)
       one_more = ap listed h.1.0 ∙ rw is (listed_pair pair.now (chunks_exact_rest t) (h.1.1 ∙ now.size_is))
 
-      -- a parent that is not below the item
-      pub left_fails : i ≤ q → None ≡ level_over i levels (listed parents)
+      -- a parent that is no earlier item
+      pub left_fails : length levels ≤ q → None ≡ level_over levels (listed parents)
       left_fails l = sym (now.left ∙ ap (over_from high) one_more ∙ from_fails high q (listed (chunks_exact_rest t)) l)
 
       -- one that is
-      pub left_next : q < i → (high' : ℕ) → high' ≡ max high (get_or levels q 0) → Left t parents high'
+      pub left_next : q < length levels → (high' : ℕ) → high' ≡ max high (get_or levels q 0) → Left t parents high'
       left_next l high' e =
           record { size_is = h.0 ∙ now.size_is; left = rw e (now.left ∙ ap (over_from high) one_more ∙ from_next high q (listed (chunks_exact_rest t)) l) }
 
     -- no parent is left
-    pub left_end : chunks_exact_steps s None t → Some (high + 1) ≡ level_over i levels (listed parents)
+    pub left_end : chunks_exact_steps s None t → Some (high + 1) ≡ level_over levels (listed parents)
     left_end h =
         let none = listed_none (chunks_exact_rest s) (omega (arith, h.1.0, now.size_is)) in
         sym (now.left ∙ ap (over_from high) none ∙ from_end high)

@@ -21,7 +21,7 @@ use Rattle.layout.specs.Read.{Placed, placed, item_level, item_tests, last_tests
 use Rattle.layout.specs.Opened.{offsets_of, levels_of}
 use Rattle.field.specs.Bytes.{over}
 use Rattle.sheet.specs.declared.Opened.{Opened}
-use Rattle.sheet.specs.Check.{Checked, refused, checked_of, checked_meaning, Judged, sound, at_fault, judged_of, judged_item, judged_meaning, cause_at, Whole, NotWhole, LevelsAt, latest, sound_items}
+use Rattle.sheet.specs.Check.{Checked, refused, checked_of, checked_meaning, Judged, sound, at_fault, judged_of, judged_item, judged_meaning, cause_at, Whole, NotWhole, latest, sound_items}
 use Rattle.sheet.proofs.Fields.{content_is, judge_whole}
 use Rattle.sheet.proofs.Lists.{over_more}
 use Rattle.layout.proofs.Scan.{scan_length, scan_stopped}
@@ -128,8 +128,8 @@ module _ (s : List ℕ) (edition : ℕ) where
     stop_items = ap (sound_items s edition) later ∙ sound_later i (count - suc i) number at e
 
 -- What the scratch arrays hold.
-pub levels_at : (ps : List Placed) (levels levels₀ : List ℕ) → levels ≡ over (levels_of ps) levels₀ → LevelsAt levels ps
-levels_at ps levels levels₀ e = ap (take (length ps)) e ∙ take_at (levels_of ps) _ (length ps) (length-map ps (λ p. p.level))
+pub levels_at : (ps : List Placed) (i : ℕ) (levels levels₀ : List ℕ) → levels ≡ over (levels_of ps) levels₀ → length ps ≡ i → take i levels ≡ levels_of ps
+levels_at ps i levels levels₀ e n = ap (take i) e ∙ take_at (levels_of ps) _ i (length-map ps (λ p. p.level) ∙ n)
 
 pub array_more : (f : Placed → ℕ) (ps : List Placed) (p : Placed) (i : ℕ) (array array₀ : List ℕ) → array ≡ over (map f ps) array₀ → length ps ≡ i
     → i < length array₀ → set array i (f p) ≡ over (map f (ps ++ (p ∷ []))) array₀

@@ -1,9 +1,8 @@
 -- What the check of a sheet answers, and what it leaves in its two scratch arrays. Assumes nothing.
-use Rattle.std.specs.Prelude.{ℕ, zero, suc, ◌+◌, ◌≤◌, ◌≡◌, cond, List, [], map, ltb, length, get_or, take, Option, Some, None, Result, Ok, Err}
+use Rattle.std.specs.Prelude.{ℕ, zero, suc, ◌+◌, ◌≤◌, ◌≡◌, cond, List, [], map, ltb, length, get_or, Option, Some, None, Result, Ok, Err}
 use Rattle.cause.specs.Cause.{number_of}
 use Rattle.cause.specs.declared.Cause.{Cause}
 use Rattle.cause.specs.declared.Fault.{Fault}
-use Rattle.layout.specs.Opened.{levels_of}
 use Rattle.field.specs.Field.{cut_at, field}
 use Rattle.field.specs.declared.Field.{Field}
 use Rattle.circuit.specs.Calls.{Test, first_cause}
@@ -69,10 +68,6 @@ abbrev pub judged_item : ℕ → List Placed → ℕ → List ℕ → Judged
 judged_item edition ps tag content =
     judged_of (first_cause (item_tests edition ps tag content)) (item_level ps (item_in tag content))
 
--- the array begins with the levels of the items ps
-abbrev pub LevelsAt : List ℕ → List Placed → Type 0
-LevelsAt levels ps = take (length ps) levels ≡ levels_of ps
-
 -- the items read before the first fault
 abbrev pub latest : Scan → List Placed → List Placed
 latest (going at ps) before = ps
@@ -90,7 +85,8 @@ unfoldable pub read_so_far : List ℕ → List Placed
 read_so_far s =
     after_head (judge head_tests s (cut_at s 0)) (sound_items s (edition_in (head_content s)) (count_in (head_content s)))
 
--- one more than the highest of the parents' levels, or none where a parent is not below item i
-unfoldable pub level_over : ℕ → List ℕ → List ℕ → Option ℕ
-level_over i levels parents =
-    cond (all (λ p. ltb p i) parents) (Some (suc (highest (map (λ p. get_or levels p 0) parents)))) None
+-- The level over parents, by the levels of the earlier items: one more than the highest of the parents', or none where a parent is no
+-- earlier item.
+unfoldable pub level_over : List ℕ → List ℕ → Option ℕ
+level_over levels parents =
+    cond (all (λ p. ltb p (length levels)) parents) (Some (suc (highest (map (λ p. get_or levels p 0) parents)))) None

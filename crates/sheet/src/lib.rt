@@ -11,7 +11,7 @@ ghost use Rattle.layout.specs.Content.{edition_in, count_in, rule_in, keep_in, s
 ghost use Rattle.layout.specs.Opened.{offsets_of, levels_of};
 ghost use Rattle.layout.specs.Room.{count_said, room_for, Room};
 ghost use Rattle.field.specs.Bytes.{over};
-ghost use Rattle.sheet.specs.Check.{checked_of, checked_meaning, judged_item, judged_meaning, WholeField, cause_at, LevelsAt, sound_items, read_so_far, level_over};
+ghost use Rattle.sheet.specs.Check.{checked_of, checked_meaning, judged_item, judged_meaning, WholeField, cause_at, sound_items, read_so_far, level_over};
 
 use cause::{Cause, Fault};
 use field::Field;
@@ -39,15 +39,15 @@ fn name_allowed(name: &[u8]) -> bool
     }
 }
 
-// One more than the highest level of the parents, whose numbers stand in two bytes each; none where one is not below item i.
-fn level_over(parents: &[u8], i: usize, levels: &[u8]) -> Option<usize>
-    requires { i ≤ length levels.now }
-    ensures { result ≡ level_over i levels.now (listed parents.now) }
+// One more than the highest level of the parents, whose numbers stand in two bytes each; none where one is no earlier item.
+// (The levels are those of the earlier items, whose number is their length.)
+fn level_over(parents: &[u8], levels: &[u8]) -> Option<usize>
+    ensures { result ≡ level_over levels.now (listed parents.now) }
 {
     let mut highest: usize = 0;
     for pair in parents.chunks_exact(PARENT_WIDTH) {
         let parent = field::u16_at(pair, 0);
-        if i <= parent {
+        if levels.len() <= parent {
             return None;
         }
         highest = highest.max(usize::from(levels[parent]));
@@ -65,11 +65,10 @@ fn figure_allowed(edition: usize, content: &[u8], p: usize) -> bool
         && limits::spread_allowed(edition, content[SPREAD_AT])
 }
 
-// The content of a figure, item number i: its level, or its lowest cause. (Its level is at most the limit where it is cast.)
+// The content of a figure: its level, or its lowest cause. (Its level is at most the limit where it is cast.)
 #[tactic(auto, using(crate::proofs::Judging::figure_short, crate::proofs::Judging::figure_narrow, crate::proofs::Judging::figure_unnamed, crate::proofs::Judging::figure_unruled))]
-fn judge_figure(content: &[u8], edition: usize, i: usize, levels: &[u8]) -> Result<u8, Cause>
-    requires { i ≤ length levels.now }
-    ensures { (ps : List Placed) → length ps ≡ i → LevelsAt levels.now ps → judged_meaning result ≡ judged_item edition ps figure_tag content.now }
+fn judge_figure(content: &[u8], edition: usize, levels: &[u8]) -> Result<u8, Cause>
+    ensures { (ps : List Placed) → levels.now ≡ levels_of ps → judged_meaning result ≡ judged_item edition ps figure_tag content.now }
 {
     // Two tests of one cause: the second needs the parent count, which the first makes sure of.
     if content.len() < PARENTS_AT {
@@ -83,21 +82,20 @@ fn judge_figure(content: &[u8], edition: usize, i: usize, levels: &[u8]) -> Resu
     if !figure_allowed(edition, content, p) {
         return Err(Cause::Rule);
     }
-    let level = level_over(&content[PARENTS_AT..before], i, levels).ok_or(Cause::Parent)?;
+    let level = level_over(&content[PARENTS_AT..before], levels).ok_or(Cause::Parent)?;
     if LEVEL_LIMIT < level {
         return Err(Cause::Level);
     }
     Ok(level as u8)
 }
 
-// The tag and the content of the field of item number i: the item's level, or its lowest cause.
+// The tag and the content of an item's field: the item's level, or its lowest cause.
 #[tactic(auto, using(crate::proofs::Judging::entry_judged, crate::proofs::Judging::other_judged))]
-fn judge_item(tag: u8, content: &[u8], edition: usize, i: usize, levels: &[u8]) -> Result<u8, Cause>
-    requires { i ≤ length levels.now }
-    ensures { (ps : List Placed) → length ps ≡ i → LevelsAt levels.now ps → judged_meaning result ≡ judged_item edition ps tag content.now }
+fn judge_item(tag: u8, content: &[u8], edition: usize, levels: &[u8]) -> Result<u8, Cause>
+    ensures { (ps : List Placed) → levels.now ≡ levels_of ps → judged_meaning result ≡ judged_item edition ps tag content.now }
 {
     if tag == FIGURE_TAG {
-        return judge_figure(content, edition, i, levels);
+        return judge_figure(content, edition, levels);
     }
     if tag != ENTRY_TAG {
         return Err(Cause::Tag);
@@ -194,7 +192,7 @@ fn check_items(
         let found = whole_field(s, at)?;
         let content = &s[found.start..found.next];
         let level = at_field(
-            judge_item(found.tag, content, opened.edition, i, levels),
+            judge_item(found.tag, content, opened.edition, &levels[..i]),
             at,
         )?;
         offsets[i] = at;

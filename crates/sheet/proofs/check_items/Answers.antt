@@ -32,7 +32,7 @@ returns-in_err-level c =
     let v = l.invariant in
     let ps = sound_items a.s.now a.opened.edition l.i in
     let n = scan_length a.s.now a.opened.edition l.i l.at ps v.goes_on in
-    let j = c.judge_item.ensures ps n (levels_at ps l.levels a.levels.now v.leveled) in
+    let j = c.judge_item.ensures ps (levels_at ps l.i l.levels a.levels.now v.leveled n) in
     let w = scan_judged a.s.now a.opened.edition l.i l.at ps v.goes_on c.in_ok-found.ensures c.judge_item.result j c.in_err-level.ensures in
     let p = exit c.from_residual-in_err-level.ensures.1 in
     let t =
@@ -47,7 +47,7 @@ loop-i-preserved c =
     let v = l.invariant in
     let ps = sound_items a.s.now a.opened.edition l.i in
     let n = scan_length a.s.now a.opened.edition l.i l.at ps v.goes_on in
-    let j = c.judge_item.ensures ps n (levels_at ps l.levels a.levels.now v.leveled) in
+    let j = c.judge_item.ensures ps (levels_at ps l.i l.levels a.levels.now v.leveled n) in
     let t = turn a.s.now a.opened.edition a.opened.count l.i l.at l.offsets a.offsets.now l.levels a.levels.now v.goes_on v.found v.leveled
     c.in_ok-found.ensures c.in_ok-level.level (omega arith) (omega arith) (judged_level c.judge_item.result l.at c.in_ok-level.level _ j c.in_ok-level.ensures) in
     record { goes_on = t.0; found = t.1; leveled = t.2 }

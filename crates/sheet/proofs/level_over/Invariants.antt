@@ -6,6 +6,6 @@ use Rattle.sheet.proofs.level_over.Given as goal
 
 abbrev pub invariant-loop-pair : goal.invariant-loop-pair
 invariant-loop-pair l = record {
-  left : Left l.i l.levels l.pair-iterator l.parents l.highest;
+  left : Left l.levels l.pair-iterator l.parents l.highest;
   small : l.highest ≤ 255;
 }
