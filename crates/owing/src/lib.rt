@@ -3,7 +3,7 @@
 // for nothing, and what it holds afterwards is left free.
 #![tactic(auto)]
 
-ghost use Rattle.std.specs.Prelude.{◌≡◌, true, ℕ, ◌+◌, ◌*◌, ◌<◌, ◌≤◌, eqb, length, get_or};
+ghost use Rattle.std.specs.Prelude.{◌≡◌, true, ℕ, ◌+◌, ◌*◌, ◌<◌, ◌≤◌, eqb, length, get_or, All};
 ghost use Rattle.circuit.specs.Sheet.{size, parents_of};
 ghost use Rattle.circuit.specs.Owed.{leaning};
 ghost use Rattle.layout.specs.Opened.{sheet_of};
@@ -26,7 +26,7 @@ fn leans(table: &[u8], owed: &[u8], c: usize) -> bool
 
 // Each parent of an item is owed.
 fn owe_parents(item: &Item<'_>, owed: &mut [u8])
-    requires { ((k : ℕ) → k < length (parents_of item.now) → get_or (parents_of item.now) k 0 < length owed.old) }
+    requires { All (λ p. p < length owed.old) (parents_of item.now) }
     ensures { owed.new ≡ owe_each owed.old (parents_of item.now) (length (parents_of item.now)) }
 {
     for k in 0..item.parent_count() {
