@@ -77,7 +77,7 @@ says_owed_lem S ordered T c i below (none without is) = is ∙ ap owed_code (sym
         let k : Child S T i = owed_finds S ordered T i e in
         absurd (without k.item (omega (arith, ordered k.item i k.listed, below)) k.listed k.leans_on)
 
-code_owes : (b : Bool) → not (eqb (owed_code b) 0) ≡ b
+pub code_owes : (b : Bool) → not (eqb (owed_code b) 0) ≡ b
 code_owes true = refl
 code_owes false = refl
 
