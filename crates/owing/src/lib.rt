@@ -81,6 +81,8 @@ fn write_owed(table: &mut [u8], owed: &[u8])
 }
 
 // Settles a table whose cells were stored: its owed bytes become the true ones. Every owed byte is written here.
+// (The clauses recorded and formed are the fact Lent, which the callers have. They stand one by one since Lent is a word of crate looking,
+// which is above this one.)
 pub fn settle(sheet: &Sheet<'_>, table: &mut [u8], owed: &mut [u8])
     requires recorded { length table.old ≡ width * size (sheet_of sheet.now) }
     requires roomy { size (sheet_of sheet.now) ≤ length owed.old }
