@@ -3,7 +3,7 @@ use Prim.Native.Nat.{ℕ, zero, suc, ◌+◌, ◌*◌, ◌≤◌, ◌<◌}
 use native.Mathlib.Omega.{arith}
 use native.Mathlib.Numerals.{add-one}
 use mathlib.Core.Path.{◌≡◌, refl, sym, ap, ap₂, ◌∙◌}
-use mathlib.Core.Bool.{Bool, true, false, not, ◌&&◌}
+use mathlib.Core.Bool.{Bool, true, false, not, ◌&&◌, and_assoc}
 use mathlib.Core.List.{List, [], ◌∷◌}
 use lib.ListN.{length, take}
 use borrow.Author.Tests.{eq-eqb, ne_eqb}
@@ -75,10 +75,6 @@ scanned {s} o l = record { found = record { offsets_are = o; located = checked.l
 
 -- ---- the form of the table, record by record
 
-and_assoc : (a b c : Bool) → a && (b && c) ≡ (a && b) && c
-and_assoc true b c = refl
-and_assoc false b c = refl
-
 below_first : (p : ℕ → Bool) (n : ℕ) → all_below p (suc n) ≡ p 0 && all_below (λ i. p (i + 1)) n
 unfolding all_below
 below_first p zero = go (p 0)
@@ -88,7 +84,7 @@ below_first p zero = go (p 0)
     go false = refl
 below_first p (suc n) =
     ap₂ (λ a b. a && b) (below_first p n) (ap p (sym (add-one n)))
-    ∙ sym (and_assoc (p 0) (all_below (λ i. p (i + 1)) n) (p (n + 1)))
+    ∙ and_assoc (p 0) (all_below (λ i. p (i + 1)) n) (p (n + 1))
 
 listed_from : (f : ℕ → Bool) (a n : ℕ) → list_all f (range_with_len a n) ≡ all_below (λ i. f (a + i)) n
 unfolding all_below

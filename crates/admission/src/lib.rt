@@ -47,6 +47,7 @@ impl From<Result<(), Fault>> for Answer {
 }
 
 // The sheet (1 to 7), and the lengths of index and table (8): how many items the sheet has.
+// (Of these the lengths alone, since an opening has nothing in them yet.)
 #[tactic(auto, using(crate::proofs::Admitting::count_small, crate::proofs::Admitting::measured_index, crate::proofs::Admitting::measured_table, crate::proofs::Admitting::measured_items))]
 pub fn measure(
     sheet: &[u8],

@@ -3,7 +3,6 @@ use Prim.Native.Nat.{ℕ, ◌≤◌, ◌<◌, ◌+◌, ◌*◌}
 use mathlib.Core.Path.{◌≡◌, refl, sym, ap, ◌∙◌}
 use mathlib.Core.Bool.{Bool, true, false, cond, not}
 use mathlib.Core.List.{List, [], ◌∷◌}
-use lib.Dec.{eqb}
 use lib.ListN.{length, get_or}
 use borrow.Author.Tests.{lt-leb}
 use Rattle.std.specs.Prelude.{Ok, Err}
@@ -23,10 +22,11 @@ use Rattle.field.specs.Bytes.{Bytes}
 use Rattle.layout.specs.Opened.{sheet_of}
 use Rattle.item.proofs.Located.{sheet_ordered}
 use Rattle.table.specs.Rows.{row}
-use Rattle.table.specs.Record.{width, owed_code, owed_in}
+use Rattle.table.specs.Record.{width, owed_in}
 use Rattle.table.specs.Bytes.{encode_table, decode_table, owed_true, OwedKept}
 use Rattle.table.proofs.Tables.{encoded_kept}
 use Rattle.owing.specs.Owing.{says_owed, OwedIs}
+use Rattle.owing.proofs.Passing.{code_owes}
 use Rattle.looking.specs.Pass.{Lent}
 use Rattle.memo.specs.Memo.{Pass}
 use Rattle.admission.specs.Admission.{call_lent}
@@ -62,11 +62,7 @@ mark_tested S T {item} {i} found b bv e q =
 
 -- what an array of owed bytes says of an item
 owes_owed : (s t bytes : List ℕ) → OwedIs (sheet_of s) (decode_table t) bytes → (c : ℕ) → c < size (sheet_of s) → says_owed bytes c ≡ owed (sheet_of s) (decode_table t) c
-owes_owed s t bytes is c low = rw (is.byte_is c low) (go (owed (sheet_of s) (decode_table t) c))
-  where
-    go : (b : Bool) → not (eqb (owed_code b) 0) ≡ b
-    go true = refl
-    go false = refl
+owes_owed s t bytes is c low = rw (is.byte_is c low) (code_owes (owed (sheet_of s) (decode_table t) c))
 
 -- the step of a notice
 noticed_step : (S : Sheet) (T : Table) (i : ℕ) → is_notice (mark_of (T i)) ≡ true → step_item S T i ≡ clear_mark (tell S T i) i

@@ -1,7 +1,7 @@
 -- The loop that builds the child lists of a sheet, and what the lists are good for. Assumes nothing.
 use Prim.Native.Nat.{ℕ, zero, suc, ◌+◌, ◌*◌, ◌-◌, ◌<◌, ◌≤◌}
 use native.Mathlib.Omega.{arith}
-use mathlib.Core.Path.{◌≡◌, refl, sym, ap, subst, ◌∙◌}
+use mathlib.Core.Path.{◌≡◌, refl, sym, ap, ◌∙◌}
 use mathlib.Core.Bool.{true, false}
 use mathlib.Core.List.{List}
 use lib.ListN.{length, get_or, replicate, length-replicate, take}
@@ -15,7 +15,7 @@ use Rattle.layout.specs.Opened.{sheet_of, items_of, offsets_of, Located}
 use Rattle.item.proofs.Located.{sheet_ordered, size_room, size_limit, located_narrow}
 use Rattle.children.specs.declared.Kin.{Kin}
 use Rattle.children.specs.Children.{Lists, lists, link_places, head_places, link_last, link_all, heads_of, lists_of, family, Linked, Kept}
-use Rattle.children.proofs.Linking.{place_below, lists_length, all_linked}
+use Rattle.children.proofs.Linking.{lists_length, all_linked}
 use Rattle.children.proofs.Rows.{heads_count, links_count}
 
 offsets_located : (s : List ℕ) → Located s (offsets_of (items_of s))
@@ -41,12 +41,6 @@ built_start s l n is =
 
 -- the item before c
 module _ {s : List ℕ} {l₀ : Lists} {c : ℕ} {l : Lists} (inv : Built s l₀ c l) (more : 0 < c) (it : Item) (it_is : it ≡ item_at (sheet_of s) (c - 1)) where
-  pub parents_low : (n : ℕ) → size (sheet_of s) ≤ n → (k : ℕ) → k < length (parents_of it) → get_or (parents_of it) k 0 < n
-  parents_low n room k h =
-      let listed : k < length (parents (sheet_of s) (c - 1)) = subst (λ x. k < length (parents_of x)) it_is h in
-      let below = place_below (sheet_of s) (sheet_ordered s) (c - 1) k listed in
-      rw it_is (omega (arith, inv.within))
-
   pub edges_fit : max_parents * (c - 1) + max_parents ≤ 65_536
   unfolding max_parents most_items item_limit
   edges_fit = omega (arith, size_limit s, inv.within)

@@ -10,8 +10,8 @@ use lib.ListN.{length, get_or, set, length-set}
 use lib.Seq.{get_or-set_same, get_or-set_other}
 use borrow.Author.Tests.{eqb-true, eqb-false, eq-eqb, ne_eqb}
 use Rattle.circuit.specs.Rules.{max_parents}
-use Rattle.circuit.specs.Circuit.{Listed}
 use Rattle.circuit.specs.Sheet.{Sheet, size, parents, member, is_child, Ordered}
+use Rattle.item.proofs.Located.{place_listed}
 use Rattle.children.specs.Children.{Lists, lists, link_places, head_places, link_item, link_last, link_all, NoChild, Leads, ends, child, Linked}
 
 pub links_length : (links heads : List ℕ) (first : ℕ) (ps : List ℕ) (k : ℕ) → length (link_places links heads first ps k) ≡ length links
@@ -104,11 +104,6 @@ nowhere_member (q ∷ ps) p none =
 -- the place of a child: it lists the parent
 pub place_child : (S : Sheet) (p d k : ℕ) → k < length (parents S d) → get_or (parents S d) k 0 ≡ p → is_child S p d ≡ true
 place_child S p d k h e = place_member (parents S d) k p h e
-
-place_listed : (ps : List ℕ) (k : ℕ) → k < length ps → Listed (get_or ps k 0) ps
-place_listed [] k h = absurd (omega arith)
-place_listed (q ∷ ps) zero h = inl refl
-place_listed (q ∷ ps) (suc k) h = inr (place_listed ps k (omega arith))
 
 -- a parent in its place is below the item
 pub place_below : (S : Sheet) → Ordered S → (c k : ℕ) → k < length (parents S c) → get_or (parents S c) k 0 < c

@@ -2,7 +2,7 @@
 // item 0 has no parents.
 #![tactic(auto)]
 
-ghost use Rattle.std.specs.Prelude.{◌≡◌, ℕ, true, false, ◌<◌, ◌≤◌, ◌+◌, ◌*◌, ◌/◌, length, get_or, set};
+ghost use Rattle.std.specs.Prelude.{◌≡◌, true, false, ◌<◌, ◌≤◌, ◌+◌, ◌*◌, ◌/◌, length, get_or, set, All};
 ghost use Rattle.circuit.specs.Rules.{max_parents};
 ghost use Rattle.circuit.specs.Sheet.{size, parents_of};
 ghost use Rattle.layout.specs.Opened.{sheet_of};
@@ -85,7 +85,7 @@ impl<'a> Model for Children<'a> {
 #[tactic(auto, unfolding(circuit::specs::Rules::max_parents))]
 fn link_places(kin: &mut [Kin], item: &Item<'_>, c: usize)
     requires here { c < length kin.old }
-    requires listed { (k : ℕ) → k < length (parents_of item.now) → get_or (parents_of item.now) k 0 < length kin.old }
+    requires listed { All (λ p. p < length kin.old) (parents_of item.now) }
     ensures { lists_of kin.new ≡ lists (heads_of kin.old) (link_places (links_of kin.old) (heads_of kin.old) (max_parents * c) (parents_of item.now) (length (parents_of item.now))) }
 {
     for k in 0..item.parent_count() {
@@ -98,7 +98,7 @@ fn link_places(kin: &mut [Kin], item: &Item<'_>, c: usize)
 #[tactic(auto, unfolding(circuit::specs::Rules::max_parents))]
 fn head_places(kin: &mut [Kin], item: &Item<'_>, c: usize)
     requires fits { max_parents * c + max_parents ≤ 65_536 }
-    requires listed { (k : ℕ) → k < length (parents_of item.now) → get_or (parents_of item.now) k 0 < length kin.old }
+    requires listed { All (λ p. p < length kin.old) (parents_of item.now) }
     ensures { lists_of kin.new ≡ lists (head_places (heads_of kin.old) (max_parents * c) (parents_of item.now) (length (parents_of item.now))) (links_of kin.old) }
 {
     for k in 0..item.parent_count() {

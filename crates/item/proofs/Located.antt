@@ -2,17 +2,21 @@
 -- fields' offsets is good for. Assumes nothing.
 use mathlib.Core.Path.{◌≡◌, refl, sym, ap, ap₂, ◌∙◌}
 use mathlib.Core.Bool.{Bool, true, false, ◌&&◌}
-use mathlib.Core.List.{List, map}
-use Prim.Native.Nat.{ℕ, ◌+◌, ◌≤◌, ◌<◌}
+use mathlib.Core.List.{List, [], ◌∷◌, map}
+use mathlib.Core.Logic.{inl, inr}
+use Prim.Native.Nat.{ℕ, zero, suc, ◌+◌, ◌≤◌, ◌<◌}
 use native.Mathlib.Omega.{arith}
 use lib.ListN.{length, get_or, take, length-map}
 use lib.Seq.{get_or-take}
 use lib.Dec.{eqb}
 use borrow.Author.Tests.{eqb-true, eqb-false, not-false}
+use Rattle.std.specs.List.{All}
+use Rattle.std.proofs.lemmas.List.Elements.{All-from_get_or}
 use Rattle.field.specs.Field.{len_at, header_length}
 use Rattle.field.proofs.Cutting.{field_iff, content_length}
 use Rattle.circuit.specs.Rules.{max_parents}
-use Rattle.circuit.specs.Sheet.{size, item_at, parents_of, Ordered}
+use Rattle.circuit.specs.Circuit.{Listed}
+use Rattle.circuit.specs.Sheet.{Item, size, item_at, parents_of, Ordered}
 use Rattle.layout.specs.Layout.{LayoutItem, figure_tag, rule_allowed, keep_allowed, spread_allowed, machine_item, rule_at, parent_count_at, most_items}
 use Rattle.layout.specs.Content.{content_at, count_in, rule_in, keep_in, spread_in, parent_count_in, parents_in, item_in}
 use Rattle.layout.specs.Read.{length_or_name, rule_wrong, Placed, head_content, SheetRead, opens, refused, read_sheet}
@@ -97,6 +101,20 @@ sheet_ordered s = go (read_sheet s) refl
     go : (r : SheetRead) → read_sheet s ≡ r → Ordered (sheet_from r)
     go (opens edition ps) e = opened_ordered s edition ps e
     go (refused k at) e = λ i p l. absurd l
+
+-- what stands in a place is listed
+pub place_listed : (ps : List ℕ) (k : ℕ) → k < length ps → Listed (get_or ps k 0) ps
+place_listed [] k h = absurd (omega arith)
+place_listed (q ∷ ps) zero h = inl refl
+place_listed (q ∷ ps) (suc k) h = inr (place_listed ps k (omega arith))
+
+-- what has room for the items has room for each parent of one
+pub parents_low : (s : List ℕ) (i : ℕ) (it : Item) → it ≡ item_at (sheet_of s) i → i < size (sheet_of s) → (room : ℕ) → size (sheet_of s) ≤ room
+    → All (λ p. p < room) (parents_of it)
+parents_low s i it is low room fits =
+    rw is
+    (All-from_get_or (λ p. p < room) (parents_of (item_at (sheet_of s) i)) 0
+    (λ k h. omega (arith, sheet_ordered s i (get_or (parents_of (item_at (sheet_of s) i)) k 0) (place_listed (parents_of (item_at (sheet_of s) i)) k h))))
 
 pub size_room : (s : List ℕ) → size (sheet_of s) ≤ room_for s
 unfolding sheet_of

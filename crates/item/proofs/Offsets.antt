@@ -1,11 +1,12 @@
 -- The index over the list of offsets: it is the index of the items, and it is written and compared entry by entry.
 -- Assumes nothing.
 use mathlib.Core.Path.{◌≡◌, refl, sym, ap, ap₂, ◌∙◌}
-use mathlib.Core.Bool.{Bool, true, false, ◌&&◌}
+use mathlib.Core.Bool.{Bool, true, false, ◌&&◌, and_assoc}
 use mathlib.Core.List.{List, [], ◌∷◌, ◌++◌, append_assoc}
 use Prim.Native.Nat.{ℕ, zero, suc, ◌+◌, ◌*◌, ◌/◌, ◌%◌, ◌≤◌, ◌<◌}
 use native.Mathlib.Omega.{arith}
 use native.Mathlib.Numerals.{add-one}
+use native.Mathlib.Nat.{mod-add-div}
 use lib.Dec.{eqb}
 use lib.ListN.{length, get_or, take, drop, drop_of_length-le}
 use lib.Seq.{sets-eq, length-sets, take-suc, take_all, drop-cons, drop-drop}
@@ -52,17 +53,13 @@ same_equal (a ∷ l) (b ∷ m) e = go (eqb a b) refl (same_equal l m) e
     go false q ih e = let z : ◌≡◌ {A = ℕ} 0 1 = cc in absurd (omega arith)
 
 -- two parts are compared one after the other
-and_assoc : (a b c : Bool) → (a && (b && c)) ≡ ((a && b) && c)
-and_assoc true b c = refl
-and_assoc false b c = refl
-
 same_append : (xs us ys vs : List ℕ) → length xs ≡ length us → same_bytes (xs ++ ys) (us ++ vs) ≡ (same_bytes xs us && same_bytes ys vs)
 unfolding same_bytes
 same_append [] [] ys vs e = refl
 same_append [] (u ∷ us) ys vs e = absurd (omega arith)
 same_append (x ∷ xs) [] ys vs e = absurd (omega arith)
 same_append (x ∷ xs) (u ∷ us) ys vs e =
-    ap (λ t. eqb x u && t) (same_append xs us ys vs (omega arith)) ∙ and_assoc (eqb x u) (same_bytes xs us) (same_bytes ys vs)
+    ap (λ t. eqb x u && t) (same_append xs us ys vs (omega arith)) ∙ sym (and_assoc (eqb x u) (same_bytes xs us) (same_bytes ys vs))
 
 -- Writing: one more offset.
 pub offsets_snoc : (l : List ℕ) (o : ℕ) → offset_bytes (l ++ (o ∷ [])) ≡ offset_bytes l ++ bytes32 o
@@ -133,9 +130,6 @@ module _ (index offsets : List ℕ) (size : length index ≡ index_width * lengt
       ap (λ t. entry_same k && t) (compared m (k + 1) (omega arith)) ∙ sym (compared_step index offsets k (omega arith) size)
 
 -- Four bytes compared as one number.
-split : (n : ℕ) → n % 256 + 256 * (n / 256) ≡ n
-split n = omega arith
-
 join : (o m q₁ q₂ q₃ q₄ r₀ r₁ r₂ r₃ : ℕ) → r₀ + 256 * q₁ ≡ o → r₁ + 256 * q₂ ≡ q₁ → r₂ + 256 * q₃ ≡ q₂ → r₃ + 256 * q₄ ≡ q₃
     → m + 4294967296 * q₄ ≡ o → m ≡ r₀ + 256 * r₁ + 65536 * (r₂ + 256 * r₃)
 join o m q₁ q₂ q₃ q₄ r₀ r₁ r₂ r₃ e₀ e₁ e₂ e₃ e = omega arith
@@ -145,10 +139,10 @@ parts o =
     let two : o / 256 / 256 ≡ o / 65_536 = omega arith in
     let three : o / 65_536 / 256 ≡ o / 16_777_216 = omega arith in
     let four : o / 16_777_216 / 256 ≡ o / 4294967296 = omega arith in
-    let e₁ : o / 256 % 256 + 256 * (o / 65_536) ≡ o / 256 = omega (arith, split (o / 256)) in
-    let e₂ : o / 65_536 % 256 + 256 * (o / 16_777_216) ≡ o / 65_536 = omega (arith, split (o / 65_536)) in
-    let e₃ : o / 16_777_216 % 256 + 256 * (o / 4294967296) ≡ o / 16_777_216 = omega (arith, split (o / 16_777_216)) in
-    join o (o % 4294967296) (o / 256) (o / 65_536) (o / 16_777_216) (o / 4294967296) (o % 256) (o / 256 % 256) (o / 65_536 % 256) (o / 16_777_216 % 256) (split o) e₁ e₂ e₃ (omega arith)
+    let e₁ : o / 256 % 256 + 256 * (o / 65_536) ≡ o / 256 = omega (arith, mod-add-div (o / 256) 256) in
+    let e₂ : o / 65_536 % 256 + 256 * (o / 16_777_216) ≡ o / 65_536 = omega (arith, mod-add-div (o / 65_536) 256) in
+    let e₃ : o / 16_777_216 % 256 + 256 * (o / 4294967296) ≡ o / 16_777_216 = omega (arith, mod-add-div (o / 16_777_216) 256) in
+    join o (o % 4294967296) (o / 256) (o / 65_536) (o / 16_777_216) (o / 4294967296) (o % 256) (o / 256 % 256) (o / 65_536 % 256) (o / 16_777_216 % 256) (mod-add-div o 256) e₁ e₂ e₃ (omega arith)
 
 -- the bytes that std gives of the low part of an offset
 four_bytes : (m a b c d : ℕ) → a < 256 → b < 256 → c < 256 → d < 256 → m ≡ a + 256 * b + 65536 * (c + 256 * d) → to_le_bytes w32 m ≡ a ∷ b ∷ c ∷ d ∷ []

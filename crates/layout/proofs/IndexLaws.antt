@@ -5,6 +5,7 @@ use mathlib.Core.List.{List, [], ◌∷◌, ◌++◌}
 use mathlib.Core.Option.{Option, none, some}
 use Prim.Native.Nat.{ℕ, zero, suc, ◌+◌, ◌*◌, ◌/◌, ◌%◌, ◌≤◌, ◌<◌}
 use native.Mathlib.Omega.{arith}
+use native.Mathlib.Nat.{mod-add-div}
 use lib.Dec.{eqb, leb}
 use lib.ListN.{length, get_or}
 use lib.Seq.{get_or-append-add}
@@ -40,16 +41,13 @@ index_bytes_lem (p ∷ ps) (suc (suc (suc (suc i)))) = index_bytes_lem ps i
 digits : (n a b c r₀ r₁ r₂ : ℕ) → r₀ + 256 * a ≡ n → r₁ + 256 * b ≡ a → r₂ + 256 * c ≡ b → r₀ + 256 * r₁ + 65_536 * r₂ + 16_777_216 * c ≡ n
 digits n a b c r₀ r₁ r₂ x y z = omega arith
 
-split : (n : ℕ) → n % 256 + 256 * (n / 256) ≡ n
-split n = omega arith
-
 le32_of : (n : ℕ) (rest : List ℕ) → n < 4_294_967_296 → le32_at (bytes32 n ++ rest) 0 ≡ n
 le32_of n rest h =
     let two : n / 65_536 ≡ n / 256 / 256 = omega arith in
     let three : n / 16_777_216 ≡ n / 256 / 256 / 256 = omega arith in
     let small : n / 16_777_216 % 256 ≡ n / 256 / 256 / 256 = omega arith in
     rw (small, two)
-    (digits n (n / 256) (n / 256 / 256) (n / 256 / 256 / 256) (n % 256) (n / 256 % 256) (n / 256 / 256 % 256) (split n) (split (n / 256)) (split (n / 256 / 256)))
+    (digits n (n / 256) (n / 256 / 256) (n / 256 / 256 / 256) (n % 256) (n / 256 % 256) (n / 256 / 256 % 256) (mod-add-div n 256) (mod-add-div (n / 256) 256) (mod-add-div (n / 256 / 256) 256))
 
 -- four bytes on
 le32_skip : (n : ℕ) (rest : List ℕ) (at : ℕ) → le32_at (bytes32 n ++ rest) (index_width + at) ≡ le32_at rest at

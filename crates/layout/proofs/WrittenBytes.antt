@@ -3,7 +3,7 @@ use mathlib.Core.Path.{◌≡◌, refl}
 use mathlib.Core.Bool.{Bool, true, false, cond, ◌&&◌}
 use mathlib.Core.List.{List, [], ◌∷◌, ◌++◌, map}
 use mathlib.Core.Logic.{◌⊎◌, inl, inr}
-use Prim.Native.Nat.{ℕ, zero, suc, ◌+◌, ◌/◌, ◌%◌, ◌≤◌, ◌<◌}
+use Prim.Native.Nat.{ℕ, ◌+◌, ◌/◌, ◌%◌, ◌≤◌, ◌<◌}
 use native.Mathlib.Omega.{arith}
 use lib.Dec.{eqb, leb, ltb}
 use lib.ListN.{length, length-append}
@@ -11,6 +11,7 @@ use borrow.Author.Tests.{leb-true, ltb-true}
 use Rattle.circuit.specs.Rules.{max_parents}
 use Rattle.field.specs.Bytes.{Bytes}
 use Rattle.field.specs.Field.{field_bytes}
+use Rattle.field.proofs.Bytes.{Bytes-nil, Bytes-cons, Bytes-append}
 use Rattle.field.proofs.Cutting.{Bytes-field_bytes}
 use Rattle.circuit.specs.Circuit.{Listed}
 use Rattle.layout.specs.Layout.{LayoutItem, entry_field, figure_field, Layout, head_tag, entry_tag, figure_tag, last_tag, edition_known, level_limit, keep_allowed}
@@ -22,18 +23,6 @@ use Rattle.layout.proofs.Items.{pairs_length, name_length}
 use Rattle.layout.proofs.Exactly.{and_four, within_parts}
 use Rattle.layout.proofs.IndexLaws.{parents_most}
 use Rattle.layout.proofs.Tests.{Tells, holds, fails, tells_or, tells_eq, tells_rule}
-
-Bytes-nil : Bytes []
-Bytes-nil i = omega arith
-
-Bytes-cons : (b : ℕ) (bs : List ℕ) → b < 256 → Bytes bs → Bytes (b ∷ bs)
-Bytes-cons b bs h t zero = h
-Bytes-cons b bs h t (suc i) = t i
-
-pub Bytes-append : (xs ys : List ℕ) → Bytes xs → Bytes ys → Bytes (xs ++ ys)
-Bytes-append [] ys a b i = b i
-Bytes-append (x ∷ xs) ys a b zero = a 0
-Bytes-append (x ∷ xs) ys a b (suc i) = Bytes-append xs ys (λ j. a (suc j)) b i
 
 Bytes-pair : (n : ℕ) → n < 65_536 → Bytes (bytes16 n)
 Bytes-pair n h = Bytes-cons (n % 256) (n / 256 ∷ []) (omega arith) (Bytes-cons (n / 256) [] (omega arith) Bytes-nil)

@@ -22,7 +22,8 @@ use Rattle.circuit.proofs.CatchUp.{look_quiet, catch_up-quiet, catch_up-still, c
 use Rattle.circuit.proofs.Accepted.{number_cause, accepted_effect, board_passed}
 use Rattle.layout.specs.Opened.{sheet_of}
 use Rattle.word.specs.Word.{Bytes, size64, bytes64}
-use Rattle.word.proofs.Bytes.{le_at-drop, signed_again, length_bytes64, bytes_cons, bytes-le_bytes}
+use Rattle.field.proofs.Bytes.{Bytes-cons}
+use Rattle.word.proofs.Bytes.{le_at-drop, signed_again, length_bytes64, bytes-le_bytes}
 use Rattle.table.specs.Bytes.{encode_table, decode_table, Holdable}
 use Rattle.table.proofs.Records.{number_fits}
 use Rattle.office.specs.Office.{Office, keeping, Given, results_lent, result_of, results_of, call_on, run_on}
@@ -38,7 +39,7 @@ pub result_words : (v : Value) → well_formed v ≡ true → ResultWords (resul
 result_words v formed =
     record {
       long = omega (arith, length_bytes64 (number_of v));
-      bytes = bytes_cons (kind_of v) (bytes64 (number_of v)) (omega (arith, kind_small v)) (bytes-le_bytes size64 (of_z w64 (number_of v)));
+      bytes = Bytes-cons (kind_of v) (bytes64 (number_of v)) (omega (arith, kind_small v)) (bytes-le_bytes size64 (of_z w64 (number_of v)));
       kind_is = refl;
       number_is = ap (to_z w64) (le_at-drop size64 (result_of (kind_of v) (number_of v)) 1 0) ∙ signed_again (number_of v) (number_fits v formed);
     }

@@ -22,6 +22,7 @@ use Rattle.circuit.proofs.Owed.{Child, owed_child, owed_finds, owed_leads}
 use Rattle.circuit.proofs.Reading.{bare_look}
 use Rattle.circuit.proofs.Sound.{Sound}
 use Rattle.field.specs.Field.{Bytes}
+use Rattle.field.proofs.Bytes.{Bytes-append}
 use Rattle.layout.specs.Layout.{Layout, LayoutItem, entry_field, figure_field, machine_item, machine_sheet}
 use Rattle.layout.specs.Read.{Placed, opens, read_sheet, layout_of}
 use Rattle.layout.specs.Write.{concat, within, write_sheet}
@@ -33,7 +34,6 @@ use Rattle.layout.proofs.Exactly.{written_opens, places_layout, places_offset, o
 use Rattle.layout.proofs.Causes.{opens_faultless}
 use Rattle.layout.proofs.Scan.{opened_ordered}
 use Rattle.layout.proofs.IndexLaws.{index_length, opened_entry}
-use Rattle.layout.proofs.WrittenBytes.{Bytes-append}
 use Rattle.table.specs.Rows.{row}
 use Rattle.table.specs.Record.{width, owed_place, kind_in, mark_in, number_in, owed_in, owed_code, cell_coded, encode_cell, decode_cell}
 use Rattle.table.specs.Bytes.{encode_table, decode_table, Holdable}

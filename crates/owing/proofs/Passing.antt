@@ -10,12 +10,13 @@ use lib.ListN.{length, get_or, set, length-set}
 use lib.Seq.{get_or-set_same, get_or-set_other}
 use borrow.Author.Tests.{eqb-true, eqb-false}
 use Rattle.circuit.specs.Circuit.{Listed}
-use Rattle.circuit.specs.Sheet.{Sheet, Item, size, item_at, parents, parents_of, Ordered}
+use Rattle.circuit.specs.Sheet.{Sheet, size, parents, Ordered}
 use Rattle.circuit.specs.Table.{Table}
 use Rattle.circuit.specs.Owed.{leaning, owed, leans}
 use Rattle.circuit.proofs.Closure.{parent_within}
 use Rattle.circuit.proofs.Owed.{Child, owed_child, owed_finds}
 use Rattle.circuit.proofs.View.{never}
+use Rattle.item.proofs.Located.{place_listed}
 use Rattle.table.specs.Record.{owed_code}
 use Rattle.owing.specs.Owing.{says_owed, OwedIs, owe_each}
 
@@ -52,11 +53,6 @@ each_put bytes ps (suc k) i low = go (eqb (get_or ps k 0) i) refl (each_put byte
         last j true z h e = eqb-false (get_or ps k 0) i q (ap (λ x. get_or ps x 0) (sym (eqb-true j k z)) ∙ e)
         last j false z h e = let other : (j ≡ k → ⊥) = eqb-false j k z in none j (omega arith) e
 
-place_listed : (ps : List ℕ) (k : ℕ) → k < length ps → Listed (get_or ps k 0) ps
-place_listed [] k h = absurd (omega arith)
-place_listed (q ∷ ps) zero h = inl refl
-place_listed (q ∷ ps) (suc k) h = inr (place_listed ps k (omega arith))
-
 -- what stands in no place is not listed
 nowhere_listed : (ps : List ℕ) (i : ℕ) → ((j : ℕ) → j < length ps → get_or ps j 0 ≡ i → ⊥) → Listed i ps → ⊥
 nowhere_listed [] i none l = absurd l
@@ -81,7 +77,7 @@ says_owed_lem S ordered T c i below (none without is) = is ∙ ap owed_code (sym
         let k : Child S T i = owed_finds S ordered T i e in
         absurd (without k.item (omega (arith, ordered k.item i k.listed, below)) k.listed k.leans_on)
 
-code_owes : (b : Bool) → not (eqb (owed_code b) 0) ≡ b
+pub code_owes : (b : Bool) → not (eqb (owed_code b) 0) ≡ b
 code_owes true = refl
 code_owes false = refl
 
@@ -147,10 +143,3 @@ module _ (S : Sheet) (ordered : Ordered S) (T : Table) (room : ℕ) where
         go i (one d from listed leant was) (still nowhere is) = one d (omega arith) listed leant (is ∙ was)
         go i (none without was) (still nowhere is) =
             none (none_here i (λ l leant. nowhere_listed (parents S k) i nowhere l) without) (is ∙ was)
-
--- each parent of item k has a byte
-pub parents_low : (S : Sheet) → Ordered S → (k : ℕ) (it : Item) → it ≡ item_at S k → (room : ℕ) → size S ≤ room → k < size S → (j : ℕ) → j < length (parents_of it)
-    → get_or (parents_of it) j 0 < room
-parents_low S ordered k it is room fits low j h =
-    let listed : j < length (parents S k) = rw (← is) h in
-    rw is (omega (arith, ordered k (get_or (parents S k) j 0) (place_listed (parents S k) j listed)))

@@ -3,7 +3,7 @@
 // for nothing, and what it holds afterwards is left free.
 #![tactic(auto)]
 
-ghost use Rattle.std.specs.Prelude.{◌≡◌, true, ℕ, ◌+◌, ◌*◌, ◌<◌, ◌≤◌, eqb, length, get_or};
+ghost use Rattle.std.specs.Prelude.{◌≡◌, true, ℕ, ◌+◌, ◌*◌, ◌<◌, ◌≤◌, eqb, length, get_or, All};
 ghost use Rattle.circuit.specs.Sheet.{size, parents_of};
 ghost use Rattle.circuit.specs.Owed.{leaning};
 ghost use Rattle.layout.specs.Opened.{sheet_of};
@@ -26,7 +26,7 @@ fn leans(table: &[u8], owed: &[u8], c: usize) -> bool
 
 // Each parent of an item is owed.
 fn owe_parents(item: &Item<'_>, owed: &mut [u8])
-    requires { ((k : ℕ) → k < length (parents_of item.now) → get_or (parents_of item.now) k 0 < length owed.old) }
+    requires { All (λ p. p < length owed.old) (parents_of item.now) }
     ensures { owed.new ≡ owe_each owed.old (parents_of item.now) (length (parents_of item.now)) }
 {
     for k in 0..item.parent_count() {
@@ -81,6 +81,8 @@ fn write_owed(table: &mut [u8], owed: &[u8])
 }
 
 // Settles a table whose cells were stored: its owed bytes become the true ones. Every owed byte is written here.
+// (The clauses recorded and formed are the fact Lent, which the callers have. They stand one by one since Lent is a word of crate looking,
+// which is above this one.)
 pub fn settle(sheet: &Sheet<'_>, table: &mut [u8], owed: &mut [u8])
     requires recorded { length table.old ≡ width * size (sheet_of sheet.now) }
     requires roomy { size (sheet_of sheet.now) ≤ length owed.old }

@@ -1,32 +1,28 @@
 -- What the printer makes of a value, and of a call. Assumes nothing.
 use Prim.Native.Nat.{ℕ, suc, ◌≤◌, ◌<◌}
-use mathlib.Core.Path.{◌≡◌, refl, sym, ap, ◌∙◌}
-use mathlib.Core.Bool.{Bool, true, false, cond}
+use mathlib.Core.Path.{◌≡◌, sym, ap, ◌∙◌}
+use mathlib.Core.Bool.{true, false}
 use mathlib.Core.List.{List, [], ◌∷◌, ◌++◌}
 use mathlib.Core.Option.{none, some}
 use native.Mathlib.Omega.{arith}
 use borrow.Author.Tests.{lt-ltb, le-ltb}
-use lib.Dec.{eqb}
 use lib.IntN.{ℤ, pos, negsuc, nat_abs}
 use lib.Signed.{lt_z}
-use lib.ListN.{length, take, drop, set}
-use lib.Seq.{take_at}
+use lib.ListN.{length, drop, set}
 use mir.Syntax.{w64}
 use mir.Val.{SFits}
 use Rattle.circuit.specs.Calls.{first_cause}
 use Rattle.circuit.specs.Value.{Value}
 use Rattle.value.specs.Meaning.{meaning, parts_of, parts_meaning}
 use Rattle.value.specs.declared.Value as code
-use Rattle.cause.specs.declared.Cause.{Cause}
 use Rattle.cause.specs.declared.Cause.TheVariants.{Form, Scratch}
 use Rattle.std.specs.Prelude.{Some, None, Ok, Err, Result}
 use Rattle.std.specs.Prelude as std
 use Rattle.decimal.specs.Decimal.{digits, decimal, minus}
 use Rattle.decimal.specs.Contract.{WithDigits}
 use Rattle.decimal.proofs.Digits.{length_at_most}
-use Rattle.printer.specs.Printing.{printed, text_of, least_scratch, print_cause, part_of}
-use Rattle.printer.specs.Contract.{written, refused, answer_meaning, answer_of, Front, Prints}
-use Rattle.printer.proofs.Answers.{length_of}
+use Rattle.printer.specs.Printing.{printed, least_scratch}
+use Rattle.printer.specs.Contract.{written, Front, Prints}
 
 -- ---- the values of the code
 
@@ -86,18 +82,3 @@ module _ (kind : ℕ) (z : ℤ) (v : Value) (e : parts_of kind z ≡ some v) whe
   unfolding first_cause
   accepted s s' n h f =
       record { answers = rw (e, le-ltb (length s) least_scratch h) (ap written f.size); bytes = rw (e, le-ltb (length s) least_scratch h) f.bytes }
-
--- the part is as long as the answer says, and stands at the front
-length_answered : (kind : ℕ) (z : ℤ) (count : ℕ) → length_of (answer_of kind z count) ≡ length (part_of kind z count)
-length_answered kind z count = go (eqb (print_cause kind z count) 0) (text_of (parts_of kind z))
-  where
-    go : (b : Bool) (text : List ℕ) → length_of (cond b (written (length (cond b text []))) (refused (print_cause kind z count))) ≡ length (cond b text [])
-    go true text = refl
-    go false text = refl
-
-module _ (kind : ℕ) (z : ℤ) (s : List ℕ) (a : Result ℕ Cause) (s' : List ℕ) (p : Prints kind z s a s') where
-  pub part_length : length_of (answer_meaning a) ≡ length (part_of kind z (length s))
-  part_length = ap length_of p.answers ∙ length_answered kind z (length s)
-
-  pub part_front : take (length_of (answer_meaning a)) s' ≡ part_of kind z (length s)
-  part_front = ap (λ l. take (length_of (answer_meaning a)) l) p.bytes ∙ take_at (part_of kind z (length s)) _ (length_of (answer_meaning a)) (sym part_length)

@@ -12,8 +12,9 @@ use lib.Seq.{get_or-take}
 use mir.Syntax.{w64}
 use mir.Val.{SFits, to_z, of_z}
 use Rattle.field.specs.Bytes.{Bytes}
+use Rattle.field.proofs.Bytes.{Bytes-cons}
 use Rattle.word.specs.Word.{bytes64}
-use Rattle.word.proofs.Bytes.{le_at-drop, le_at-take, signed_again, bytes_again, length_bytes64, bytes_cons, bytes-le_bytes}
+use Rattle.word.proofs.Bytes.{le_at-drop, le_at-take, signed_again, bytes_again, length_bytes64, bytes-le_bytes}
 use Rattle.circuit.proofs.Parts.{kind_small}
 use Rattle.circuit.proofs.RuleLaws.{and_left, and_right}
 use Rattle.circuit.specs.Value.{Value, null, out, num, limit, in_range, same_number, kind_of, number_of, is_out, well_formed}
@@ -148,7 +149,7 @@ mark_byte refresh = lit< tt
 mark_byte notice = lit< tt
 
 bytes_record : (k m : ℕ) (z : ℤ) → k < 256 → m < 256 → Bytes (record_of k m z)
-bytes_record k m z hk hm = bytes_cons k (m ∷ bytes64 z) hk (bytes_cons m (bytes64 z) hm (bytes-le_bytes 8 (of_z w64 z)))
+bytes_record k m z hk hm = Bytes-cons k (m ∷ bytes64 z) hk (Bytes-cons m (bytes64 z) hm (bytes-le_bytes 8 (of_z w64 z)))
 
 pub bytes-encode_cell : (c : Cell) → Bytes (encode_cell c)
 unfolding encode_cell

@@ -11,7 +11,7 @@ use lib.ListN.{length, get_or, take, drop, set, length-append, length-take, leng
 use lib.Seq.{sets, sets-eq, length-sets, take-add, take-take, take_at, drop_at, take_all, take-append-le, drop-append-le, get_or-set_other, get_or-take, get_or-drop, ext_get_or, length-take-le}
 use Rattle.circuit.proofs.RuleLaws.{and_left, and_right}
 use Rattle.field.specs.Bytes.{Bytes}
-use Rattle.word.proofs.Bytes.{none_bytes, bytes_append}
+use Rattle.field.proofs.Bytes.{Bytes-nil, Bytes-append}
 use Rattle.table.specs.Rows.{row, set_row, rows_below, all_below}
 
 -- rows do not overlap
@@ -68,8 +68,8 @@ rows_row w bs n e = rows_taken w bs n (omega arith) ∙ take_all (w * n) bs (ome
 
 pub bytes_rows : (f : ℕ → List ℕ) (n : ℕ) → ((i : ℕ) → Bytes (f i)) → Bytes (rows_below f n)
 unfolding rows_below
-bytes_rows f zero each k = none_bytes k
-bytes_rows f (suc n) each k = bytes_append (rows_below f n) (f n) (bytes_rows f n each) (each n) k
+bytes_rows f zero each k = Bytes-nil k
+bytes_rows f (suc n) each k = Bytes-append (rows_below f n) (f n) (bytes_rows f n each) (each n) k
 
 -- ---- storing a row
 

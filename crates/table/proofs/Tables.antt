@@ -10,7 +10,8 @@ use borrow.Author.Tests.{eqb-true, eqb-false, eq-eqb, ltb-true, ltb-false, not-t
 use lib.ListN.{length, get_or, take, drop, length-append}
 use lib.Seq.{take_at, take-suc, take_all, get_or_at}
 use Rattle.field.specs.Bytes.{Bytes}
-use Rattle.word.proofs.Bytes.{none_bytes, bytes_cons, bytes_append, bytes_take, bytes_drop}
+use Rattle.field.proofs.Bytes.{Bytes-nil, Bytes-cons, Bytes-append}
+use Rattle.word.proofs.Bytes.{bytes_take, bytes_drop}
 use Rattle.circuit.proofs.RuleLaws.{and_left, and_right}
 use Rattle.circuit.specs.Value.{null, well_formed, is_out}
 use Rattle.circuit.specs.Sheet.{Sheet, Item, entry, figure, size, item_at, is_figure, Ordered}
@@ -39,11 +40,11 @@ length-encode_table S T = length_rows width (encode_record S T) (size S) (λ i h
 pub bytes-encode_table : (S : Sheet) (T : Table) → Bytes (encode_table S T)
 unfolding encode_table
 bytes-encode_table S T =
-    bytes_rows (encode_record S T) (size S) (λ i. bytes_append (encode_cell (T i)) (owed_code (owed S T i) ∷ []) (bytes-encode_cell (T i)) (owed_byte (owed S T i)))
+    bytes_rows (encode_record S T) (size S) (λ i. Bytes-append (encode_cell (T i)) (owed_code (owed S T i) ∷ []) (bytes-encode_cell (T i)) (owed_byte (owed S T i)))
   where
     owed_byte : (b : Bool) → Bytes (owed_code b ∷ [])
-    owed_byte false = bytes_cons 0 [] (omega arith) none_bytes
-    owed_byte true = bytes_cons 1 [] (omega arith) none_bytes
+    owed_byte false = Bytes-cons 0 [] (omega arith) Bytes-nil
+    owed_byte true = Bytes-cons 1 [] (omega arith) Bytes-nil
 
 -- item i has its record in a table of the right length
 pub record_fits : (S : Sheet) (bs : List ℕ) (i : ℕ) → length bs ≡ table_length S → i < size S → width * i + width ≤ length bs

@@ -161,6 +161,7 @@ pub fn owed_byte(table: &[u8], i: usize) -> u8
 }
 
 // The lowest of the first n items that is marked.
+// (n is the sheet's size, which the caller has; from the bytes it would take a division.)
 pub fn lowest_marked(table: &[u8], n: usize) -> Option<usize>
     requires { width * n ≤ length table.now }
     ensures { LowestFound (decode_table table.now) n result }

@@ -14,6 +14,7 @@ use lib.Seq.{sets, sets-eq, get_or-drop, get_or-take, drop-cons, drop-drop}
 use borrow.Rule.Slice.PartMut.{put_mid}
 use Rattle.std.specs.Int.{byte_at, bytes_low_first, to_le_bytes, from_le_bytes}
 use Rattle.field.specs.Bytes.{Bytes}
+use Rattle.field.proofs.Bytes.{Bytes-nil}
 use Rattle.word.specs.Word.{le_at, le_bytes, le64_at, bytes64}
 
 -- eight bytes, each times its power
@@ -113,30 +114,17 @@ length_bytes64 z = length-le_bytes 8 (of_z w64 z)
 
 -- ---- lists of bytes
 
-pub none_bytes : (k : ℕ) → get_or [] k 0 < 256
-none_bytes zero = omega arith
-none_bytes (suc k) = omega arith
-
 pub bytes_drop : (n : ℕ) (s : List ℕ) → Bytes s → Bytes (drop n s)
 bytes_drop n s bytes k = rw (get_or-drop n s k 0) (bytes (n + k))
 
 pub bytes_take : (n : ℕ) (s : List ℕ) → Bytes s → Bytes (take n s)
-bytes_take zero s bytes k = none_bytes k
-bytes_take (suc n) [] bytes k = none_bytes k
+bytes_take zero s bytes k = Bytes-nil k
+bytes_take (suc n) [] bytes k = Bytes-nil k
 bytes_take (suc n) (a ∷ s) bytes zero = bytes 0
 bytes_take (suc n) (a ∷ s) bytes (suc k) = bytes_take n s (λ j. bytes (suc j)) k
 
-pub bytes_append : (s t : List ℕ) → Bytes s → Bytes t → Bytes (s ++ t)
-bytes_append [] t bs bt k = bt k
-bytes_append (a ∷ s) t bs bt zero = bs 0
-bytes_append (a ∷ s) t bs bt (suc k) = bytes_append s t (λ j. bs (suc j)) bt k
-
-pub bytes_cons : (a : ℕ) (s : List ℕ) → a < 256 → Bytes s → Bytes (a ∷ s)
-bytes_cons a s h bytes zero = h
-bytes_cons a s h bytes (suc k) = bytes k
-
 pub bytes-le_bytes : (n x : ℕ) → Bytes (le_bytes n x)
 unfolding le_bytes
-bytes-le_bytes zero x k = none_bytes k
+bytes-le_bytes zero x k = Bytes-nil k
 bytes-le_bytes (suc n) x zero = omega arith
 bytes-le_bytes (suc n) x (suc k) = bytes-le_bytes n (x / 256) k

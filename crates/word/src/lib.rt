@@ -5,6 +5,7 @@ ghost use Rattle.std.specs.Prelude.{◌≡◌, ◌+◌, ◌≤◌, length};
 ghost use Rattle.std.proofs.lemmas.List.Edits.{sets};
 ghost use Rattle.word.specs.Word.{size64, le64_at, bytes64};
 
+// (At an offset, as write_i64 below.)
 pub fn read_i64(s: &[u8], at: usize) -> i64
     requires { at + size64 ≤ length s.now }
     ensures { result ≡ le64_at s.now at }

@@ -1,7 +1,8 @@
 -- `link` meets its contract. Assumes nothing.
 use Rattle.std.proofs.Common.{arith}
+use Rattle.item.proofs.Located.{parents_low}
 use Rattle.children.specs.Children.{lists_of}
-use Rattle.children.proofs.Building.{built_start, parents_low, edges_fit, built_next, built_done}
+use Rattle.children.proofs.Building.{built_start, edges_fit, built_next, built_done}
 use Rattle.children.proofs.link.Goals as goal
 
 pub loop-c-init : goal.loop-c-init
@@ -9,14 +10,14 @@ loop-c-init c = built_start c.args.sheet.now (lists_of c.args.kin.now) c.len-c.r
 
 pub link_places-requires-clause-listed : goal.link_places-requires-clause-listed
 link_places-requires-clause-listed c =
-    parents_low c.loop-c.invariant c.loop-c-test.true c.item-item.result c.item-item.ensures _ (omega arith)
+    parents_low c.args.sheet.now _ c.item-item.result c.item-item.ensures (omega arith) _ (omega arith)
 
 pub head_places-requires-clause-fits : goal.head_places-requires-clause-fits
 head_places-requires-clause-fits c = edges_fit c.loop-c.invariant c.loop-c-test.true c.item-item.result c.item-item.ensures
 
 pub head_places-requires-clause-listed : goal.head_places-requires-clause-listed
 head_places-requires-clause-listed c =
-    parents_low c.loop-c.invariant c.loop-c-test.true c.item-item.result c.item-item.ensures _ (omega arith)
+    parents_low c.args.sheet.now _ c.item-item.result c.item-item.ensures (omega arith) _ (omega arith)
 
 pub loop-c-preserved : goal.loop-c-preserved
 loop-c-preserved c =

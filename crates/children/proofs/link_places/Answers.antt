@@ -1,6 +1,5 @@
 -- `link_places` meets its contract. Assumes nothing.
-use Rattle.std.proofs.Common.{refl, arith, rules}
-use Rattle.circuit.specs.Rules.{max_parents}
+use Rattle.std.proofs.Common.{refl, arith}
 use Rattle.circuit.specs.Sheet.{parents_of}
 use Rattle.children.specs.Children.{link_places}
 use Rattle.children.proofs.Rows.{nobody, placed_next}

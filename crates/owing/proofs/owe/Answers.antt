@@ -3,8 +3,8 @@ use native.Mathlib.Omega.{arith}
 use Prim.Native.Nat.{◌-◌}
 use mathlib.Core.Path.{refl}
 use Rattle.std.proofs.Common.{rules}
-use Rattle.item.proofs.Located.{sheet_ordered}
-use Rattle.owing.proofs.Passing.{passed_start, passed_over, passed_on, passed_done, parents_low}
+use Rattle.item.proofs.Located.{sheet_ordered, parents_low}
+use Rattle.owing.proofs.Passing.{passed_start, passed_over, passed_on, passed_done}
 use Rattle.owing.proofs.owe.Goals as goal
 
 pub loop-c-init : goal.loop-c-init
@@ -19,7 +19,7 @@ leans-requires c =
 pub owe_parents-requires : goal.owe_parents-requires
 owe_parents-requires c =
     let p = c.loop-c.invariant in
-    parents_low _ (sheet_ordered c.args.sheet.now) (c.loop-c.c - 1) _ c.item.ensures _ (omega (arith, p.fits, p.kept)) (omega (arith, p.within, c.loop-c-test.true))
+    parents_low c.args.sheet.now (c.loop-c.c - 1) _ c.item.ensures (omega (arith, p.within, c.loop-c-test.true)) _ (omega (arith, p.fits, p.kept))
 
 pub loop-c-preserved-then-leans : goal.loop-c-preserved-then-leans
 loop-c-preserved-then-leans c =

@@ -1,5 +1,5 @@
 -- `Children::link_once` meets its contract. Assumes nothing.
-use Rattle.std.proofs.Common.{false, subst, sym, ap, ◌∙◌}
+use Rattle.std.proofs.Common.{subst, sym, ap, ◌∙◌}
 use Rattle.layout.specs.Opened.{sheet_of}
 use Rattle.children.specs.Children.{lists_of, family, Kept}
 use Rattle.children.proofs.Building.{kept_built}
