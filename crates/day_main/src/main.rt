@@ -75,13 +75,7 @@ fn load_files(
     (load(rt, "sheet.bin", sheet), load(rt, "day.bin", log))
 }
 
-// Writes the bytes to standard output, all of them, or as many as it takes. (A wrapper of its own: a crate for the three
-// programs that have one would be longer than they are.)
-fn put(rt: &HostRuntime, bytes: &[u8]) {
-    let _ = rt.stdout().write_all(bytes);
-}
-
-// Runs the day with lent bytes, which are enough for its whole text, and writes its lines to standard output.
+// Runs the day with lent bytes, which are enough for its whole text, and writes its lines to standard output, all of them, or as much as it takes.
 fn show_day(
     rt: &HostRuntime,
     sheet: &[u8],
@@ -94,7 +88,7 @@ fn show_day(
     ensures { Shown (run_day sheet.now log.now index.old table.old) out.old index.new table.new out.new }
 {
     let n = day::run_day(sheet, log, index, table, out);
-    put(rt, &out[..n]);
+    let _ = rt.stdout().write_all(&out[..n]);
 }
 
 fn main(rt: HostRuntime) {

@@ -10,25 +10,21 @@ ghost use Rattle.figures.specs.Figures.{tested};
 use rules::Operation;
 use value::{Amount, LIMIT, MAX_PARENTS, Value};
 
-// (A wrapper of its own: a crate for the three programs that have one would be longer than they are.)
-fn write(rt: &impl Print, text: &[u8]) {
-    let _ = rt.write_all(text);
-}
-
 // A value as the printer writes it, but NULL by its name.
 fn write_value(rt: &impl Print, v: Value) {
     if v.is_null() {
-        return write(rt, b"NULL");
+        let _ = print!(rt; "NULL");
+        return;
     }
     let mut scratch = [0u8; printer::LEAST_SCRATCH];
     let part = printer::print(u64::from(v.kind()), v.number_or_zero(), &mut scratch);
-    write(rt, part);
+    let _ = rt.write_all(part);
 }
 
 fn write_parents(rt: &impl Print, parents: &[Value]) {
     for (i, v) in parents.iter().enumerate() {
         if i > 0 {
-            write(rt, b", ");
+            let _ = print!(rt; ", ");
         }
         write_value(rt, *v);
     }
@@ -61,25 +57,26 @@ fn worked(op: Operation, parents: &[Value]) -> Value
 
 // A line: the rule's name, the parents' values, and what the rule gives on them. (Name and code stand side by side in each call, and in no table:
 // most of the rules have one call.)
-fn figure(rt: &impl Print, name: &[u8], code: u8, parents: &[Value])
+fn figure(rt: &impl Print, name: &str, code: u8, parents: &[Value])
     requires { length parents.now ≤ rules.max_parents }
 {
-    write(rt, name);
-    write(rt, b"(");
+    let _ = print!(rt; "{name}(");
     write_parents(rt, parents);
-    write(rt, b") = ");
+    let _ = print!(rt; ") = ");
     match rules::operation_of(code, parents.len()) {
         Some(op) => write_value(rt, worked(op, parents)),
-        None => write(rt, b"refused"),
+        None => {
+            let _ = print!(rt; "refused");
+        }
     }
-    write(rt, b"\n");
+    let _ = println!(rt);
 }
 
 // Shares of a number: by 0, 1, 9,999 and 10,000 parts of the whole.
 #[tactic(auto, unfolding(circuit::specs::Rules::max_parents))]
 fn shares(rt: &impl Print, n: i64) {
     for parts in [0, 1, 9999, 10000] {
-        figure(rt, b"share", 5, &[Value::number(n), Value::number(parts)]);
+        figure(rt, "share", 5, &[Value::number(n), Value::number(parts)]);
     }
 }
 
@@ -103,7 +100,7 @@ fn choices(rt: &impl Print) {
         [two, none, nine],
         [Value::number(-1), Value::number(4), none],
     ] {
-        figure(rt, b"choice", 6, &parents);
+        figure(rt, "choice", 6, &parents);
     }
 }
 
@@ -114,17 +111,17 @@ fn main(rt: HostRuntime) {
     let one = Value::number(1);
     let three = Value::number(3);
     let minus_one = Value::number(-1);
-    figure(&rt, b"sum", 1, &[none, none]);
-    figure(&rt, b"sum", 1, &[Value::number(5), none]);
-    figure(&rt, b"sum", 1, &[top, one]);
-    figure(&rt, b"sum", 1, &[top, one, minus_one]);
-    figure(&rt, b"difference", 2, &[none, three]);
-    figure(&rt, b"share", 5, &[minus_one, Value::number(5000)]);
-    figure(&rt, b"share", 5, &[Value::number(7), Value::number(10001)]);
+    figure(&rt, "sum", 1, &[none, none]);
+    figure(&rt, "sum", 1, &[Value::number(5), none]);
+    figure(&rt, "sum", 1, &[top, one]);
+    figure(&rt, "sum", 1, &[top, one, minus_one]);
+    figure(&rt, "difference", 2, &[none, three]);
+    figure(&rt, "share", 5, &[minus_one, Value::number(5000)]);
+    figure(&rt, "share", 5, &[Value::number(7), Value::number(10001)]);
     choices(&rt);
-    figure(&rt, b"count", 7, &[none, Value::number(4)]);
-    figure(&rt, b"at least", 8, &[three, three]);
-    figure(&rt, b"smallest", 3, &[none, Value::number(-2)]);
+    figure(&rt, "count", 7, &[none, Value::number(4)]);
+    figure(&rt, "at least", 8, &[three, three]);
+    figure(&rt, "smallest", 3, &[none, Value::number(-2)]);
     for n in [LIMIT, LIMIT - 1, 1 - LIMIT, -LIMIT] {
         shares(&rt, n);
     }

@@ -7,7 +7,6 @@ ghost use Rattle.field.specs.Bytes.{over};
 
 use value::LIMIT;
 
-// (A wrapper of its own: a crate for the three programs that have one would be longer than they are.)
 fn line(rt: &impl Print, text: &[u8]) {
     let _ = rt.write_all(text);
     let _ = rt.write_all(b"\n");

@@ -1,6 +1,5 @@
 -- The cases of standard input, and what the check of their sheets leaves in the two lent arrays. Assumes nothing.
-use Rattle.std.specs.Prelude.{ℕ, ◌≡◌, List, length}
-use Rattle.std.proofs.Math.Option.{Option, none, some}
+use Rattle.std.specs.Prelude.{ℕ, ◌≡◌, List, Option, None, Some}
 use Rattle.field.specs.Field.{Cut, absent, short, field, cut_at}
 use Rattle.layout.specs.Content.{content_at}
 use Rattle.layout.specs.Opened.{offsets_of, levels_of}
@@ -14,13 +13,13 @@ pub record Case : Type 0 where
 
 -- the sheet is the content of the second field
 abbrev pub second_in : List ℕ → Cut → Option Case
-second_in cases absent = none
-second_in cases short = none
-second_in cases (field tag start len next) = some (record { sheet = content_at cases start len; next = next })
+second_in cases absent = None
+second_in cases short = None
+second_in cases (field tag start len next) = Some (record { sheet = content_at cases start len; next = next })
 
 abbrev pub case_in : List ℕ → Cut → Option Case
-case_in cases absent = none
-case_in cases short = none
+case_in cases absent = None
+case_in cases short = None
 case_in cases (field tag start len next) = second_in cases (cut_at cases next)
 
 -- the case at an offset: two fields, a label and a sheet
@@ -32,8 +31,7 @@ pub record Checks (s offsets levels offsets' levels' : List ℕ) : Type 0 where
   pub offsets_are : offsets' ≡ over (offsets_of (read_so_far s)) offsets
   pub levels_are : levels' ≡ over (levels_of (read_so_far s)) levels
 
--- What is given and left for a case: the offset after it, with its sheet checked; where there is no whole case, the length,
--- with nothing done.
-pub data Runs (cases offsets levels : List ℕ) (r : ℕ) (offsets' levels' : List ℕ) : Option Case → Type 0 where
-  no_case : r ≡ length cases → offsets' ≡ offsets → levels' ≡ levels → Runs cases offsets levels r offsets' levels' none
-  a_case : {c : Case} → r ≡ c.next → Checks c.sheet offsets levels offsets' levels' → Runs cases offsets levels r offsets' levels' (some c)
+-- What is given and left for a case: the offset after it, with its sheet checked; where there is no whole case, none, with nothing done.
+pub data Runs (offsets levels : List ℕ) (r : Option ℕ) (offsets' levels' : List ℕ) : Option Case → Type 0 where
+  no_case : r ≡ None → offsets' ≡ offsets → levels' ≡ levels → Runs offsets levels r offsets' levels' None
+  a_case : {c : Case} → r ≡ Some c.next → Checks c.sheet offsets levels offsets' levels' → Runs offsets levels r offsets' levels' (Some c)

@@ -3,7 +3,7 @@
 // A case is two fields: a label and a sheet. What standard output does not take is left out.
 #![tactic(auto)]
 
-ghost use Rattle.std.specs.Prelude.{◌≤◌, ◌<◌, length};
+ghost use Rattle.std.specs.Prelude.{◌≤◌, ◌<◌, length, IfSome};
 ghost use Rattle.layout.specs.Layout.{most_items};
 ghost use Rattle.sheet_cases.specs.Cases.{case_at, Checks, Runs};
 
@@ -55,37 +55,32 @@ fn write_answer(rt: &HostRuntime, s: &[u8], offsets: &mut [usize], levels: &mut 
     let _ = println!(rt);
 }
 
-// The case at an offset. Gives the offset after it; where there is no whole case, the length.
-// (The length, and no None: run ends at it, as it does after the last case.)
+// The case at an offset. Gives the offset after it; None where there is no whole case.
 fn run_case(
     rt: &HostRuntime,
     cases: &[u8],
     at: usize,
     offsets: &mut [usize],
     levels: &mut [u8],
-) -> usize
-    requires { (most_items ≤ length offsets.old) × (most_items ≤ length levels.old) × (at < length cases.now) }
-    ensures onward { at < result }
-    ensures left { Runs cases.now offsets.old levels.old result offsets.new levels.new (case_at cases.now at) }
+) -> Option<usize>
+    requires { (most_items ≤ length offsets.old) × (most_items ≤ length levels.old) }
+    ensures onward { IfSome result (λ next. at < next) }
+    ensures within { IfSome result (λ next. next ≤ length cases.now) }
+    ensures left { Runs offsets.old levels.old result offsets.new levels.new (case_at cases.now at) }
 {
-    let Ok(label) = field::field_at(cases, at) else {
-        return cases.len();
-    };
-    let Ok(sheet) = field::field_at(cases, label.next) else {
-        return cases.len();
-    };
+    let label = field::field_at(cases, at).ok()?;
+    let sheet = field::field_at(cases, label.next).ok()?;
     let _ = rt.stdout().write_all(&cases[label.start..label.next]);
     write_answer(rt, &cases[sheet.start..sheet.next], offsets, levels);
-    sheet.next
+    Some(sheet.next)
 }
 
 fn run(rt: &HostRuntime, cases: &[u8]) {
     let mut offsets = [0usize; limits::ITEM_LIMIT];
     let mut levels = [0u8; limits::ITEM_LIMIT];
     let mut at = 0;
-    // Case by case: where the next one begins is what the case says.
-    while at < cases.len() {
-        at = run_case(rt, cases, at, &mut offsets, &mut levels);
+    while let Some(next) = run_case(rt, cases, at, &mut offsets, &mut levels) {
+        at = next;
     }
 }
 

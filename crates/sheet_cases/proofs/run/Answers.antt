@@ -3,6 +3,6 @@ use mathlib.Core.Path.{refl}
 use Rattle.layout.specs.Layout.{most_items, item_limit}
 use Rattle.sheet_cases.proofs.run.Goals as goal
 
-pub loop-at-init : goal.loop-at-init
+pub loop-next-init : goal.loop-next-init
 unfolding most_items item_limit
-loop-at-init c = (refl, refl)
+loop-next-init c = (refl, refl)
