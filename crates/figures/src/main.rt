@@ -55,8 +55,8 @@ fn worked(op: Operation, parents: &[Value]) -> Value
     rules::apply(op, &values[..parents.len()])
 }
 
-// A line: the rule's name, the parents' values, and what the rule gives on them. (Name and code stand side by side in each call, and in no table:
-// most of the rules have one call.)
+// A line: the rule's name, the parents' values, and what the rule gives on them. (The code and no Operation, so that a refused one is
+// shown too; name and code stand side by side in each call, and in no table: most of the rules have one call.)
 fn figure(rt: &impl Print, name: &str, code: u8, parents: &[Value])
     requires { length parents.now ≤ rules.max_parents }
 {
