@@ -35,7 +35,10 @@ fn reading_line(out: &mut [u8], at: usize, item: u64, read: Result<Value, Fault>
     ensures { Appended (reading_line item (fault_number read) (text_of (parts_of (kind_in read) (value_in read)))) out.old at result out.new }
 {
     match read {
-        Ok(value) => day_line::ask_line(out, at, item, value),
+        Ok(value) => {
+            let kind = u64::from(value.kind());
+            day_line::ask_line(out, at, item, kind, value.number_or_zero())
+        }
         Err(fault) => day_line::no_line(out, at, fault.cause.number()),
     }
 }

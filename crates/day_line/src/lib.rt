@@ -4,13 +4,10 @@
 #![tactic(auto)]
 
 ghost use Rattle.std.specs.Prelude.{◌≤◌, length};
-ghost use Rattle.circuit.specs.Value.{kind_of, number_of};
 ghost use Rattle.decimal.specs.Decimal.{digits};
 ghost use Rattle.printer.specs.Printing.{text_of};
-ghost use Rattle.value.specs.Meaning.{meaning, parts_of};
+ghost use Rattle.value.specs.Meaning.{parts_of};
 ghost use Rattle.day_meaning.specs.Lines.{Appended, no_line, ask_line, last_line};
-
-use value::Value;
 
 // The words of the lines, each with the space after it, and what else they have.
 const ASK: [u8; 4] = *b"ASK ";
@@ -47,17 +44,13 @@ fn append_number(out: &mut [u8], at: usize, m: u64) -> usize
     append(out, at, &digits[..count])
 }
 
-// The printer's text of a value, which is taken apart here, since the printer takes a kind and a number.
-fn append_value(out: &mut [u8], at: usize, value: Value) -> usize
+// The printer's text of a value.
+fn append_value(out: &mut [u8], at: usize, kind: u64, number: i64) -> usize
     requires { at ≤ length out.old }
-    ensures { Appended (text_of (parts_of (kind_of (meaning value)) (number_of (meaning value)))) out.old at result out.new }
+    ensures { Appended (text_of (parts_of kind number)) out.old at result out.new }
 {
     let mut scratch = [0u8; printer::LEAST_SCRATCH];
-    let part = printer::print(
-        u64::from(value.kind()),
-        value.number_or_zero(),
-        &mut scratch,
-    );
+    let part = printer::print(kind, number, &mut scratch);
     append(out, at, part)
 }
 
@@ -72,14 +65,14 @@ pub fn no_line(out: &mut [u8], at: usize, number: u64) -> usize
 }
 
 // `ASK item value`
-pub fn ask_line(out: &mut [u8], at: usize, item: u64, value: Value) -> usize
+pub fn ask_line(out: &mut [u8], at: usize, item: u64, kind: u64, number: i64) -> usize
     requires { at ≤ length out.old }
-    ensures { Appended (ask_line item (text_of (parts_of (kind_of (meaning value)) (number_of (meaning value))))) out.old at result out.new }
+    ensures { Appended (ask_line item (text_of (parts_of kind number))) out.old at result out.new }
 {
     let a = append(out, at, &ASK);
     let b = append_number(out, a, item);
     let c = append(out, b, &SPACE);
-    let d = append_value(out, c, value);
+    let d = append_value(out, c, kind, number);
     append(out, d, &LINE_END)
 }
 
