@@ -44,7 +44,7 @@ fn append_number(out: &mut [u8], at: usize, m: u64) -> usize
     append(out, at, &digits[..count])
 }
 
-// The printer's text of a value.
+// The printer's text of a value. (Here and in ask_line a kind and a number, and no Value: the clauses speak of pairs that are no value too.)
 fn append_value(out: &mut [u8], at: usize, kind: u64, number: i64) -> usize
     requires { at ≤ length out.old }
     ensures { Appended (text_of (parts_of kind number)) out.old at result out.new }
