@@ -10,14 +10,19 @@ returns-in_err-sheet c =
     let a = c.args in
     rw (exit c.from_residual.ensures.1) (ask_refuses a.sheet.now a.index.now a.table.now (ask a.item) _ c.in_err-sheet.ensures)
 
-pub ask_lent-requires-clause-lent : goal.ask_lent-requires-clause-lent
-ask_lent-requires-clause-lent c = (admits c.in_ok-sheet.ensures).lent
-
-pub ask_lent-requires-clause-owes : goal.ask_lent-requires-clause-owes
-ask_lent-requires-clause-owes c = (admits c.in_ok-sheet.ensures).owes
-
-pub ask_lent-requires-clause-owed_room : goal.ask_lent-requires-clause-owed_room
-ask_lent-requires-clause-owed_room c = byte_room c.in_ok-sheet.ensures _ _ c.requires.room c.admitted.auto.levels
+pub ask_lent-requires : goal.ask_lent-requires
+ask_lent-requires c =
+    let g = admits c.in_ok-sheet.ensures in
+    let same = c.in_ok-sheet.ensures.sheet_is in
+    record {
+      prepared = record {
+        lent = g.lent;
+        owes = g.owes;
+        owed_room = byte_room c.in_ok-sheet.ensures _ _ c.requires.room c.admitted.auto.levels;
+        ready = rw same c.requires.ready;
+        kept = rw same c.requires.kept;
+      };
+    }
 
 pub returns-in_err-value : goal.returns-in_err-value
 returns-in_err-value c =
