@@ -3,11 +3,12 @@ use Prim.Native.Nat.{ℕ}
 use mathlib.Core.Path.{◌≡◌, refl, sym, ap, ◌∙◌}
 use mathlib.Core.Bool.{Bool, true, false}
 use mathlib.Core.List.{List, [], ◌∷◌}
-use Rattle.std.specs.Prelude.{Ok, Err}
+use Rattle.std.specs.Prelude.{Result, Ok, Err, IsErrAnd}
 use Rattle.cause.specs.declared.Cause.{Cause}
 use Rattle.cause.specs.declared.Fault.{Fault}
 use Rattle.cause.specs.Cause.{number_of}
 use Rattle.cause.proofs.Numbers.{number_some}
+use Rattle.cause.proofs.Exits.{exit}
 use Rattle.circuit.specs.Value as circuit
 use Rattle.circuit.specs.Sheet.{Sheet}
 use Rattle.circuit.specs.Machine.{look_up, catch_up}
@@ -48,18 +49,20 @@ ask_done s x t {item} {i} is passed {t₁} v l t₂ settled =
 
 -- ---- the whole call
 
-pub ask_refuses : (s x t : List ℕ) (c : Call) (f : Fault) → admitted_of s x t ≡ refused (number_of f.cause) f.offset → TriedValue (call_on s (keeping x t) c) (Err f) t
-ask_refuses s x t c f e =
-    rw (refused_call s x t c (number_of f.cause) f.offset (sym e)) (record {
+pub ask_refuses : (s x t : List ℕ) (c : Call) {r : Result Value Fault} (f : Fault) → IsErrAnd r (λ y. y ≡ f)
+    → admitted_of s x t ≡ refused (number_of f.cause) f.offset → TriedValue (call_on s (keeping x t) c) r t
+ask_refuses s x t c f is e =
+    rw (exit is, refused_call s x t c (number_of f.cause) f.offset (sym e)) (record {
       tried = record { number_is = refl; offset_is = refl; table_is = refl };
       kind_is = refl;
       value_is = refl;
     })
 
-pub ask_fails : {s x t S t' : List ℕ} → AllAdmitted s x t S → (c : Call) {k : Cause} → Valued (call_lent (sheet_of S) x t c) (Err k) t'
-    → TriedValue (call_on s (keeping x t) c) (Err (record { cause = k; offset = 0 })) t'
-ask_fails a c d =
-    record { tried = fails a c d.did; kind_is = let g = whole_call a c in rw g d.kind_is; value_is = let g = whole_call a c in rw g d.value_is }
+pub ask_fails : {s x t S t' : List ℕ} → AllAdmitted s x t S → (c : Call) {r : Result Value Fault} {k : Cause} → IsErrAnd r (λ y. y ≡ record { cause = k; offset = 0 })
+    → Valued (call_lent (sheet_of S) x t c) (Err k) t' → TriedValue (call_on s (keeping x t) c) r t'
+ask_fails a c is d =
+    let g = whole_call a c in
+    record { tried = fails a c is d.did; kind_is = rw (exit is, g) d.kind_is; value_is = rw (exit is, g) d.value_is }
 
 pub ask_does : {s x t S t' : List ℕ} → AllAdmitted s x t S → (c : Call) {v : Value} → Valued (call_lent (sheet_of S) x t c) (Ok v) t'
     → TriedValue (call_on s (keeping x t) c) (Ok v) t'

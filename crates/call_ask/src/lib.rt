@@ -1,19 +1,18 @@
 // The call ask.
 #![tactic(auto)]
 
-ghost use Rattle.std.specs.Prelude.{◌≡◌, true, List, ℕ, ◌<◌, ◌≤◌, length};
+ghost use Rattle.std.specs.Prelude.{List, ℕ, ◌<◌};
 ghost use Rattle.circuit.specs.Sheet.{size};
 ghost use Rattle.circuit.specs.Machine as machine;
 ghost use Rattle.circuit.specs.Call as machine_call;
 ghost use Rattle.value.specs.Meaning.{meaning};
 ghost use Rattle.layout.specs.Opened.{sheet_of};
 ghost use Rattle.layout.specs.Room.{Room};
-ghost use Rattle.table.specs.Bytes.{decode_table, owed_true};
+ghost use Rattle.table.specs.Bytes.{decode_table};
 ghost use Rattle.office.specs.Office.{call_on, keeping};
 ghost use Rattle.children.specs.Children.{Kept};
 ghost use Rattle.admission.specs.Admission.{call_lent};
-ghost use Rattle.looking.specs.Pass.{Lent};
-ghost use Rattle.stepping.specs.Stepping.{Ready, begun};
+ghost use Rattle.stepping.specs.Stepping.{Ready, Prepared, begun};
 ghost use Rattle.call_ask.specs.Asking.{Valued, TriedValue, ReadingOf, LookedUp};
 
 use cause::{Cause, Fault};
@@ -62,11 +61,7 @@ fn caught_up(
     children: &mut Children<'_>,
     i: usize,
 ) -> Value
-    requires lent { Lent sheet.now table.old }
-    requires owes { owed_true (sheet_of sheet.now) table.old ≡ true }
-    requires owed_room { size (sheet_of sheet.now) ≤ length owed.old }
-    requires ready { Ready sheet.now (begun memo.old 1) }
-    requires kept { Kept (sheet_of sheet.now) children.old }
+    requires prepared { Prepared sheet.now table.old owed.old (begun memo.old 1) children.old }
     requires within { i < size (sheet_of sheet.now) }
     ensures { LookedUp sheet.now (machine.look_up (sheet_of sheet.now) (machine.catch_up (sheet_of sheet.now) (decode_table table.old)) i) (meaning result) table.new }
 {
@@ -83,11 +78,7 @@ fn ask_lent(
     memo: &mut Memo<'_>,
     children: &mut Children<'_>,
 ) -> Result<Value, Cause>
-    requires lent { Lent sheet.now table.old }
-    requires owes { owed_true (sheet_of sheet.now) table.old ≡ true }
-    requires owed_room { size (sheet_of sheet.now) ≤ length owed.old }
-    requires ready { Ready sheet.now (begun memo.old 1) }
-    requires kept { Kept (sheet_of sheet.now) children.old }
+    requires prepared { Prepared sheet.now table.old owed.old (begun memo.old 1) children.old }
     ensures { (x : List ℕ) → Valued (call_lent (sheet_of sheet.now) x table.old (machine_call.ask item)) result table.new }
 {
     let i = admission::in_sheet(sheet, item)?;

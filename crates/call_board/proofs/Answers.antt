@@ -5,11 +5,12 @@ use mathlib.Core.Path.{◌≡◌, refl, sym, ap, ◌∙◌}
 use mathlib.Core.Bool.{true, false}
 use mathlib.Core.List.{List, [], ◌∷◌}
 use lib.ListN.{length}
-use Rattle.std.specs.Prelude.{Ok, Err}
+use Rattle.std.specs.Prelude.{Result, Ok, Err, IsErrAnd}
 use Rattle.cause.specs.declared.Cause.{Cause}
 use Rattle.cause.specs.declared.Cause.TheVariants.{NoItem, List as ListCause}
 use Rattle.cause.specs.declared.Fault.{Fault}
 use Rattle.cause.specs.Cause.{number_of}
+use Rattle.cause.proofs.Exits.{exit}
 use Rattle.circuit.specs.Sheet.{Sheet}
 use Rattle.circuit.specs.Table.{Table}
 use Rattle.circuit.specs.Board.{listed, lists_off}
@@ -71,18 +72,18 @@ board_empty lent bytes owes x (i ∷ items) results w e = absurd (omega arith)
 
 -- ---- the whole call
 
-pub board_refuses : (s x t items results : List ℕ) (f : Fault) → admitted_of s x t ≡ refused (number_of f.cause) f.offset
-    → BoardTried (call_on s (keeping x t) (board items results)) (Err f) results t
-board_refuses s x t items results f e =
-    rw (refused_call s x t (board items results) (number_of f.cause) f.offset (sym e)) (record {
+pub board_refuses : (s x t items results : List ℕ) {r : Result (Unit {0}) Fault} (f : Fault) → IsErrAnd r (λ y. y ≡ f)
+    → admitted_of s x t ≡ refused (number_of f.cause) f.offset → BoardTried (call_on s (keeping x t) (board items results)) r results t
+board_refuses s x t items results f is e =
+    rw (exit is, refused_call s x t (board items results) (number_of f.cause) f.offset (sym e)) (record {
       tried = record { number_is = refl; offset_is = refl; table_is = refl };
       results_are = refl;
     })
 
 module _ {s x t S : List ℕ} (a : AllAdmitted s x t S) (items results : List ℕ) {results' t' : List ℕ} where
-  pub board_fails : {k : Cause} → BoardDid (call_lent (sheet_of S) x t (board items results)) (Err k) results' t'
-      → BoardTried (call_on s (keeping x t) (board items results)) (Err (record { cause = k; offset = 0 })) results' t'
-  board_fails d = record { tried = fails a (board items results) d.did; results_are = let g = whole_call a (board items results) in rw g d.results_are }
+  pub board_fails : {r : Result (Unit {0}) Fault} {k : Cause} → IsErrAnd r (λ y. y ≡ record { cause = k; offset = 0 })
+      → BoardDid (call_lent (sheet_of S) x t (board items results)) (Err k) results' t' → BoardTried (call_on s (keeping x t) (board items results)) r results' t'
+  board_fails is d = record { tried = fails a (board items results) is d.did; results_are = let g = whole_call a (board items results) in rw g d.results_are }
 
   pub board_does : BoardDid (call_lent (sheet_of S) x t (board items results)) (Ok (tt {0})) results' t'
       → BoardTried (call_on s (keeping x t) (board items results)) (Ok (tt {0})) results' t'

@@ -1,9 +1,8 @@
 // The call board: the values of up to 64 items, with one catching up and one memo for all of them.
 #![tactic(auto)]
 
-ghost use Rattle.std.specs.Prelude.{◌≡◌, true, List, ℕ, ◌+◌, ◌*◌, ◌≤◌, length};
+ghost use Rattle.std.specs.Prelude.{◌≡◌, List, ℕ, ◌+◌, ◌*◌, ◌≤◌, length};
 ghost use Rattle.circuit.specs.Value.{kind_of, number_of};
-ghost use Rattle.circuit.specs.Sheet.{size};
 ghost use Rattle.circuit.specs.Board.{result_width, listed, lists_off};
 ghost use Rattle.circuit.specs.Calls.{some_no_item};
 ghost use Rattle.circuit.specs.Machine as machine;
@@ -12,12 +11,12 @@ ghost use Rattle.value.specs.Meaning.{meaning};
 ghost use Rattle.layout.specs.Opened.{sheet_of};
 ghost use Rattle.layout.specs.Room.{Room};
 ghost use Rattle.table.specs.Rows.{set_row};
-ghost use Rattle.table.specs.Bytes.{decode_table, owed_true};
+ghost use Rattle.table.specs.Bytes.{decode_table};
 ghost use Rattle.office.specs.Office.{call_on, keeping, result_of};
 ghost use Rattle.children.specs.Children.{Kept};
 ghost use Rattle.memo.specs.Memo.{Right};
 ghost use Rattle.looking.specs.Pass.{Lent};
-ghost use Rattle.stepping.specs.Stepping.{Ready, begun};
+ghost use Rattle.stepping.specs.Stepping.{Ready, Prepared, begun};
 ghost use Rattle.admission.specs.Admission.{call_lent};
 ghost use Rattle.call_board.specs.Showing.{BoardDid, BoardTried, Listed, Shown};
 
@@ -94,11 +93,7 @@ fn show(
     memo: &mut Memo<'_>,
     children: &mut Children<'_>,
 )
-    requires lent { Lent sheet.now table.old }
-    requires owes { owed_true (sheet_of sheet.now) table.old ≡ true }
-    requires owed_room { size (sheet_of sheet.now) ≤ length owed.old }
-    requires ready { Ready sheet.now (begun memo.old 1) }
-    requires kept { Kept (sheet_of sheet.now) children.old }
+    requires prepared { Prepared sheet.now table.old owed.old (begun memo.old 1) children.old }
     requires lists { Listed sheet.now items.now results.old }
     ensures { Shown sheet.now (machine.gather (machine.look_up (sheet_of sheet.now)) (machine.catch_up (sheet_of sheet.now) (decode_table table.old)) (listed items.now)) results.new table.new }
 {
@@ -117,11 +112,7 @@ fn board_lent(
     memo: &mut Memo<'_>,
     children: &mut Children<'_>,
 ) -> Result<(), Cause>
-    requires lent { Lent sheet.now table.old }
-    requires owes { owed_true (sheet_of sheet.now) table.old ≡ true }
-    requires owed_room { size (sheet_of sheet.now) ≤ length owed.old }
-    requires ready { Ready sheet.now (begun memo.old 1) }
-    requires kept { Kept (sheet_of sheet.now) children.old }
+    requires prepared { Prepared sheet.now table.old owed.old (begun memo.old 1) children.old }
     ensures { (x : List ℕ) → BoardDid (call_lent (sheet_of sheet.now) x table.old (machine_call.board items.now results.old)) result results.new table.new }
 {
     if lists_wrong(items.len(), results.len()) {

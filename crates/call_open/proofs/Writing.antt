@@ -7,9 +7,10 @@ use mathlib.Core.List.{List}
 use lib.Dec.{eqb}
 use lib.ListN.{length, get_or, take}
 use borrow.Author.Tests.{eqb-true, eqb-false}
-use Rattle.std.specs.Prelude.{Ok, Err}
+use Rattle.std.specs.Prelude.{Result, Ok, Err, IsErrAnd}
 use Rattle.cause.specs.Cause.{number_of}
 use Rattle.cause.specs.declared.Fault.{Fault}
+use Rattle.cause.proofs.Exits.{exit}
 use Rattle.circuit.specs.Sheet.{Sheet, Item, entry, figure, size, item_at, is_figure}
 use Rattle.circuit.specs.Call.{Opening, bare, full}
 use Rattle.circuit.specs.Table.{Table, Cell, bare_cell, opened}
@@ -105,10 +106,10 @@ measures {s} {x} {t} {offsets} {levels} {n} offsets₀ levels₀ e room o l loca
     }
 
 module _ (how : Opening) (s x t : List ℕ) where
-  pub opened_refused : {A : Type 0} (f : Fault) → refused (number_of f.cause) f.offset ≡ measured_of s (length x) (length t)
-      → Opens {A = A} (open_on how s (keeping x t)) (Err f) x t
-  opened_refused f e =
-      rw (refused_open how s x t (number_of f.cause) f.offset e) (record { number_is = refl; offset_is = refl; index_is = refl; table_is = refl })
+  pub opened_refused : {A : Type 0} {r : Result A Fault} (f : Fault) → IsErrAnd r (λ y. y ≡ f) → refused (number_of f.cause) f.offset ≡ measured_of s (length x) (length t)
+      → Opens (open_on how s (keeping x t)) r x t
+  opened_refused f is e =
+      rw (exit is, refused_open how s x t (number_of f.cause) f.offset e) (record { number_is = refl; offset_is = refl; index_is = refl; table_is = refl })
 
   pub opened_written : {A : Type 0} (a : A) (x' t' offsets : List ℕ) (n : ℕ) → items n ≡ measured_of s (length x) (length t) → Located s offsets
       → x' ≡ offset_bytes (take n offsets) → t' ≡ encode_table (sheet_of s) (opened how (sheet_of s)) → Opens (open_on how s (keeping x t)) (Ok a) x' t'

@@ -1,7 +1,7 @@
 // The call step.
 #![tactic(auto)]
 
-ghost use Rattle.std.specs.Prelude.{◌≡◌, true, List, [], ◌∷◌, ℕ, ◌*◌, ◌<◌, ◌≤◌, length, IfOk};
+ghost use Rattle.std.specs.Prelude.{◌≡◌, List, [], ◌∷◌, ℕ, ◌*◌, ◌<◌, length, IfOk};
 ghost use Rattle.cause.specs.Cause.{number_in};
 ghost use Rattle.circuit.specs.Sheet.{size};
 ghost use Rattle.circuit.specs.Machine as machine;
@@ -10,13 +10,12 @@ ghost use Rattle.circuit.specs.Calls.{first_cause, test, no_item, no_mark};
 ghost use Rattle.layout.specs.Opened.{sheet_of};
 ghost use Rattle.layout.specs.Room.{Room};
 ghost use Rattle.table.specs.Record.{width};
-ghost use Rattle.table.specs.Bytes.{decode_table, owed_true, OwedKept};
+ghost use Rattle.table.specs.Bytes.{decode_table, OwedKept};
 ghost use Rattle.office.specs.Office.{call_on, keeping};
 ghost use Rattle.children.specs.Children.{Kept};
 ghost use Rattle.admission.specs.Answers.{Did, Tried, Left};
 ghost use Rattle.admission.specs.Admission.{call_lent};
-ghost use Rattle.looking.specs.Pass.{Lent};
-ghost use Rattle.stepping.specs.Stepping.{Ready};
+ghost use Rattle.stepping.specs.Stepping.{Ready, Prepared};
 
 use cause::{Cause, Fault};
 use children::Children;
@@ -48,11 +47,7 @@ fn step_once(
     children: &mut Children<'_>,
     i: usize,
 )
-    requires lent { Lent sheet.now table.old }
-    requires owes { owed_true (sheet_of sheet.now) table.old ≡ true }
-    requires owed_room { size (sheet_of sheet.now) ≤ length owed.old }
-    requires ready { Ready sheet.now memo.old }
-    requires kept { Kept (sheet_of sheet.now) children.old }
+    requires prepared { Prepared sheet.now table.old owed.old memo.old children.old }
     requires within { i < size (sheet_of sheet.now) }
     ensures left { Left sheet.now (machine.step_item (sheet_of sheet.now) (decode_table table.old) i) table.new }
     ensures owed_kept { OwedKept table.old table.new }
@@ -75,11 +70,7 @@ fn step_lent(
     memo: &mut Memo<'_>,
     children: &mut Children<'_>,
 ) -> Result<(), Cause>
-    requires lent { Lent sheet.now table.old }
-    requires owes { owed_true (sheet_of sheet.now) table.old ≡ true }
-    requires owed_room { size (sheet_of sheet.now) ≤ length owed.old }
-    requires ready { Ready sheet.now memo.old }
-    requires kept { Kept (sheet_of sheet.now) children.old }
+    requires prepared { Prepared sheet.now table.old owed.old memo.old children.old }
     ensures { (x : List ℕ) → Did (call_lent (sheet_of sheet.now) x table.old (machine_call.step item)) result table.new }
 {
     let i = marked(sheet, table, item)?;

@@ -4,8 +4,10 @@ use Rattle.circuit.specs.Sheet.{Sheet, size}
 use Rattle.circuit.specs.Table.{Table}
 use Rattle.circuit.specs.Ascending.{step_marked_by}
 use Rattle.layout.specs.Opened.{sheet_of}
-use Rattle.table.specs.Bytes.{decode_table, table_form, OwedKept}
+use Rattle.table.specs.Bytes.{decode_table, table_form, owed_true, OwedKept}
+use Rattle.children.specs.Children.{Family, Kept}
 use Rattle.memo.specs.Memo.{Pass, pass, NoneFrom}
+use Rattle.looking.specs.Pass.{Lent}
 
 -- A memo at the start of its generation: there is room for each item, and nothing of the generation or a later one is remembered.
 pub record Ready (s : List ℕ) (memo : Pass) : Type 0 where
@@ -15,6 +17,15 @@ pub record Ready (s : List ℕ) (memo : Pass) : Type 0 where
 -- the memo where another generation begins
 abbrev pub begun : Pass → ℕ → Pass
 begun memo generation = pass memo.notes generation
+
+-- What the steps of a call are lent, once its own tests have passed: a table in form whose owed bytes are true, an array that those fit
+-- into, a memo at the start of a generation, and child lists that are built already or empty.
+pub record Prepared (s t owed : List ℕ) (memo : Pass) (children : Family) : Type 0 where
+  pub lent : Lent s t
+  pub owes : owed_true (sheet_of s) t ≡ true
+  pub owed_room : size (sheet_of s) ≤ length owed
+  pub ready : Ready s memo
+  pub kept : Kept (sheet_of s) children
 
 -- an item stepped while it is marked, twice at most
 abbrev pub step_twice_by : (ℕ → Bool) → Sheet → Table → ℕ → Table

@@ -1,27 +1,31 @@
 -- `call_board::board` meets its contract. Assumes nothing.
-use Rattle.cause.proofs.Exits.{exit}
-use Rattle.admission.proofs.Calls.{admits, byte_room}
+use Rattle.admission.proofs.Calls.{admits}
 use Rattle.call_board.proofs.Answers.{board_refuses, board_fails, board_does}
 use Rattle.call_board.proofs.board.Goals as goal
 
 pub returns-in_err-sheet : goal.returns-in_err-sheet
 returns-in_err-sheet c =
     let a = c.args in
-    rw (exit c.from_residual.ensures.1) (board_refuses a.sheet.now a.index.now a.table.now a.items.now a.results.now _ c.in_err-sheet.ensures)
+    board_refuses a.sheet.now a.index.now a.table.now a.items.now a.results.now _ c.from_residual.ensures.1 c.in_err-sheet.ensures
 
-pub board_lent-requires-clause-lent : goal.board_lent-requires-clause-lent
-board_lent-requires-clause-lent c = (admits c.in_ok-sheet.ensures).lent
-
-pub board_lent-requires-clause-owes : goal.board_lent-requires-clause-owes
-board_lent-requires-clause-owes c = (admits c.in_ok-sheet.ensures).owes
-
-pub board_lent-requires-clause-owed_room : goal.board_lent-requires-clause-owed_room
-board_lent-requires-clause-owed_room c = byte_room c.in_ok-sheet.ensures _ _ c.requires.room c.admitted.auto.levels
+pub board_lent-requires : goal.board_lent-requires
+board_lent-requires c =
+    let g = admits c.in_ok-sheet.ensures c.requires.room.1 c.admitted.auto.levels in
+    let same = c.in_ok-sheet.ensures.sheet_is in
+    record {
+      prepared = record {
+        lent = g.lent;
+        owes = g.owes;
+        owed_room = g.owed_room;
+        ready = rw same c.requires.ready;
+        kept = rw same c.requires.kept;
+      };
+    }
 
 pub returns-in_err-board_lent : goal.returns-in_err-board_lent
 returns-in_err-board_lent c =
     let a = c.args in
-    rw (exit c.from_residual-in_err-board_lent.ensures.1) (board_fails c.in_ok-sheet.ensures a.items.now a.results.now (c.in_err-board_lent.ensures a.index.now))
+    board_fails c.in_ok-sheet.ensures a.items.now a.results.now c.from_residual-in_err-board_lent.ensures.1 (c.in_err-board_lent.ensures a.index.now)
 
 pub returns : goal.returns
 returns c =

@@ -23,7 +23,7 @@ pub returns-then-is_empty : goal.returns-then-is_empty
 returns-then-is_empty c =
     λ x.
     let a = c.args in
-    let p = c.requires in
+    let p = c.requires.prepared in
     board_empty p.lent (slice_bytes _ c.type_inv.table) p.owes x a.items.now a.results.now (sym c.lists_wrong.ensures ∙ c.if-lists_wrong.false)
     (eqb-true (length a.items.now) 0 (sym c.is_empty.ensures ∙ c.if-is_empty.true))
 

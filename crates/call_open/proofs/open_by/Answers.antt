@@ -1,5 +1,4 @@
 -- `call_open::open_by` meets its contract. Assumes nothing.
-use Rattle.cause.proofs.Exits.{exit}
 use Rattle.call_open.specs.Opening.{opening_by}
 use Rattle.call_open.proofs.Writing.{measures, opened_refused, opened_written}
 use Rattle.call_open.proofs.open_by.Goals as goal
@@ -7,7 +6,7 @@ use Rattle.call_open.proofs.open_by.Goals as goal
 pub returns-in_err-n : goal.returns-in_err-n
 returns-in_err-n c =
     let a = c.args in
-    rw (exit c.from_residual.ensures.1) (opened_refused (opening_by a.opening) a.sheet.now a.index.now a.table.now _ c.in_err-n.ensures.answer)
+    opened_refused (opening_by a.opening) a.sheet.now a.index.now a.table.now _ c.from_residual.ensures.1 c.in_err-n.ensures.answer
 
 pub slice_bounds-offsets-end : goal.slice_bounds-offsets-end
 slice_bounds-offsets-end c =

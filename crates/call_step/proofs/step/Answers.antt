@@ -1,27 +1,31 @@
 -- `call_step::step` meets its contract. Assumes nothing.
-use Rattle.cause.proofs.Exits.{exit}
 use Rattle.circuit.specs.Call.{step}
-use Rattle.admission.proofs.Calls.{admits, byte_room, refuses, fails, does}
+use Rattle.admission.proofs.Calls.{admits, refuses, fails, does}
 use Rattle.call_step.proofs.step.Goals as goal
 
 pub returns-in_err-sheet : goal.returns-in_err-sheet
 returns-in_err-sheet c =
     let a = c.args in
-    rw (exit c.from_residual.ensures.1) (refuses a.sheet.now a.index.now a.table.now (step a.item) _ c.in_err-sheet.ensures)
+    refuses a.sheet.now a.index.now a.table.now (step a.item) _ c.from_residual.ensures.1 c.in_err-sheet.ensures
 
-pub step_lent-requires-clause-lent : goal.step_lent-requires-clause-lent
-step_lent-requires-clause-lent c = (admits c.in_ok-sheet.ensures).lent
-
-pub step_lent-requires-clause-owes : goal.step_lent-requires-clause-owes
-step_lent-requires-clause-owes c = (admits c.in_ok-sheet.ensures).owes
-
-pub step_lent-requires-clause-owed_room : goal.step_lent-requires-clause-owed_room
-step_lent-requires-clause-owed_room c = byte_room c.in_ok-sheet.ensures _ _ c.requires.room c.admitted.auto.levels
+pub step_lent-requires : goal.step_lent-requires
+step_lent-requires c =
+    let g = admits c.in_ok-sheet.ensures c.requires.room.1 c.admitted.auto.levels in
+    let same = c.in_ok-sheet.ensures.sheet_is in
+    record {
+      prepared = record {
+        lent = g.lent;
+        owes = g.owes;
+        owed_room = g.owed_room;
+        ready = rw same c.requires.ready;
+        kept = rw same c.requires.kept;
+      };
+    }
 
 pub returns-in_err-step_lent : goal.returns-in_err-step_lent
 returns-in_err-step_lent c =
     let a = c.args in
-    rw (exit c.from_residual-in_err-step_lent.ensures.1) (fails c.in_ok-sheet.ensures (step a.item) (c.in_err-step_lent.ensures a.index.now))
+    fails c.in_ok-sheet.ensures (step a.item) c.from_residual-in_err-step_lent.ensures.1 (c.in_err-step_lent.ensures a.index.now)
 
 pub returns : goal.returns
 returns c =

@@ -14,7 +14,7 @@ returns-in_err-i c =
 pub returns : goal.returns
 returns c =
     λ x.
-    let p = c.requires in
+    let p = c.requires.prepared in
     let m = c.in_ok-i.ensures in
     let d = c.step_once in
     step_done p.lent p.owes x m.found.0 m.number d.new.table d.ensures.left d.ensures.owed_kept (slice_bytes _ c.type_inv.table) d.auto.table
