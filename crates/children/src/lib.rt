@@ -131,6 +131,7 @@ impl<'a> Children<'a> {
         requires kept { Kept (sheet_of sheet.now) self.old }
         ensures kept { Kept (sheet_of sheet.now) self.new }
         ensures there { needed ≡ true → self.new.built ≡ true }
+        ensures linked { needed ≡ true → self.old.built ≡ false → self.new.lists ≡ link_all (sheet_of sheet.now) self.old.lists }
     {
         if needed && !self.built {
             link(sheet, self.kin);
