@@ -114,8 +114,8 @@ module _ (S : Sheet) (t : List ℕ) {r : Bool}
 
 -- ---- the tests of an item, and what a call gives
 
--- the first two tests of a call
-first_two : (a b : Bool) (ts : List Test) (k : ℕ) → k ≡ first_cause (test 11 a ∷ test 12 b ∷ []) → (k ≡ 0 → ⊥) → first_cause (test 11 a ∷ test 12 b ∷ ts) ≡ k
+-- what the first two tests refuse, a call's tests refuse
+pub first_two : (a b : Bool) (ts : List Test) (k : ℕ) → k ≡ first_cause (test 11 a ∷ test 12 b ∷ []) → (k ≡ 0 → ⊥) → first_cause (test 11 a ∷ test 12 b ∷ ts) ≡ k
 unfolding first_cause
 first_two true b ts k e h = sym e
 first_two false true ts k e h = sym e
@@ -166,11 +166,6 @@ pub stored_encoded : {s t : List ℕ} → Lent s t → Bytes t → owed_true (sh
 stored_encoded {s} {t} lent bytes owes i c low stored =
     sym (encode_upd (sheet_of s) (sheet_ordered s) (decode_table t) i c low stored
     ∙ ap (λ l. set_row width l i (encode_cell c)) (lent_encoded lent bytes owes))
-
--- what settling is lent after a call has stored its cells
-pub settle_needs : {s t : List ℕ} {room : ℕ} → Lent s t → size (sheet_of s) ≤ room → (t' : List ℕ) → length t' ≡ length t → table_form (sheet_of s) t' ≡ true
-    → (length t' ≡ width * size (sheet_of s)) × ((size (sheet_of s) ≤ room) × (table_form (sheet_of s) t' ≡ true))
-settle_needs lent owing t' len formed = (len ∙ lent.length_is, (owing, formed))
 
 -- ---- admitting
 

@@ -1,7 +1,8 @@
 -- The tests of what is lent, by which a call is admitted with the count of the sheet's items or refused: of the sheet and of
 -- the lengths (1 to 8), which are all the tests of an opening, and of the index and the table (9 and 10). Assumes nothing.
-use Rattle.std.specs.Prelude.{ℕ, zero, suc, ◌≡◌, List, [], ◌∷◌, length, Result, Ok, Err}
+use Rattle.std.specs.Prelude.{ℕ, zero, suc, ◌≡◌, ◌<◌, List, [], ◌∷◌, length, Result, Ok, Err, IfOk}
 use Rattle.cause.specs.Cause.{number_of}
+use Rattle.cause.specs.declared.Cause.{Cause}
 use Rattle.cause.specs.declared.Fault.{Fault}
 use Rattle.circuit.specs.Sheet.{Sheet, size}
 use Rattle.circuit.specs.Call.{Call}
@@ -63,6 +64,10 @@ Admits s x t (Err f) = admitted_of s x t ≡ refused (number_of f.cause) f.offse
 abbrev pub call_lent : Sheet → List ℕ → List ℕ → Call → Given
 call_lent S x t c =
     unless_refused (first_cause (tests S (decode_table t) c)) (results_lent c) (keeping x t) (effect_on S (keeping x t) (effect S (decode_table t) c))
+
+-- what a test of an item gives where the item passes: its number, which is one of the sheet's
+abbrev pub ItemOf : List ℕ → ℕ → Result ℕ Cause → Type 0
+ItemOf s item r = IfOk r (λ i. (i ≡ item) × (i < size (sheet_of s)))
 
 -- What the tests leave in the scratch array of offsets: those of the items that were read, over what was there. Of a sheet that opens they
 -- are those of all its items.

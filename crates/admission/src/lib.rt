@@ -1,7 +1,7 @@
 // What every call does first and last: the tests of what is lent (1 to 10) and of the item (11 and 12), and the answer.
 #![tactic(auto)]
 
-ghost use Rattle.std.specs.Prelude.{◌≡◌, ◌*◌, ◌≤◌, ◌<◌, length, ◌&&◌, [], ◌∷◌, IfOk};
+ghost use Rattle.std.specs.Prelude.{◌≡◌, ◌*◌, ◌≤◌, length, ◌&&◌, [], ◌∷◌, IfOk};
 ghost use Rattle.cause.specs.Cause.{number_in};
 ghost use Rattle.circuit.specs.Calls.{first_cause, test, no_item};
 ghost use Rattle.circuit.specs.Sheet.{size, item_at, is_figure};
@@ -10,7 +10,7 @@ ghost use Rattle.layout.specs.Room.{Room};
 ghost use Rattle.item.specs.Item.{kind_meaning};
 ghost use Rattle.table.specs.Record.{width};
 ghost use Rattle.table.specs.Bytes.{table_form, owed_true};
-ghost use Rattle.admission.specs.Admission.{measured_of, admitted_of, admitted_meaning, Admits, Scanned, Found};
+ghost use Rattle.admission.specs.Admission.{measured_of, admitted_of, admitted_meaning, Admits, ItemOf, Scanned, Found};
 ghost use Rattle.admission.specs.Answers.{wrong_item};
 
 use cause::{Cause, Fault};
@@ -121,7 +121,7 @@ pub fn admitted<'a>(
 #[tactic(auto, unfolding(circuit::specs::Calls::first_cause))]
 pub fn in_sheet(sheet: &Sheet<'_>, item: u64) -> Result<usize, Cause>
     ensures number { number_in result ≡ first_cause (test 11 (no_item (sheet_of sheet.now) item) ∷ []) }
-    ensures found { IfOk result (λ i. (i ≡ item) × (i < size (sheet_of sheet.now))) }
+    ensures found { ItemOf sheet.now item result }
 {
     if item >= sheet.len() as u64 {
         return Err(Cause::NoItem);
@@ -134,7 +134,7 @@ pub fn in_sheet(sheet: &Sheet<'_>, item: u64) -> Result<usize, Cause>
 #[tactic(auto, unfolding(circuit::specs::Calls::first_cause))]
 pub fn find(sheet: &Sheet<'_>, item: u64, kind: Kind) -> Result<usize, Cause>
     ensures number { number_in result ≡ first_cause (test 11 (no_item (sheet_of sheet.now) item) ∷ test 12 (wrong_item kind (sheet_of sheet.now) item) ∷ []) }
-    ensures found { IfOk result (λ i. (i ≡ item) × (i < size (sheet_of sheet.now))) }
+    ensures found { ItemOf sheet.now item result }
     ensures kind { IfOk result (λ i. is_figure (item_at (sheet_of sheet.now) i) ≡ kind_meaning kind) }
 {
     let i = in_sheet(sheet, item)?;

@@ -25,8 +25,9 @@ use Rattle.table.specs.Record.{width, owed_place, encode_cell}
 use Rattle.table.specs.Bytes.{encode_table, decode_table, table_form, Holdable}
 use Rattle.table.proofs.Rows.{row-set_row-other}
 use Rattle.table.proofs.Records.{length-encode_cell}
-use Rattle.table.proofs.Tables.{encode_table_ext, set_row_cell, cells_form, cells_decoded, bare_holdable, full_holdable}
+use Rattle.table.proofs.Tables.{encode_table_ext, set_row_cell, cells_form, cells_decoded}
 use Rattle.office.specs.Office.{open_on, keeping}
+use Rattle.office.proofs.Agreeing.{opened_holdable}
 use Rattle.admission.specs.Admission.{items, refused, measured_of}
 use Rattle.admission.proofs.Admission.{measured, placed, refused_open}
 use Rattle.call_open.specs.Opening.{Opens, first_cell}
@@ -46,10 +47,6 @@ pub record Written (how : Opening) (s t₀ : List ℕ) (k : ℕ) (t : List ℕ) 
 
 pub written_start : (how : Opening) (s t : List ℕ) → Written how s t 0 t
 written_start how s t = record { length_is = refl; cells = λ i h. absurd (omega arith) }
-
-opened_holdable : (how : Opening) (S : Sheet) → Holdable S (opened how S)
-opened_holdable full S = full_holdable S
-opened_holdable bare S = bare_holdable S
 
 module _ {how : Opening} {s t₀ : List ℕ} {k : ℕ} {t : List ℕ} (inv : Written how s t₀ k t) where
   pub written_next : (b : Bool) (c : Cell) → b ≡ is_figure (item_at (sheet_of s) k) → c ≡ first_cell how b

@@ -1,7 +1,7 @@
 // The call step.
 #![tactic(auto)]
 
-ghost use Rattle.std.specs.Prelude.{◌≡◌, List, [], ◌∷◌, ℕ, ◌*◌, ◌<◌, length, IfOk};
+ghost use Rattle.std.specs.Prelude.{◌≡◌, List, [], ◌∷◌, ℕ, ◌*◌, ◌<◌, length};
 ghost use Rattle.cause.specs.Cause.{number_in};
 ghost use Rattle.circuit.specs.Sheet.{size};
 ghost use Rattle.circuit.specs.Machine as machine;
@@ -14,7 +14,7 @@ ghost use Rattle.table.specs.Bytes.{decode_table, OwedKept};
 ghost use Rattle.office.specs.Office.{call_on, keeping};
 ghost use Rattle.children.specs.Children.{Kept};
 ghost use Rattle.admission.specs.Answers.{Did, Tried, Left};
-ghost use Rattle.admission.specs.Admission.{call_lent};
+ghost use Rattle.admission.specs.Admission.{ItemOf, call_lent};
 ghost use Rattle.stepping.specs.Stepping.{Ready, Prepared};
 
 use cause::{Cause, Fault};
@@ -26,7 +26,7 @@ use memo::Memo;
 fn marked(sheet: &Sheet<'_>, table: &[u8], item: u64) -> Result<usize, Cause>
     requires { length table.now ≡ width * size (sheet_of sheet.now) }
     ensures number { number_in result ≡ first_cause (test 11 (no_item (sheet_of sheet.now) item) ∷ test 14 (no_mark (decode_table table.now) item) ∷ []) }
-    ensures found { IfOk result (λ i. (i ≡ item) × (i < size (sheet_of sheet.now))) }
+    ensures found { ItemOf sheet.now item result }
 {
     let i = admission::in_sheet(sheet, item)?;
     // (By if and else: with then_some the case that is refused would stand nowhere in the text.)

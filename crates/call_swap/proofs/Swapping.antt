@@ -31,7 +31,7 @@ use Rattle.table.proofs.Tables.{decoded_holdable, holdable_well_formed}
 use Rattle.looking.specs.Pass.{Lent}
 use Rattle.admission.specs.Admission.{call_lent}
 use Rattle.admission.specs.Answers.{Did}
-use Rattle.admission.proofs.Admitting.{past_two, refused_did, accepted_did}
+use Rattle.admission.proofs.Admitting.{first_two, past_two, refused_did, accepted_did}
 use Rattle.posting.proofs.Posting.{posting_encoded, posting_lent, posting_bytes, posting_owes, posting_decoded}
 use Rattle.call_swap.specs.Results.{items_cause, Swapped, within, beyond, results_meaning, swap_results}
 use Rattle.call_swap.specs.declared.Results.{Results}
@@ -103,13 +103,6 @@ stored_value t t' i k v z q e f h =
     h ∙ ap₂ (λ j w. set_row width t j (encode_cell (post_cell (decode_cell (row width t j)) w))) q (e ∙ ap num (back z f))
 
 -- ---- the call
-
--- what the first two tests refuse, the call's tests refuse
-first_two : (a b : Bool) (ts : List Test) (k : ℕ) → k ≡ first_cause (test 11 a ∷ test 12 b ∷ []) → (k ≡ 0 → ⊥) → first_cause (test 11 a ∷ test 12 b ∷ ts) ≡ k
-unfolding first_cause
-first_two true b ts k e h = sym e
-first_two false true ts k e h = sym e
-first_two false false ts k e h = absurd (h e)
 
 module _ (s t x : List ℕ) (giver taker : ℕ) (q : ℤ) where
   abbrev rest : List Test

@@ -150,7 +150,7 @@ cut_sound S ordered E T sound =
     justified k low v m (due e) = due e
     justified k low v m (awaits e) = awaits (ap (λ r. r.flag) (result_below S ordered (cut S T) T (size S) (λ j l. cut_below S T j l) k (omega arith)) ∙ e)
 
-opened_holdable : (o : Opening) (S : Sheet) → Holdable S (opened o S)
+pub opened_holdable : (o : Opening) (S : Sheet) → Holdable S (opened o S)
 opened_holdable bare S = bare_holdable S
 opened_holdable full S = full_holdable S
 

@@ -27,6 +27,7 @@ use Rattle.circuit.proofs.Postings.{AllFit, postings_fit}
 use Rattle.table.specs.Record.{may_hold}
 use Rattle.table.specs.Bytes.{Holdable}
 use Rattle.table.proofs.Records.{holds-well_formed}
+use Rattle.table.proofs.Tables.{figure_may}
 
 abbrev Allowed : Sheet → ℕ → Cell → Type 0
 Allowed S j c = j < size S → may_hold (is_figure (item_at S j)) c ≡ true
@@ -37,15 +38,10 @@ unfolding all_well_formed
 all_formed w [] h = refl
 all_formed w (p ∷ ps) h = and_true _ _ (h p (inl refl)) (all_formed w ps (λ q l. h q (inr l)))
 
--- a figure may hold any well-formed value
-figure_holds : (f : Bool) (v : Value) (m : Mark) → f ≡ true → well_formed v ≡ true → may_hold f (held v m) ≡ true
-figure_holds true v m e h = h
-figure_holds false v m e h = cc
-
--- and be UNK
-figure_unk : (f b : Bool) → f ≡ true → may_hold f (unk b) ≡ true
-figure_unk true b e = refl
-figure_unk false b e = cc
+-- a refreshed item is a figure
+pub refreshed_figure : (f : Bool) (v : Value) → may_hold f (held v refresh) ≡ true → f ≡ true
+refreshed_figure true v e = refl
+refreshed_figure false v e = e
 
 -- a stored cell with another mark than refresh
 remark : (f : Bool) (v : Value) (m n : Mark) → entry_form (held v n) ≡ true → may_hold f (held v m) ≡ true → may_hold f (held v n) ≡ true
@@ -94,7 +90,7 @@ module _ (S : Sheet) (ordered : Ordered S) where
     where
       go : Filling S T j (U j) → may_hold (is_figure (item_at S j)) (U j) ≡ true
       go (stays e) = rw e (h j low)
-      go (fills f k e x) = rw x (figure_holds (is_figure (item_at S j)) _ _ k (view_formed T h j low))
+      go (fills f k e x) = rw x (figure_may (item_at S j) (held _ _) k (view_formed T h j low))
 
   pub look_holdable : (T : Table) (i : ℕ) → Holdable S T → Holdable S (look_up S T i).table
   look_holdable T i h = fill_holdable T _ (look_right S ordered T i).fill h
@@ -119,8 +115,8 @@ module _ (S : Sheet) (ordered : Ordered S) where
   drop_holdable T i k h = upd_holdable T i (drop_cell (T i)) (λ low. go (T i)) h
     where
       go : (c : Cell) → may_hold (is_figure (item_at S i)) (drop_cell c) ≡ true
-      go (unk f) = figure_unk _ _ k
-      go (held v m) = figure_unk _ _ k
+      go (unk f) = figure_may (item_at S i) (unk f) k refl
+      go (held v m) = figure_may (item_at S i) (unk _) k refl
 
   -- the season-close run stores a well-formed value
   pub closed_formed : (T : Table) (i : ℕ) → i < size S → Holdable S T → well_formed (closed_value S T i) ≡ true
@@ -164,14 +160,14 @@ module _ (S : Sheet) (ordered : Ordered S) where
     where
       go : i < size S → (b : Bool) → may_hold (is_figure (item_at S i)) (cond b (held v n) (held (work_out S T i).value notice)) ≡ true
       go low true =
-          figure_holds _ v n k (holds-well_formed (is_figure (item_at S i)) (held v m) (rw e at (h i low)))
-      go low false = figure_holds _ _ notice k (work_formed T i low h)
+          figure_may (item_at S i) (held v n) k (holds-well_formed (is_figure (item_at S i)) (held v m) (rw e at (h i low)))
+      go low false = figure_may (item_at S i) (held _ notice) k (work_formed T i low h)
 
   stored_told : (s : Spread) (T : Table) (c : ℕ) (v : Value) (m : Mark) → is_figure (item_at S c) ≡ true → T c ≡ held v m → Holdable S T → Holdable S (tell_stored s S T c v m)
   stored_told defer T c v unmarked k e h =
-      upd_holdable T c _ (λ low. figure_holds _ v refresh k (holds-well_formed (is_figure (item_at S c)) (held v unmarked) (rw e at (h c low)))) h
+      upd_holdable T c _ (λ low. figure_may (item_at S c) (held v refresh) k (holds-well_formed (is_figure (item_at S c)) (held v unmarked) (rw e at (h c low)))) h
   stored_told defer T c v refresh k e h =
-      upd_holdable T c _ (λ low. figure_holds _ v refresh k (holds-well_formed (is_figure (item_at S c)) (held v refresh) (rw e at (h c low)))) h
+      upd_holdable T c _ (λ low. figure_may (item_at S c) (held v refresh) k (holds-well_formed (is_figure (item_at S c)) (held v refresh) (rw e at (h c low)))) h
   stored_told defer T c v notice k e h = renewed_holdable T c v notice _ k e h
   stored_told renew T c v m k e h = renewed_holdable T c v m _ k e h
 
@@ -180,7 +176,7 @@ module _ (S : Sheet) (ordered : Ordered S) where
   tell_cell_holdable called T c k h = go called (T c) refl
     where
       go : (b : Bool) (x : Cell) → T c ≡ x → Holdable S (tell_cell b S T c x)
-      go true (unk f) e = upd_holdable T c _ (λ low. figure_unk _ _ k) h
+      go true (unk f) e = upd_holdable T c _ (λ low. figure_may (item_at S c) (unk true) k refl) h
       go false (unk f) e = h
       go b (held v m) e = stored_told (spread_of (item_at S c)) T c v m k e h
 
@@ -218,11 +214,6 @@ module _ (S : Sheet) (ordered : Ordered S) where
       go : (c : Cell) → may_hold (is_figure (item_at S i)) c ≡ true → may_hold (is_figure (item_at S i)) (clear_cell c) ≡ true
       go (unk f) e = unk_cleared (is_figure (item_at S i)) f false e
       go (held v m) e = remark (is_figure (item_at S i)) v m unmarked refl e
-
-  -- a refreshed item is a figure
-  refreshed_figure : (f : Bool) (v : Value) → may_hold f (held v refresh) ≡ true → f ≡ true
-  refreshed_figure true v e = refl
-  refreshed_figure false v e = e
 
   pub step_holdable : (T : Table) (i : ℕ) → i < size S → Holdable S T → Holdable S (step_item S T i)
   unfolding step_item

@@ -27,7 +27,7 @@ use Rattle.memo.specs.Memo.{Pass, Right}
 use Rattle.looking.specs.Pass.{Lent}
 use Rattle.telling.specs.Telling.{Moves, Renewable}
 use Rattle.stepping.specs.Stepping.{Ready, Steps, begun}
-use Rattle.office.proofs.Holdable.{clear_holdable}
+use Rattle.office.proofs.Holdable.{refreshed_figure, clear_holdable}
 use Rattle.looking.proofs.Looking.{lent_holdable}
 use Rattle.telling.proofs.Renewing.{remembered_below}
 
@@ -74,11 +74,6 @@ clear_steps {s} {t} {t₁} {memo₁} {generation} {n} {i} U low len moves t₂ e
 
     formed : Rattle.circuit.specs.Value.well_formed (value_in (clear_cell (decode_table t₁ i))) ≡ true
     formed = holds-well_formed (is_figure (item_at (sheet_of s) i)) (clear_cell (decode_table t₁ i)) may
-
--- a refreshed item is a figure
-refreshed_figure : (f : Bool) (v : Value) → may_hold f (held v refresh) ≡ true → f ≡ true
-refreshed_figure true v e = refl
-refreshed_figure false v e = e
 
 -- what the test for a refresh says of the mark
 mark_refresh : (m : Coded) → sameb the_type m Refresh ≡ true → mark_meaning m ≡ refresh

@@ -19,7 +19,7 @@ use Rattle.item.proofs.Located.{sheet_ordered}
 use Rattle.table.specs.Rows.{set_row}
 use Rattle.table.specs.Record.{width, encode_cell, may_hold}
 use Rattle.table.specs.Bytes.{decode_table}
-use Rattle.table.proofs.Tables.{decode_set_row, set_row_form, set_row-owed, owed_kept_then, holdable_well_formed}
+use Rattle.table.proofs.Tables.{figure_may, decode_set_row, set_row_form, set_row-owed, owed_kept_then, holdable_well_formed}
 use Rattle.memo.specs.Memo.{Found, Pass, note_at, remembered, Right, NoneFrom}
 use Rattle.looking.specs.Pass.{Lent, Leaves}
 use Rattle.telling.specs.Telling.{Moves, Renewable}
@@ -50,11 +50,6 @@ memo_store S ordered T c x m none_from memo =
       right = λ j f e. remember_store S ordered T c x j f.value f.flag (remembered_below m c j f none_from e) (memo.right j f e);
     }
 
--- a figure may hold a well-formed value
-figure_held : (f : Bool) (v : Value) (m : Mark) → f ≡ true → well_formed v ≡ true → may_hold f (held v m) ≡ true
-figure_held true v m e h = h
-figure_held false v m e h = let bad : ◌≡◌ {A = ℕ} 0 1 = cc in absurd (omega arith)
-
 module _ {s t : List ℕ} {memo : Pass} {i : ℕ} {v : Value} (lent : Lent s t) (figured : Renewable s t i v)
     (none_from : NoneFrom i memo) (m : Mark) (w : Found) (t₁ : List ℕ) (memo₁ : Pass) (len : length t₁ ≡ length t)
     (worked : (b : ℕ) → i ≤ b → Leaves s t memo b (work_out (sheet_of s) (decode_table t) i) w t₁ memo₁) where
@@ -73,7 +68,7 @@ module _ {s t : List ℕ} {memo : Pass} {i : ℕ} {v : Value} (lent : Lent s t) 
       record {
         table_is = ap decode_table e ∙ decode_set_row t₁ i (held u k) (omega (arith, lent_fits lent i figured.low)) formed ∙ ap (λ X. upd X i (held u k)) here.table_is;
         owed_kept = owed_kept_then t t₁ t₂ here.owed_kept (rw e (set_row-owed t₁ i (held u k)));
-        formed = rw e (set_row_form (sheet_of s) t₁ i (held u k) (len ∙ lent.length_is) here.formed figured.low (figure_held (is_figure (item_at (sheet_of s) i)) u k figured.figured formed));
+        formed = rw e (set_row_form (sheet_of s) t₁ i (held u k) (len ∙ lent.length_is) here.formed figured.low (figure_may (item_at (sheet_of s) i) (held u k) figured.figured formed));
         generation_is = here.generation_is;
         right = memo_store (sheet_of s) (sheet_ordered s) (work_out (sheet_of s) (decode_table t) i).table i (held u k) memo₁ (here.fresh none_from) here.right;
         fresh = here.fresh none_from;

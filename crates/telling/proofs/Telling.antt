@@ -17,7 +17,7 @@ use Rattle.table.specs.Record.{width, encode_cell, may_hold}
 use Rattle.table.specs.Bytes.{decode_table}
 use Rattle.table.specs.Meaning.{mark_meaning, cell_meaning}
 use Rattle.table.specs.declared.Cell.TheVariants.{Unk, Held}
-use Rattle.table.proofs.Tables.{decode_set_row, set_row_form, set_row-owed, owed_kept_refl, holdable_well_formed}
+use Rattle.table.proofs.Tables.{figure_may, decode_set_row, set_row_form, set_row-owed, owed_kept_refl, holdable_well_formed}
 use Rattle.value.specs.Meaning.{meaning}
 use Rattle.memo.specs.Memo.{Pass, Right, NoneFrom}
 use Rattle.looking.specs.Pass.{Lent}
@@ -40,11 +40,6 @@ tell_renews defer refresh S T c v e = let bad : ◌≡◌ {A = ℕ} 0 1 = cc in 
 tell_renews defer notice S T c v e = refl
 tell_renews renew m S T c v e = refl
 
--- a figure may be UNK, or hold a well-formed value
-figure_may : (f : Bool) (x : Cell) → f ≡ true → well_formed (value_in x) ≡ true → may_hold f x ≡ true
-figure_may true x e h = h
-figure_may false x e h = let bad : ◌≡◌ {A = ℕ} 0 1 = cc in absurd (omega arith)
-
 module _ {s t : List ℕ} {memo : Pass} {c : ℕ} (lent : Lent s t) (right : Right (sheet_of s) (decode_table t) memo) (none_from : NoneFrom c memo)
     (low : c < size (sheet_of s)) (figured : is_figure (item_at (sheet_of s) c) ≡ true) (called : Bool) where
   -- a cell that the figure may hold is stored
@@ -54,7 +49,7 @@ module _ {s t : List ℕ} {memo : Pass} {c : ℕ} (lent : Lent s t) (right : Rig
       record {
         table_is = ap decode_table e ∙ decode_set_row t c x (lent_fits lent c low) formed;
         owed_kept = rw e (set_row-owed t c x);
-        formed = rw e (set_row_form (sheet_of s) t c x lent.length_is lent.formed low (figure_may (is_figure (item_at (sheet_of s) c)) x figured formed));
+        formed = rw e (set_row_form (sheet_of s) t c x lent.length_is lent.formed low (figure_may (item_at (sheet_of s) c) x figured formed));
         generation_is = refl;
         right = memo_store (sheet_of s) (sheet_ordered s) (decode_table t) c x memo none_from right;
         fresh = none_from;

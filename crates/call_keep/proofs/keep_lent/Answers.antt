@@ -1,6 +1,5 @@
 -- `call_keep::keep_lent` meets its contract. Assumes nothing.
 use Rattle.cause.proofs.Exits.{exit}
-use Rattle.admission.proofs.Admitting.{settle_needs}
 use Rattle.call_keep.proofs.Keeping.{keep_item, keep_done}
 use Rattle.call_keep.proofs.keep_lent.Goals as goal
 
