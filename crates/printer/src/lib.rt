@@ -27,7 +27,7 @@ fn put_number(z: i64, scratch: &mut [u8]) -> usize
 }
 
 // Writes fixed bytes at the front.
-// (By a loop: with copy_from_slice the bytes of the marks would be read-only data of the archive, which holds none: tests/archive.)
+// (By a loop: with copy_from_slice the bytes of the marks would stand in the archive as constants, and it has none: tests/archive.)
 fn put_mark(mark: &[u8], scratch: &mut [u8]) -> usize
     requires { length mark.now ≤ length scratch.old }
     ensures { Front mark.now scratch.old result scratch.new }
