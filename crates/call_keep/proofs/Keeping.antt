@@ -1,7 +1,7 @@
 -- Keep and drop: their own tests; a figure is looked up, and stored; a drop stores a cell. Assumes nothing.
 use Prim.Native.Nat.{ℕ, ◌<◌}
 use mathlib.Core.Path.{◌≡◌, refl, sym, ap, ap₂, ◌∙◌}
-use mathlib.Core.Bool.{Bool, true, false}
+use mathlib.Core.Bool.{Bool, true}
 use mathlib.Core.List.{List, [], ◌∷◌}
 use lib.ListN.{length}
 use Rattle.std.specs.Prelude.{Ok, Err}
@@ -10,7 +10,7 @@ use Rattle.cause.specs.declared.Cause.{Cause}
 use Rattle.circuit.specs.Value.{Value, well_formed}
 use Rattle.circuit.specs.Sheet.{size, item_at, is_figure}
 use Rattle.circuit.specs.Table.{Cell, Mark, unk, held, upd, value_in, notice_if}
-use Rattle.circuit.specs.Machine.{look_up, store_result, keep_figure, keep_cell, drop_figure, drop_cell}
+use Rattle.circuit.specs.Machine.{look_up, keep_figure, keep_cell, drop_figure, drop_cell}
 use Rattle.circuit.specs.Call.{keep, drop}
 use Rattle.circuit.specs.Calls.{Test, test, first_cause, tests, effect, no_item}
 use Rattle.layout.specs.Opened.{sheet_of}

@@ -5,15 +5,15 @@ use mathlib.Core.Path.{◌≡◌, refl, sym, ap, ap₂, ◌∙◌}
 use mathlib.Core.Bool.{Bool, true, false}
 use mathlib.Core.List.{List}
 use lib.Dec.{eqb}
-use lib.ListN.{length, get_or, take}
+use lib.ListN.{length, take}
 use borrow.Author.Tests.{eqb-true, eqb-false}
-use Rattle.std.specs.Prelude.{Result, Ok, Err, IsErrAnd}
+use Rattle.std.specs.Prelude.{Result, Ok, IsErrAnd}
 use Rattle.cause.specs.Cause.{number_of}
 use Rattle.cause.specs.declared.Fault.{Fault}
 use Rattle.cause.proofs.Exits.{exit}
 use Rattle.circuit.specs.Sheet.{Sheet, Item, entry, figure, size, item_at, is_figure}
 use Rattle.circuit.specs.Call.{Opening, bare, full}
-use Rattle.circuit.specs.Table.{Table, Cell, bare_cell, opened}
+use Rattle.circuit.specs.Table.{Cell, bare_cell, opened}
 use Rattle.layout.specs.Layout.{index_width}
 use Rattle.layout.specs.Opened.{sheet_of, Located}
 use Rattle.layout.specs.Room.{Room}
@@ -22,7 +22,7 @@ use Rattle.item.proofs.Located.{size_room}
 use Rattle.item.proofs.Offsets.{located_index}
 use Rattle.table.specs.Rows.{row, set_row}
 use Rattle.table.specs.Record.{width, owed_place, encode_cell}
-use Rattle.table.specs.Bytes.{encode_table, decode_table, table_form, Holdable}
+use Rattle.table.specs.Bytes.{encode_table, decode_table, table_form}
 use Rattle.table.proofs.Rows.{row-set_row-other}
 use Rattle.table.proofs.Records.{length-encode_cell}
 use Rattle.table.proofs.Tables.{encode_table_ext, set_row_cell, cells_form, cells_decoded}

@@ -10,14 +10,14 @@ use lib.Dec.{ltb}
 use lib.ListN.{length}
 use borrow.Author.Tests.{ltb-true, ltb-false, ne_eqb}
 use Rattle.circuit.specs.Value.{Value, same, well_formed}
-use Rattle.circuit.specs.Sheet.{Sheet, item_at, is_figure, Ordered}
+use Rattle.circuit.specs.Sheet.{Sheet, item_at, Ordered}
 use Rattle.circuit.specs.Table.{Table, Cell, Mark, held, notice, upd, value_in}
 use Rattle.circuit.specs.Machine.{work_out, renewed}
 use Rattle.circuit.proofs.Memo.{remember_store}
 use Rattle.layout.specs.Opened.{sheet_of}
 use Rattle.item.proofs.Located.{sheet_ordered}
 use Rattle.table.specs.Rows.{set_row}
-use Rattle.table.specs.Record.{width, encode_cell, may_hold}
+use Rattle.table.specs.Record.{width, encode_cell}
 use Rattle.table.specs.Bytes.{decode_table}
 use Rattle.table.proofs.Tables.{figure_may, decode_set_row, set_row_form, set_row-owed, owed_kept_then, holdable_well_formed}
 use Rattle.memo.specs.Memo.{Found, Pass, note_at, remembered, Right, NoneFrom}

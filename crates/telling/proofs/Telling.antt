@@ -13,7 +13,7 @@ use Rattle.layout.specs.Opened.{sheet_of}
 use Rattle.item.specs.Item.{spread_meaning}
 use Rattle.item.proofs.Located.{sheet_ordered}
 use Rattle.table.specs.Rows.{set_row}
-use Rattle.table.specs.Record.{width, encode_cell, may_hold}
+use Rattle.table.specs.Record.{width, encode_cell}
 use Rattle.table.specs.Bytes.{decode_table}
 use Rattle.table.specs.Meaning.{mark_meaning, cell_meaning}
 use Rattle.table.specs.declared.Cell.TheVariants.{Unk, Held}

@@ -1,5 +1,5 @@
 -- `call_close::work_out` meets its contract. Assumes nothing.
-use mathlib.Core.Path.{refl, ap, ◌∙◌}
+use mathlib.Core.Path.{refl}
 use native.Mathlib.Omega.{arith}
 use Rattle.circuit.specs.Rules.{max_parents}
 use Rattle.call_close.proofs.Gathering.{gathering_start, gathering_fits, gathering_next, gathering_formed, gathering_done}

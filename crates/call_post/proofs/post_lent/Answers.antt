@@ -1,5 +1,5 @@
 -- `call_post::post_lent` meets its contract. Assumes nothing.
-use Rattle.std.proofs.Common.{rules, sym, ap, ◌∙◌}
+use Rattle.std.proofs.Common.{rules, ap, ◌∙◌}
 use Rattle.field.proofs.Cutting.{slice_bytes}
 use Rattle.value.proofs.Signed.{back}
 use Rattle.cause.proofs.Exits.{exit}
