@@ -25,7 +25,8 @@ pub struct Answer {
     pub offset: u64,
 }
 
-// (call_ask's Reading has number and offset by the same lines: it is C's struct of four, and holds no Answer.)
+// (call_ask's Reading has number and offset by the same lines: it is C's struct of four, and holds no Answer. Offsets and sizes are cast:
+// there is no From<usize> for u64.)
 impl From<Result<(), Fault>> for Answer {
     ghost use Rattle.std.specs.Prelude.{◌≡◌};
     ghost use Rattle.admission.specs.Answers.{answer_of};

@@ -21,7 +21,8 @@ use item::Sheet;
 use memo::Memo;
 use value::Value;
 
-// What an ask gives: an answer, and the kind and the number of the item's value, 0 and 0 where it is refused. Numbers, since C reads it.
+// What an ask gives: an answer, and the kind and the number of the item's value, 0 and 0 where it is refused. Numbers, since C reads it. (The offset
+// is cast, and the generation below: there is no From<usize> for u64.)
 #[repr(C)]
 #[derive(Clone, Copy, PartialEq, Eq, Debug)]
 pub struct Reading {

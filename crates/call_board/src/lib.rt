@@ -34,7 +34,7 @@ const RESULT_WIDTH: usize = 9;
 
 const MOST_LISTED: usize = 64;
 
-// Whether the list is of odd length or too long, or the results are not as many (17).
+// Whether the list is of odd length or too long, or the results are not as many (17). (By the lengths: nothing else is judged here.)
 #[tactic(auto, unfolding(circuit::specs::Board::lists_off))]
 fn lists_wrong(items_len: usize, results_len: usize) -> bool
     ensures { result ≡ lists_off items_len results_len }
@@ -83,7 +83,8 @@ fn show_each(
     }
 }
 
-// Catches up, and shows the items in the generation after those of the steps, which call_ask begins so too (catching says why).
+// Catches up, and shows the items in the generation after those of the steps, which call_ask begins so too (catching says why). (The cast:
+// there is no From<usize> for u64.)
 fn show(
     sheet: &Sheet<'_>,
     table: &mut [u8],

@@ -1,4 +1,5 @@
--- Working a figure out in the season-close run: the loop over its parents gathers the values in their records. Assumes nothing.
+-- Working a figure out in the season-close run: the loop over its parents gathers the values in their records. (Apart from looking's
+-- Gathering, which gathers by look-ups that change the table; FigureAt serves both.) Assumes nothing.
 use Prim.Native.Nat.{ℕ, ◌+◌, ◌*◌, ◌<◌, ◌≤◌}
 use mathlib.Core.Path.{◌≡◌, refl, sym, ap, ◌∙◌}
 use mathlib.Core.Bool.{true}

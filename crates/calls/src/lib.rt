@@ -1,5 +1,5 @@
 // The openings and the calls, each with the scratch arrays that its sheet asks for: for 128 items, 1,024 or 4,096, by the item count that
-// the first field says. A sheet that says more is refused with the largest.
+// the first field says. A sheet that says more is refused with the largest. Sheet, index and table go one by one, as C lends them.
 #![tactic(auto)]
 
 ghost use Rattle.std.specs.Prelude.{◌≡◌, ◌≤◌};

@@ -15,7 +15,7 @@ use memo::Memo;
 // Steps until no item is marked, from the lowest on. Telling goes by the owed bytes that the table has at the start, which stay true.
 // What is in the memo, the child lists and the array afterwards is left free, but for the generations of the memo: each step begins one.
 // Ask and board begin the one in which they look up themselves, with one line each: at the end here it would come after a branch, and
-// so want a second function that is lent the same.
+// so want a second function that is lent the same. (Child lists and owed bytes go as two: the lists are built by need, and settling takes the bytes alone.)
 pub fn catch_up(
     sheet: &Sheet<'_>,
     table: &mut [u8],

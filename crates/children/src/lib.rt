@@ -102,6 +102,7 @@ fn head_places(kin: &mut [Kin], item: &Item<'_>, c: usize)
     ensures { lists_of kin.new ≡ lists (head_places (heads_of kin.old) (max_parents * c) (parents_of item.now) (length (parents_of item.now))) (links_of kin.old) }
 {
     for k in 0..item.parent_count() {
+        // It fits, as the clause says; try_from would have a way to fail that cannot come.
         kin[item.parent(k)].child = (MAX_PARENTS * c + k) as u16;
     }
 }
@@ -125,12 +126,13 @@ impl<'a> Children<'a> {
         Children { kin, built: false }
     }
 
-    // Builds the lists where they are needed and are not built yet. The need is handed in, and not tested around the two calls: one clause
-    // then says for both, built or not, what holds afterwards.
+    // Builds the lists where they are needed and are not built yet. The need is handed in, and not tested around the two calls: the clauses
+    // then say for both, needed or not, what holds afterwards.
     pub fn link_once(&mut self, sheet: &Sheet<'_>, needed: bool)
         requires kept { Kept (sheet_of sheet.now) self.old }
         ensures kept { Kept (sheet_of sheet.now) self.new }
         ensures there { needed ≡ true → self.new.built ≡ true }
+        ensures unneeded { needed ≡ false → self.new ≡ self.old }
         ensures linked { needed ≡ true → self.old.built ≡ false → self.new.lists ≡ link_all (sheet_of sheet.now) self.old.lists }
     {
         if needed && !self.built {

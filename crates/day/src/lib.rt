@@ -82,6 +82,7 @@ fn play(sheet: &[u8], index: &[u8], table: &mut [u8], log: &[u8], out: &mut [u8]
                 at = placed.next;
             }
             Err(cause) => {
+                // The offset is cast, here and below: there is no From<usize> for u64.
                 return day_line::last_line(out, count, &day_line::DAY, cause.number(), at as u64);
             }
         }

@@ -8,7 +8,7 @@ ghost use Rattle.day_order.specs.Orders.{order_in, Reads};
 use cause::Cause;
 use field::NoField;
 
-// The tags of the fields.
+// The tags of the fields. (Numbers, and no enum: any byte may stand there, and is judged.)
 const POST_TAG: u8 = 16;
 
 const ASK_TAG: u8 = 17;

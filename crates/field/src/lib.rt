@@ -61,7 +61,7 @@ pub fn cut_at(s: &[u8], at: usize) -> Result<Field, NoField>
     })
 }
 
-// Bytes and an offset in them: a thin reader over the function (docs/DECISIONS.md, "Fields and sheets").
+// Bytes and an offset in them: a thin reader over cut_at (docs/DECISIONS.md, "Fields and sheets").
 #[derive(Clone, Copy, PartialEq, Eq, Debug)]
 pub struct Reader<'a> {
     pub src: &'a [u8],

@@ -1,5 +1,5 @@
 // The tags, places and limits of the layout, each once. The contracts hold the limits to those of the definitions.
-// An edition, a keep and a spread are numbers here, and no enums: what is judged may be any number, and each contract holds for all of them
+// A tag, an edition, a keep and a spread are numbers here, and no enums: what is judged may be any number, and each contract holds for all of them
 // (item gives the spread of an item as an enum).
 #![tactic(auto)]
 

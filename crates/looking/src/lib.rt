@@ -1,6 +1,7 @@
 // Looking up and working out. The two call each other up the circuit: parents have lower numbers.
 // Sheet and table are lent apart, with the fact Lent. One struct of both with an invariant would borrow the table, and each contract
-// would still have to say which bytes the caller gets back, as these are promised.
+// would still have to say which bytes the caller gets back, as these are promised. Right, of the memo and the table's cells, goes beside Lent: a
+// record of the two would be taken apart in each function. That an item is a figure is a fact of its number, since callers hold numbers.
 #![tactic(auto)]
 
 ghost use Rattle.std.specs.Prelude.{◌≡◌, true, false, ℕ, ◌+◌, ◌*◌, ◌<◌, ◌≤◌, length};

@@ -44,6 +44,7 @@ impl Note {
     {
         let code = self.tag % 8;
         Seen {
+            // A code is below 8, so the cast loses nothing.
             value: Value::of_parts((code / 2) as u8, self.number),
             flag: code % 2 == 1,
         }

@@ -1,6 +1,6 @@
 // The owed bytes of the work table. Which items are owed comes by one pass over the items and their parents, highest first, into a lent array
 // with a byte for each item; the bytes of a table are tested by such an array, and written from one. What the array holds before counts
-// for nothing, and what it holds afterwards is left free.
+// for nothing, and what it holds afterwards is left free. (Bytes, 0 or 1, and no bools: they are the table's own.)
 #![tactic(auto)]
 
 ghost use Rattle.std.specs.Prelude.{◌≡◌, true, ℕ, ◌+◌, ◌*◌, ◌<◌, ◌≤◌, eqb, length, get_or, All};

@@ -72,7 +72,8 @@ pub fn print(kind: u64, number: i64, scratch: &mut [u8]) -> &mut [u8]
     &mut scratch[..n]
 }
 
-// print_into with its answer in one number, the C form of it: the part's length, or the number of what turned it back, negated.
+// print_into with its answer in one number, the C form of it: the part's length, or the number of what turned it back, negated. (Both are small:
+// the casts lose nothing.)
 pub fn print_code(kind: u64, number: i64, scratch: &mut [u8]) -> i64
     ensures { PrintsCode kind number scratch.old result scratch.new }
 {

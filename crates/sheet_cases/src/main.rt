@@ -79,6 +79,7 @@ fn run(rt: &HostRuntime, cases: &[u8]) {
     let mut offsets = [0usize; limits::ITEM_LIMIT];
     let mut levels = [0u8; limits::ITEM_LIMIT];
     let mut at = 0;
+    // Where the next case stands is what the one before gives.
     while let Some(next) = run_case(rt, cases, at, &mut offsets, &mut levels) {
         at = next;
     }

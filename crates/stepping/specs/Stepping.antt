@@ -18,7 +18,7 @@ pub record Ready (s : List ℕ) (memo : Pass) : Type 0 where
 abbrev pub begun : Pass → ℕ → Pass
 begun memo generation = pass memo.notes generation
 
--- What the steps of a call are lent, once its own tests have passed: a table in form whose owed bytes are true, an array that those fit
+-- What the steps of a call are lent, once what is lent is admitted: a table in form whose owed bytes are true, an array that those fit
 -- into, a memo at the start of a generation, and child lists that are built already or empty.
 pub record Prepared (s t owed : List ℕ) (memo : Pass) (children : Family) : Type 0 where
   pub lent : Lent s t

@@ -121,6 +121,7 @@ fn step_twice(
     requires marked { is_marked (decode_table table.old i) ≡ true }
     ensures { Steps sheet.now table.old (2 * i + 2) (step_twice_by (says_owed owed.now) (sheet_of sheet.now) (decode_table table.old) i) table.new memo.new }
 {
+    // A cast: there is no From<usize> for u64.
     let generation = (2 * i + 1) as u64;
     memo.begin(generation);
     step_item(sheet, table, memo, children, owed, i);
