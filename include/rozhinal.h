@@ -45,9 +45,9 @@
  * measures them:
  *
  *   items            ask, board      step      keep     close   post, swap   drop   openings
- *   up to 128            36,048    35,808    31,296     1,881        1,673  1,657      1,497
- *   up to 1,024          88,928    88,672    53,712     9,945        9,721  9,705      9,545
- *   up to 4,096         270,176   269,920   130,512    37,593       37,369 37,353     37,193
+ *   up to 128            36,048    35,808    31,296     1,929        1,705  1,673      1,513
+ *   up to 1,024          88,928    88,672    53,712     9,993        9,753  9,721      9,561
+ *   up to 4,096         270,176   269,920   130,512    37,641       37,401 37,369     37,209
  *
  * Backtraces end inside a call: the archive has no unwind tables and keeps no frame pointers. There
  * a debugger and a profiler name the function, backtrace() gives its address, and none its callers;
